@@ -1,0 +1,3 @@
+pub mod Big
+pub mod Varint
+pub mod Writing

@@ -1,0 +1,10 @@
+// The fields of flag bytes: varints and big-endian numbers, read and written at a place of a lent slice.
+mod big;
+mod varint;
+
+pub use big::be16_at;
+pub use big::put_be16;
+pub use varint::varint_len;
+pub use varint::Judged;
+pub use varint::Reading;
+pub use varint::Varint;

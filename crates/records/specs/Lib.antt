@@ -1,0 +1,5 @@
+pub mod Refusals
+pub mod Tables
+pub mod Unions
+pub mod Flags
+pub mod Answers

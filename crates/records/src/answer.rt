@@ -1,0 +1,65 @@
+// What calls answer. An enum cannot hold a head, whose owner is an array, so the head stands beside the outcome.
+ghost use mathlib.Core.Path.{_≡_};
+ghost use Rattle.records.specs.Flags.{noHead};
+use crate::head::Head;
+use crate::head::Kind;
+use crate::refusal::Refusal;
+
+// No flags, flags, or a refusal.
+pub enum Outcome {
+    Absent,
+    Present,
+    Refused(Refusal),
+}
+
+// An outcome with the flags' head, which is all zeros where there are none.
+pub struct Answered {
+    pub outcome: Outcome,
+    pub head: Head,
+}
+
+// A number, or a refusal.
+pub enum Counted {
+    Count(usize),
+    Refused(Refusal),
+}
+
+fn no_head() -> Head
+    ensures { λ r. ⌜ r ≡ noHead ⌝ }
+{
+    Head {
+        kind: Kind::SingleEpoch,
+        base: 0,
+        owner: [0u8; 32],
+        records: 0,
+    }
+}
+
+pub fn absent() -> Answered
+    ensures { λ r. ⌜ r ≡ record { outcome = Outcome.Absent; head = noHead } ⌝ }
+{
+    let head = no_head();
+    Answered {
+        outcome: Outcome::Absent,
+        head,
+    }
+}
+
+pub fn refused(refusal: Refusal) -> Answered
+    ensures { λ r. ⌜ r ≡ record { outcome = Outcome.Refused refusal; head = noHead } ⌝ }
+{
+    let head = no_head();
+    Answered {
+        outcome: Outcome::Refused(refusal),
+        head,
+    }
+}
+
+pub fn present(head: Head) -> Answered
+    ensures { λ r. ⌜ r ≡ record { outcome = Outcome.Present; head = head } ⌝ }
+{
+    Answered {
+        outcome: Outcome::Present,
+        head,
+    }
+}

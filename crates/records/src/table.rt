@@ -1,0 +1,207 @@
+// The two tables of records: place i of the one holds an epoch, place i of the other its count.
+ghost use mathlib.Core.Path.{_≡_};
+ghost use mathlib.Core.Bool.{true};
+ghost use Prim.Native.Nat.{_+_, _≤_, _<_};
+ghost use lib.ListN.{length, take, drop};
+ghost use Rattle.records.specs.Tables.{recordsOf, ascending, rising, placeOf, union, without, over, Table, Placed};
+ghost use Rattle.records.specs.Unions.{Within, Stepped};
+ghost use Rattle.records.specs.Flags.{agrees, proper};
+use crate::head::Head;
+use crate::head::Kind;
+
+// Whether the epochs ascend strictly and are all above the base. No early exit, so that the loop becomes vector code.
+pub fn ascend(base: u16, epochs: &[u16]) -> bool
+    ensures { λ r. ⌜ r ≡ ascending base (now (epochs .entry)) ⌝ }
+{
+    let mut good = true;
+    let mut prev = base;
+    let mut i: usize = 0;
+    while i < epochs.len() {
+        let epoch = epochs[i];
+        good = good & (prev < epoch);
+        prev = epoch;
+        i += 1;
+    }
+    good
+}
+
+// Whether a kind goes with a number of records.
+fn agree(kind: Kind, records: usize) -> bool
+    ensures { λ r. ⌜ r ≡ agrees kind records ⌝ }
+{
+    if kind.is_multi() {
+        return 1 <= records;
+    }
+    records == 0
+}
+
+// Whether a head and its tables are proper flags.
+pub fn is_proper(head: Head, epochs: &[u16], counts: &[u32]) -> bool
+    ensures { λ r. ⌜ r ≡ proper head (now (epochs .entry)) (now (counts .entry)) ⌝ }
+{
+    let kind = head.kind;
+    let n = head.records;
+    if agree(kind, n) {
+        if epochs.len() < n {
+            return false;
+        }
+        if counts.len() < n {
+            return false;
+        }
+        return ascend(head.base, &epochs[..n]);
+    }
+    false
+}
+
+// The place of an epoch: where its record stands, or where it would stand.
+pub fn find(epochs: &[u16], epoch: u16) -> usize
+    requires { ⌜ rising (now epochs) ≡ true ⌝ }
+    ensures { λ r. ⌜ r ≡ placeOf epoch (now (epochs .entry)) ⌝ }
+{
+    let mut i: usize = 0;
+    while i < epochs.len() {
+        if epoch <= epochs[i] {
+            return i;
+        }
+        i += 1;
+    }
+    i
+}
+
+// The next record of a union, and the places behind it in the two tables.
+pub struct Next {
+    pub epoch: u16,
+    pub count: u32,
+    pub i: usize,
+    pub j: usize,
+}
+
+// The next record of the union of what stands from i on in ours and from j on in theirs.
+fn next_record(
+    our_epochs: &[u16],
+    our_counts: &[u32],
+    i: usize,
+    their_epochs: &[u16],
+    their_counts: &[u32],
+    j: usize,
+) -> Next
+    requires { ⌜ Table (now «our_epochs») (now «our_counts») ⌝ }
+    requires { ⌜ Table (now «their_epochs») (now «their_counts») ⌝ }
+    requires { ⌜ Within (recordsOf (now «our_epochs») (now «our_counts»)) (recordsOf (now «their_epochs») (now «their_counts»)) i j ⌝ }
+    ensures { λ r. ⌜ Stepped (recordsOf (now («our_epochs» .entry)) (now («our_counts» .entry))) (recordsOf (now («their_epochs» .entry)) (now («their_counts» .entry))) i j r ⌝ }
+{
+    if their_epochs.len() <= j {
+        return Next {
+            epoch: our_epochs[i],
+            count: our_counts[i],
+            i: i + 1,
+            j,
+        };
+    }
+    let theirs = their_epochs[j];
+    if our_epochs.len() <= i {
+        return Next {
+            epoch: theirs,
+            count: their_counts[j],
+            i,
+            j: j + 1,
+        };
+    }
+    let ours = our_epochs[i];
+    if ours < theirs {
+        return Next {
+            epoch: ours,
+            count: our_counts[i],
+            i: i + 1,
+            j,
+        };
+    }
+    if ours == theirs {
+        return Next {
+            epoch: theirs,
+            count: their_counts[j],
+            i: i + 1,
+            j: j + 1,
+        };
+    }
+    Next {
+        epoch: theirs,
+        count: their_counts[j],
+        i,
+        j: j + 1,
+    }
+}
+
+// The number of records of the union of what stands from i on in ours and from j on in theirs.
+pub fn union_len(
+    our_epochs: &[u16],
+    our_counts: &[u32],
+    i: usize,
+    their_epochs: &[u16],
+    their_counts: &[u32],
+    j: usize,
+) -> usize
+    requires { ⌜ Table (now «our_epochs») (now «our_counts») ⌝ }
+    requires { ⌜ Table (now «their_epochs») (now «their_counts») ⌝ }
+    requires { ⌜ (i ≤ length (now «our_epochs»)) × (j ≤ length (now «their_epochs»)) ⌝ }
+    ensures { λ r. ⌜ r ≡ length (union (drop i (recordsOf (now («our_epochs» .entry)) (now («our_counts» .entry)))) (drop j (recordsOf (now («their_epochs» .entry)) (now («their_counts» .entry))))) ⌝ }
+{
+    let end = our_epochs.len() + their_epochs.len();
+    let mut a = i;
+    let mut b = j;
+    let mut n: usize = 0;
+    while a + b < end {
+        let next = next_record(our_epochs, our_counts, a, their_epochs, their_counts, b);
+        a = next.i;
+        b = next.j;
+        n += 1;
+    }
+    n
+}
+
+// Puts that union into the two tables lent for it, from the place `at` on; answers the place behind it.
+pub fn union_into(
+    our_epochs: &[u16],
+    our_counts: &[u32],
+    i: usize,
+    their_epochs: &[u16],
+    their_counts: &[u32],
+    j: usize,
+    epochs: &mut [u16],
+    counts: &mut [u32],
+    at: usize,
+) -> usize
+    requires { ⌜ Table (now «our_epochs») (now «our_counts») ⌝ }
+    requires { ⌜ Table (now «their_epochs») (now «their_counts») ⌝ }
+    requires { ⌜ (i ≤ length (now «our_epochs»)) × (j ≤ length (now «their_epochs»)) ⌝ }
+    requires { ⌜ at + length (union (drop i (recordsOf (now «our_epochs») (now «our_counts»))) (drop j (recordsOf (now «their_epochs») (now «their_counts»)))) ≤ length (now epochs) ⌝ }
+    requires { ⌜ at + length (union (drop i (recordsOf (now «our_epochs») (now «our_counts»))) (drop j (recordsOf (now «their_epochs») (now «their_counts»)))) ≤ length (now counts) ⌝ }
+    ensures { λ r. ⌜ Placed (union (drop i (recordsOf (now («our_epochs» .entry)) (now («our_counts» .entry)))) (drop j (recordsOf (now («their_epochs» .entry)) (now («their_counts» .entry))))) at r (now (epochs .entry)) (now (counts .entry)) (now (epochs .exit)) (now (counts .exit)) ⌝ }
+{
+    let end = our_epochs.len() + their_epochs.len();
+    let mut a = i;
+    let mut b = j;
+    let mut k = at;
+    while a + b < end {
+        let next = next_record(our_epochs, our_counts, a, their_epochs, their_counts, b);
+        epochs[k] = next.epoch;
+        counts[k] = next.count;
+        a = next.i;
+        b = next.j;
+        k += 1;
+    }
+    k
+}
+
+// Drops the record at a place of the first n: those behind it move down, and from the last place on all stays as it was.
+pub fn drop_record(epochs: &mut [u16], counts: &mut [u32], n: usize, at: usize)
+    requires { ⌜ (at < n) × ((n ≤ length (now epochs)) × (n ≤ length (now counts))) ⌝ }
+    ensures { λ _. ⌜ (now (epochs .exit) ≡ over (without at (take n (now (epochs .entry)))) (now (epochs .entry))) × (now (counts .exit) ≡ over (without at (take n (now (counts .entry)))) (now (counts .entry))) ⌝ }
+{
+    let mut i = at + 1;
+    while i < n {
+        epochs[i - 1] = epochs[i];
+        counts[i - 1] = counts[i];
+        i += 1;
+    }
+}
