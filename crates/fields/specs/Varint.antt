@@ -2,6 +2,7 @@
 -- Assumes nothing.
 use Prim.Native.Nat.{ℕ, zero, suc, _+_, _*_, _/_, _%_}
 use mathlib.Core.Bool.{Bool, true, false, cond, _&&_}
+use mathlib.Core.Path.{_≡_}
 use mathlib.Core.List.{List, [], _∷_}
 use lib.Dec.{ltb, leb, eqb}
 use lib.ListN.{length, take, drop}
@@ -67,3 +68,11 @@ abbrev pub isWhole : Found → Bool
 isWhole incomplete = false
 isWhole notCanonical = false
 isWhole (whole v used) = true
+
+-- the last byte of two to five: a varint is longer than minimal exactly where it is 0
+abbrev pub endAt : ℕ → ℕ → ℕ → Judged
+endAt last at next = cond (eqb last 0) (NotCanonical at) (Ends next)
+
+-- k bytes with the top bit set are passed from the place at on
+abbrev pub Passed : List ℕ → ℕ → ℕ → Type 0
+Passed xs at k = high (drop at xs) ≡ k + high (drop (at + k) xs)

@@ -3,7 +3,7 @@ ghost use mathlib.Core.Path.{_≡_};
 ghost use mathlib.Core.Bool.{true};
 ghost use Prim.Native.Nat.{_+_, _≤_};
 ghost use lib.ListN.{length, drop};
-ghost use Rattle.fields.specs.Varint.{varint, found, isWhole, judgedAt, readAt, Stands};
+ghost use Rattle.fields.specs.Varint.{varint, found, isWhole, judgedAt, readAt, endAt, Passed};
 ghost use Rattle.fields.specs.Writing.{Put};
 
 // The length of a varint, by the number of significant bits 0 to 32 of what it says.
@@ -71,9 +71,19 @@ pub fn put_varint(out: &mut [u8], at: usize, count: u32) -> usize
     at + 5
 }
 
-// Judges a varint of more than five bytes: it is never canonical, and incomplete where it does not end in ten.
+// The end of a varint of two to five bytes, whose last byte is given: longer than minimal where that is 0.
+fn end_at(last: u8, at: usize, next: usize) -> Judged
+    ensures { λ r. ⌜ r ≡ endAt last at next ⌝ }
+{
+    if last == 0 {
+        return Judged::NotCanonical(at);
+    }
+    Judged::Ends(next)
+}
+
+// Judges a varint of more than five bytes: it is not canonical, or incomplete where it does not end within ten.
 fn judge_long(src: &[u8], at: usize) -> Judged
-    requires { ⌜ LongAt (now src) at ⌝ }
+    requires { ⌜ Passed (now src) at 5 × (at + 5 ≤ length (now src)) ⌝ }
     ensures { λ r. ⌜ r ≡ judgedAt at (found (drop at (now (src .entry)))) ⌝ }
 {
     let mut k: usize = 5;
@@ -90,8 +100,7 @@ fn judge_long(src: &[u8], at: usize) -> Judged
     Judged::Incomplete(at)
 }
 
-// Judges the varint at `at`. A varint is minimal where its last byte is not 0, or it is that byte alone; five bytes hold
-// 32 bits where the fifth is below 16.
+// Judges the varint at `at`. Unrolled, and without what it says: five bytes hold 32 bits where the fifth is below 16.
 pub fn judge_varint(src: &[u8], at: usize) -> Judged
     ensures { λ r. ⌜ r ≡ judgedAt at (found (drop at (now (src .entry)))) ⌝ }
 {
@@ -103,5 +112,96 @@ pub fn judge_varint(src: &[u8], at: usize) -> Judged
         return Judged::Ends(at + 1);
     }
     let left = n - at;
-    ..
+    if left < 2 {
+        return Judged::Incomplete(at);
+    }
+    let second = src[at + 1];
+    if second < 128 {
+        return end_at(second, at, at + 2);
+    }
+    if left < 3 {
+        return Judged::Incomplete(at);
+    }
+    let third = src[at + 2];
+    if third < 128 {
+        return end_at(third, at, at + 3);
+    }
+    if left < 4 {
+        return Judged::Incomplete(at);
+    }
+    let fourth = src[at + 3];
+    if fourth < 128 {
+        return end_at(fourth, at, at + 4);
+    }
+    if left < 5 {
+        return Judged::Incomplete(at);
+    }
+    let fifth = src[at + 4];
+    if fifth < 16 {
+        return end_at(fifth, at, at + 5);
+    }
+    if fifth < 128 {
+        return Judged::NotCanonical(at);
+    }
+    judge_long(src, at)
+}
+
+fn wide(byte: u8) -> u32
+    ensures { λ r. ⌜ r ≡ byte ⌝ }
+{
+    byte as u32
+}
+
+// What the varint at `at` says, where judging found a whole one.
+pub fn varint_at(src: &[u8], at: usize) -> Varint
+    requires { ⌜ isWhole (found (drop at (now src))) ≡ true ⌝ }
+    ensures { λ r. ⌜ Reading.Whole r ≡ readAt at (found (drop at (now (src .entry)))) ⌝ }
+{
+    let first = src[at];
+    if first < 128 {
+        return Varint {
+            count: wide(first),
+            next: at + 1,
+        };
+    }
+    let second = src[at + 1];
+    let two = wide(first % 128) + wide(second % 128) * 128;
+    if second < 128 {
+        return Varint {
+            count: two,
+            next: at + 2,
+        };
+    }
+    let third = src[at + 2];
+    let three = two + wide(third % 128) * 16384;
+    if third < 128 {
+        return Varint {
+            count: three,
+            next: at + 3,
+        };
+    }
+    let fourth = src[at + 3];
+    let four = three + wide(fourth % 128) * 2097152;
+    if fourth < 128 {
+        return Varint {
+            count: four,
+            next: at + 4,
+        };
+    }
+    let fifth = src[at + 4];
+    Varint {
+        count: four + wide(fifth % 16) * 268435456,
+        next: at + 5,
+    }
+}
+
+// Reads the varint at `at`.
+pub fn read_varint(src: &[u8], at: usize) -> Reading
+    ensures { λ r. ⌜ r ≡ readAt at (found (drop at (now (src .entry)))) ⌝ }
+{
+    match judge_varint(src, at) {
+        Judged::Incomplete(place) => Reading::Incomplete(place),
+        Judged::NotCanonical(place) => Reading::NotCanonical(place),
+        Judged::Ends(_) => Reading::Whole(varint_at(src, at)),
+    }
 }

@@ -1,0 +1,76 @@
+-- The minimal varint of a number: its two equations, and its length.
+-- Assumes nothing.
+use Prim.Native.Nat.{ℕ, zero, suc, _+_, _-_, _*_, _/_, _%_, _^_, _≤_, _<_}
+use native.Mathlib.Nat.{le-refl}
+use native.Mathlib.Decide.{decLt}
+use mathlib.Core.Path.{_≡_, refl, ap, sym, _∙_}
+use mathlib.Core.Bool.{true, false}
+use mathlib.Core.List.{List, [], _∷_}
+use native.Mathlib.Omega.{arith}
+use borrow.Author.Tests.{lt-ltb, le-ltb}
+use lib.ListN.{length}
+use Rattle.fields.specs.Varint.{largest, groups, varint}
+
+groups-last : (f n : ℕ) → n < 128 → groups f n ≡ n ∷ []
+unfolding groups
+groups-last zero n h = refl
+groups-last (suc f) n h = rw (lt-ltb n 128 h, groups)
+
+groups-more : (f n : ℕ) → 128 ≤ n → groups (suc f) n ≡ (n % 128 + 128) ∷ groups f (n / 128)
+unfolding groups
+groups-more f n h = rw (le-ltb n 128 h, groups)
+
+-- any bound that is large enough gives the same groups
+groups-same : (f g n : ℕ) → n ≤ f → n ≤ g → groups f n ≡ groups g n
+groups-same zero g n hf hg = groups-last zero n (omega arith) ∙ sym (groups-last g n (omega arith))
+groups-same (suc f) zero n hf hg = groups-last (suc f) n (omega arith) ∙ sym (groups-last zero n (omega arith))
+groups-same (suc f) (suc g) n hf hg =
+    elim (decLt n 128) [
+      | yes h ↦ groups-last (suc f) n h ∙ sym (groups-last (suc g) n h)
+      | no h ↦
+          groups-more f n (omega arith)
+          ∙ ap (λ (r : List ℕ). (n % 128 + 128) ∷ r) (groups-same f g (n / 128) (omega arith) (omega arith))
+          ∙ sym (groups-more g n (omega arith))
+    ]
+
+pub varint-last : (n : ℕ) → n < 128 → varint n ≡ n ∷ []
+unfolding varint
+varint-last n h = groups-last n n h
+
+pub varint-more : (n : ℕ) → 128 ≤ n → varint n ≡ (n % 128 + 128) ∷ varint (n / 128)
+unfolding varint
+varint-more n h =
+    groups-same n (suc n) n (omega arith) (omega arith)
+    ∙ groups-more n n h
+    ∙ ap (λ (r : List ℕ). (n % 128 + 128) ∷ r) (groups-same n (n / 128) (n / 128) (omega arith) (omega arith))
+
+-- induction group by group
+pub by-groups {ℓ} : (P : ℕ → Type ℓ) → ((n : ℕ) → n < 128 → P n) → ((n : ℕ) → 128 ≤ n → P (n / 128) → P n) → (n : ℕ) → P n
+by-groups P last more n = go n n (le-refl n)
+  where
+    go : (f m : ℕ) → m ≤ f → P m
+    go zero m h = last m (omega arith)
+    go (suc f) m h = elim (decLt m 128) [ yes k ↦ last m k | no k ↦ more m (omega arith) (go f (m / 128) (omega arith)) ]
+
+-- ---- its length
+
+pub length-last : (n : ℕ) → n < 128 → length (varint n) ≡ 1
+length-last n h = ap length (varint-last n h)
+
+pub length-more : (n : ℕ) → 128 ≤ n → length (varint n) ≡ suc (length (varint (n / 128)))
+length-more n h = ap length (varint-more n h)
+
+pub length-pos : (n : ℕ) → 1 ≤ length (varint n)
+length-pos = by-groups (λ (n : ℕ). 1 ≤ length (varint n)) (λ n h. omega (arith, length-last n h)) (λ n h ih. omega (arith, length-more n h))
+
+-- a larger number has no shorter varint
+pub length-mono : (a b : ℕ) → a ≤ b → length (varint a) ≤ length (varint b)
+length-mono =
+    by-groups (λ (a : ℕ). (b : ℕ) → a ≤ b → length (varint a) ≤ length (varint b))
+    (λ a h b k. omega (arith, length-last a h, length-pos b))
+    (λ a h ih b k. omega (arith, length-more a h, length-more b (omega arith), ih (b / 128) (omega arith)))
+
+-- a count of 32 bits has a varint of five bytes at most
+pub length-five : (n : ℕ) → n ≤ largest → length (varint n) ≤ 5
+unfolding varint groups
+length-five n h = length-mono n largest h
