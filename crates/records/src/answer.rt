@@ -24,7 +24,8 @@ pub enum Counted {
     Refused(Refusal),
 }
 
-fn no_head() -> Head
+// The head where there are no flags.
+pub fn no_head() -> Head
     ensures { λ r. ⌜ r ≡ noHead ⌝ }
 {
     Head {

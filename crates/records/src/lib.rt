@@ -5,6 +5,7 @@ mod refusal;
 mod table;
 
 pub use answer::absent;
+pub use answer::no_head;
 pub use answer::present;
 pub use answer::refused;
 pub use answer::Answered;

@@ -1,0 +1,39 @@
+-- The bytes of flags: kind; owner if owned; base epoch, big-endian; per record the epoch, big-endian, then the count as minimal varint.
+-- Assumes nothing.
+use Prim.Native.Nat.{ℕ}
+use mathlib.Core.Bool.{cond}
+use mathlib.Core.Option.{Option, none, some}
+use mathlib.Core.List.{List, [], _∷_, _++_}
+use lib.ListN.{length}
+use Rattle.fields.specs.Big.{big}
+use Rattle.fields.specs.Varint.{varint}
+use Rattle.records.specs.Tables.{At}
+use Rattle.records.specs.Flags.{Flags, owned, typeByte, kindOf}
+use Rattle.records.specs.declared.head.Kind.{Kind}
+
+-- the bytes of a record
+abbrev pub recordBytes : At → List ℕ
+recordBytes r = big 2 (r .epoch) ++ varint (r .bytes)
+
+unfoldable pub recordsBytes : List At → List ℕ
+recordsBytes [] = []
+recordsBytes (r ∷ rs) = recordBytes r ++ recordsBytes rs
+
+abbrev pub ownerBytes : Option (List ℕ) → List ℕ
+ownerBytes none = []
+ownerBytes (some o) = o
+
+-- the bytes before the records
+abbrev pub headBytes : Kind → Option (List ℕ) → ℕ → List ℕ
+headBytes k owner base = typeByte k ∷ (ownerBytes owner ++ big 2 base)
+
+-- the bytes of flags
+unfoldable pub bytesOf : Flags → List ℕ
+bytesOf f = headBytes (kindOf (f .owner) (length (f .records))) (f .owner) (f .base) ++ recordsBytes (f .records)
+
+-- where the base epoch stands, and the number of bytes before the records
+abbrev pub basePlace : Kind → ℕ
+basePlace k = cond (owned k) 33 1
+
+abbrev pub headSize : Kind → ℕ
+headSize k = cond (owned k) 35 3

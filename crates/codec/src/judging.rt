@@ -1,0 +1,222 @@
+// The first pass of reading: it judges the bytes, and writes nothing.
+ghost use mathlib.Core.Path.{_≡_};
+ghost use mathlib.Core.Bool.{true, false};
+ghost use Prim.Native.Nat.{_+_, _≤_};
+ghost use lib.ListN.{length, take, drop};
+ghost use Rattle.records.specs.Flags.{multi, agrees, idOf, headFor};
+ghost use Rattle.codec.specs.Bytes.{headSize};
+ghost use Rattle.codec.specs.Reading.{next, parse, noFlags, refusedAt, baseIn, ownerIn, readAs, read};
+ghost use Rattle.codec.specs.Calls.{scanOf, stepOf, judgement};
+use fields::Judged;
+use records::Head;
+use records::Kind;
+use records::KindByte;
+use records::OwnerId;
+use records::Refusal;
+
+// What judging a record finds: why it is refused, or its epoch and the place behind it.
+pub enum Step {
+    Bad(Refusal),
+    Good { epoch: u16, next: usize },
+}
+
+// What judging records finds: the first fault and its place, or how many they are.
+pub enum Scan {
+    Faulty(Refusal, usize),
+    Records(usize),
+}
+
+// No flags, flags, or a refusal with the place of its fault.
+pub enum Verdict {
+    Absent,
+    Present,
+    Refused(Refusal, usize),
+}
+
+// A verdict with the flags' head, which is all zeros where there are none.
+pub struct Judgement {
+    pub verdict: Verdict,
+    pub head: Head,
+}
+
+// Judges the record at `at`, whose epoch has to be above `prev`.
+fn judge_record(src: &[u8], at: usize, prev: u16) -> Step
+    requires { ⌜ at ≤ length (now src) ⌝ }
+    ensures { λ r. ⌜ r ≡ stepOf at (next prev (drop at (now (src .entry)))) ⌝ }
+{
+    if src.len() - at < 2 {
+        return Step::Bad(Refusal::WrongSize);
+    }
+    let epoch = fields::be16_at(src, at);
+    match fields::judge_varint(src, at + 2) {
+        Judged::Incomplete(_) => Step::Bad(Refusal::WrongSize),
+        Judged::NotCanonical(_) => Step::Bad(Refusal::NonCanonical),
+        Judged::Ends(next) => {
+            if epoch <= prev {
+                return Step::Bad(Refusal::NonCanonical);
+            }
+            Step::Good { epoch, next }
+        }
+    }
+}
+
+// Judges all records from `start` to the end.
+fn judge_records(src: &[u8], start: usize, base: u16) -> Scan
+    requires { ⌜ start ≤ length (now src) ⌝ }
+    ensures { λ r. ⌜ r ≡ scanOf (length (now (src .entry))) (parse start 0 base (drop start (now (src .entry))) .fault) (length (parse start 0 base (drop start (now (src .entry))) .records)) ⌝ }
+{
+    let mut at = start;
+    let mut prev = base;
+    let mut n: usize = 0;
+    while at < src.len() {
+        match judge_record(src, at, prev) {
+            Step::Bad(refusal) => {
+                return Scan::Faulty(refusal, at);
+            }
+            Step::Good { epoch, next } => {
+                at = next;
+                prev = epoch;
+                n += 1;
+            }
+        }
+    }
+    if n == 0 {
+        return Scan::Faulty(Refusal::WrongSize, src.len());
+    }
+    Scan::Records(n)
+}
+
+// The number of bytes before the records of a kind.
+pub fn head_size(kind: Kind) -> usize
+    ensures { λ r. ⌜ r ≡ headSize kind ⌝ }
+{
+    if kind.is_owned() {
+        return 35;
+    }
+    3
+}
+
+// The base epoch of flags of a kind.
+fn base_in(kind: Kind, src: &[u8]) -> u16
+    requires { ⌜ headSize kind ≤ length (now src) ⌝ }
+    ensures { λ r. ⌜ r ≡ baseIn kind (now (src .entry)) ⌝ }
+{
+    if kind.is_owned() {
+        return fields::be16_at(src, 33);
+    }
+    fields::be16_at(src, 1)
+}
+
+// The 32 bytes behind byte 0.
+fn owner_bytes(src: &[u8]) -> OwnerId
+    requires { ⌜ 33 ≤ length (now src) ⌝ }
+    ensures { λ r. ⌜ r ≡ take 32 (drop 1 (now (src .entry))) ⌝ }
+{
+    let mut owner = [0u8; 32];
+    let mut k: usize = 0;
+    while k < 32 {
+        owner[k] = src[k + 1];
+        k += 1;
+    }
+    owner
+}
+
+// The owner of flags of a kind, or zeros.
+fn owner_in(kind: Kind, src: &[u8]) -> OwnerId
+    requires { ⌜ headSize kind ≤ length (now src) ⌝ }
+    ensures { λ r. ⌜ r ≡ idOf (ownerIn kind (now (src .entry))) ⌝ }
+{
+    if kind.is_owned() {
+        return owner_bytes(src);
+    }
+    [0u8; 32]
+}
+
+fn absent() -> Judgement
+    ensures { λ r. ⌜ r ≡ judgement noFlags ⌝ }
+{
+    let head = records::no_head();
+    Judgement {
+        verdict: Verdict::Absent,
+        head,
+    }
+}
+
+fn refused_at(refusal: Refusal, place: usize) -> Judgement
+    ensures { λ r. ⌜ r ≡ judgement (refusedAt refusal place) ⌝ }
+{
+    let head = records::no_head();
+    Judgement {
+        verdict: Verdict::Refused(refusal, place),
+        head,
+    }
+}
+
+// Flags of a kind with a number of records that goes with it.
+fn present(kind: Kind, src: &[u8], records: usize) -> Judgement
+    requires { ⌜ headSize kind ≤ length (now src) ⌝ }
+    requires { ⌜ agrees kind records ≡ true ⌝ }
+    ensures { λ r. ⌜ r ≡ record { verdict = Verdict.Present; head = headFor (baseIn kind (now (src .entry))) (ownerIn kind (now (src .entry))) records } ⌝ }
+{
+    let base = base_in(kind, src);
+    let owner = owner_in(kind, src);
+    Judgement {
+        verdict: Verdict::Present,
+        head: Head {
+            kind,
+            base,
+            owner,
+            records,
+        },
+    }
+}
+
+// Judges flags of kind 1 or 3.
+fn judge_multi(kind: Kind, src: &[u8]) -> Judgement
+    requires { ⌜ multi kind ≡ true ⌝ }
+    ensures { λ r. ⌜ r ≡ judgement (readAs kind (now (src .entry))) ⌝ }
+{
+    let size = head_size(kind);
+    if src.len() < size {
+        return refused_at(Refusal::WrongSize, src.len());
+    }
+    let base = base_in(kind, src);
+    match judge_records(src, size, base) {
+        Scan::Faulty(refusal, place) => refused_at(refusal, place),
+        Scan::Records(n) => present(kind, src, n),
+    }
+}
+
+// Judges flags of kind 0 or 2.
+fn judge_single(kind: Kind, src: &[u8]) -> Judgement
+    requires { ⌜ multi kind ≡ false ⌝ }
+    ensures { λ r. ⌜ r ≡ judgement (readAs kind (now (src .entry))) ⌝ }
+{
+    if src.len() == head_size(kind) {
+        return present(kind, src, 0);
+    }
+    refused_at(Refusal::WrongSize, src.len())
+}
+
+// Judges flags of a kind, without a look at byte 0.
+pub fn judge_as(kind: Kind, src: &[u8]) -> Judgement
+    ensures { λ r. ⌜ r ≡ judgement (readAs kind (now (src .entry))) ⌝ }
+{
+    if kind.is_multi() {
+        return judge_multi(kind, src);
+    }
+    judge_single(kind, src)
+}
+
+// Judges flag bytes.
+pub fn judge(src: &[u8]) -> Judgement
+    ensures { λ r. ⌜ r ≡ judgement (read (now (src .entry))) ⌝ }
+{
+    if src.len() == 0 {
+        return absent();
+    }
+    match records::kind_of_byte(src[0]) {
+        KindByte::Known(kind) => judge_as(kind, src),
+        KindByte::Unknown => refused_at(Refusal::UnknownType, 0),
+    }
+}

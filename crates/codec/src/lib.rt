@@ -1,0 +1,19 @@
+// Flag bytes: reading, writing, and their sizes.
+mod judging;
+mod reading;
+mod sizes;
+mod writing;
+
+pub use judging::judge;
+pub use judging::judge_as;
+pub use judging::Judgement;
+pub use judging::Verdict;
+pub use reading::deserialize;
+pub use reading::deserialize_multi_epoch;
+pub use reading::deserialize_multi_epoch_owned;
+pub use reading::deserialize_single_epoch;
+pub use reading::deserialize_single_epoch_owned;
+pub use sizes::approximate_size;
+pub use sizes::serialized_size;
+pub use sizes::Changes;
+pub use writing::serialize;

@@ -1,0 +1,76 @@
+// Writing flag bytes.
+ghost use mathlib.Core.Path.{_≡_};
+ghost use Prim.Native.Nat.{_+_, _≤_};
+ghost use lib.ListN.{length};
+ghost use Rattle.fields.specs.Writing.{Put};
+ghost use Rattle.records.specs.Tables.{recordsOf};
+ghost use Rattle.records.specs.Flags.{ownerOf};
+ghost use Rattle.records.specs.Answers.{wrote};
+ghost use Rattle.codec.specs.Bytes.{headSize, headBytes, recordsBytes};
+ghost use Rattle.codec.specs.Sizes.{countsSize};
+ghost use Rattle.codec.specs.Calls.{serialized};
+use crate::sizes::fit;
+use records::Counted;
+use records::Head;
+use records::OwnerId;
+use records::Refusal;
+
+// Writes the owner's 32 bytes at `at`; answers the place behind them.
+fn put_owner(out: &mut [u8], at: usize, owner: OwnerId) -> usize
+    requires { ⌜ at + 32 ≤ length (now out) ⌝ }
+    ensures { λ r. ⌜ (length owner ≡ 32) × Put owner at r (now (out .entry)) (now (out .exit)) ⌝ }
+{
+    let mut k: usize = 0;
+    while k < 32 {
+        out[at + k] = owner[k];
+        k += 1;
+    }
+    at + 32
+}
+
+// Writes what stands before the records at the start of `out`; answers the place behind it.
+fn put_head(out: &mut [u8], head: Head) -> usize
+    requires { ⌜ headSize (head .kind) ≤ length (now out) ⌝ }
+    ensures { λ r. ⌜ (r ≡ headSize (head .kind)) × Put (headBytes (head .kind) (ownerOf head) (head .base)) 0 r (now (out .entry)) (now (out .exit)) ⌝ }
+{
+    let kind = head.kind;
+    out[0] = kind.type_byte();
+    if kind.is_owned() {
+        let owner = head.owner;
+        let at = put_owner(out, 1, owner);
+        return fields::put_be16(out, at, head.base);
+    }
+    fields::put_be16(out, 1, head.base)
+}
+
+// Writes records at `at`; answers the place behind them.
+fn put_records(out: &mut [u8], at: usize, epochs: &[u16], counts: &[u32]) -> usize
+    requires { ⌜ length (now epochs) ≡ length (now counts) ⌝ }
+    requires { ⌜ at + countsSize (now counts) ≤ length (now out) ⌝ }
+    ensures { λ r. ⌜ Put (recordsBytes (recordsOf (now (epochs .entry)) (now (counts .entry)))) at r (now (out .entry)) (now (out .exit)) ⌝ }
+{
+    let mut i = at;
+    let mut k: usize = 0;
+    while k < epochs.len() {
+        let behind = fields::put_be16(out, i, epochs[k]);
+        i = fields::put_varint(out, behind, counts[k]);
+        k += 1;
+    }
+    i
+}
+
+// Writes proper flags at the start of `out`.
+pub fn serialize(head: Head, epochs: &[u16], counts: &[u32], out: &mut [u8]) -> Counted
+    ensures { λ r. ⌜ wrote r (now (out .exit)) ≡ serialized head (now (epochs .entry)) (now (counts .entry)) (now (out .entry)) ⌝ }
+{
+    if records::is_proper(head, epochs, counts) {
+        let kind = head.kind;
+        let n = head.records;
+        if fit(kind, &counts[..n], out.len()) {
+            let at = put_head(out, head);
+            return Counted::Count(put_records(out, at, &epochs[..n], &counts[..n]));
+        }
+        return Counted::Refused(Refusal::NoRoom);
+    }
+    Counted::Refused(Refusal::BadTable)
+}
