@@ -2,6 +2,7 @@
 pub mod Tables
 pub mod Rising
 pub mod Unions
+pub mod Dropping
 pub mod Proper
 pub mod Answers
 pub mod Only

@@ -11,8 +11,6 @@ use Rattle.records.specs.Tables.{ascending}
 use Rattle.records.proofs.Rising.{drop-next}
 use Rattle.records.proofs.table.ascend.Statement.{statement}
 use Rattle.records.proofs.table.ascend.Tie as tie
-use Rattle.records.proofs.table.ascend.Reads as reads
-use Rattle.records.proofs.table.ascend.Lts as lts
 
 abbrev Inv-loop : tie.InvT-loop
 Inv-loop base epochs good₀ prev₀ i₀ good prev i = (i ≤ length epochs) × (ascending base epochs ≡ (good && ascending prev (drop i epochs)))

@@ -10,8 +10,6 @@ use Rattle.records.specs.Tables.{placeOf}
 use Rattle.records.proofs.Rising.{drop-next}
 use Rattle.records.proofs.table.find.Statement.{statement}
 use Rattle.records.proofs.table.find.Tie as tie
-use Rattle.records.proofs.table.find.Reads as reads
-use Rattle.records.proofs.table.find.Lts as lts
 
 abbrev Inv-loop : tie.InvT-loop
 Inv-loop epochs epoch i₀ i = (i ≤ length epochs) × (placeOf epoch epochs ≡ i + placeOf epoch (drop i epochs))
