@@ -65,9 +65,10 @@ pub counted-only : (c d : Counted) (x : Answer ℕ) → counted c ≡ x → coun
 counted-only c d x p q = sym (counted-back c) ∙ ap countedAs (same-only _ _ x p q) ∙ counted-back d
 
 pub wrote-only : (c d : Counted) (o o′ : List ℕ) (x : Written) → wrote c o ≡ x → wrote d o′ ≡ x → (c ≡ d) × (o ≡ o′)
-wrote-only c d o o′ x p q =
-    (counted-only c d (x .answer) (ap (λ (w : Written). w .answer) p) (ap (λ (w : Written). w .answer) q),
-    ap (λ (w : Written). w .out) (same-only _ _ x p q))
+wrote-only c d o o′ x p q = (
+  counted-only c d (x .answer) (ap (λ (w : Written). w .answer) p) (ap (λ (w : Written). w .answer) q),
+  ap (λ (w : Written). w .out) (same-only _ _ x p q),
+)
 
 -- the outcome that a refusal's number, or 0, and whether there are flags tell
 abbrev outcomeAs : Bool → ℕ → Outcome
@@ -87,6 +88,6 @@ pub shown-only : (a b : Answered) (es cs es′ cs′ : List ℕ) (x : After) →
 shown-only a b es cs es′ cs′ x p q =
     let e = same-only _ _ x p q in
     let o : a .outcome ≡ b .outcome =
-        sym (outcome-back (a .outcome)) ∙ ap (λ (w : After). outcomeAs (w .present) (w .refusal)) e ∙ outcome-back (b .outcome) in
+    sym (outcome-back (a .outcome)) ∙ ap (λ (w : After). outcomeAs (w .present) (w .refusal)) e ∙ outcome-back (b .outcome) in
     let h : a .head ≡ b .head = ap (λ (w : After). w .head) e in
     ((λ i. record { outcome = o i; head = h i }), ap (λ (w : After). w .epochs) e, ap (λ (w : After). w .counts) e)

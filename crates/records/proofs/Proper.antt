@@ -1,11 +1,11 @@
 -- What proper flags are, read back from `proper`: its tests one by one, and that their kind is the one that owner and records tell.
 -- Assumes nothing.
 use mathlib.Core.Path.{_≡_}
-use mathlib.Core.Bool.{true, _&&_, and-eq-true-iff}
+use mathlib.Core.Bool.{true, false, _&&_, and-eq-true-iff}
 use mathlib.Core.List.{List}
 use Prim.Native.Nat.{ℕ, _≤_}
 use native.Mathlib.Omega.{arith}
-use lib.Dec.{leb}
+use lib.Dec.{leb, eqb}
 use lib.ListN.{length, take}
 use borrow.Author.Tests.{leb-true, ne-eqb}
 use Rattle.records.specs.Tables.{ascending}
@@ -35,15 +35,14 @@ proper-inv h es cs p =
       ascends = z .1;
     }
 
+some-records : (n : ℕ) → leb 1 n ≡ true → eqb n 0 ≡ false
+some-records n h = let p = leb-true 1 n h in ne-eqb n 0 (λ e. omega arith)
+
 kind-told : (k : Kind) (n : ℕ) (o : List ℕ) → agrees k n ≡ true → kindOf (ownerIf (owned k) o) n ≡ k
 kind-told SingleEpoch n o h = rw h
-kind-told MultiEpoch n o h =
-    let p = leb-true 1 n h in
-    rw (ne-eqb n 0 (λ e. omega arith))
+kind-told MultiEpoch n o h = rw (some-records n h)
 kind-told SingleEpochOwned n o h = rw h
-kind-told MultiEpochOwned n o h =
-    let p = leb-true 1 n h in
-    rw (ne-eqb n 0 (λ e. omega arith))
+kind-told MultiEpochOwned n o h = rw (some-records n h)
 
 pub kind-agrees : (h : Head) → agrees (h .kind) (h .records) ≡ true → kindOf (ownerOf h) (h .records) ≡ h .kind
 kind-agrees h = kind-told (h .kind) (h .records) (h .owner)

@@ -1,16 +1,16 @@
--- Epochs that ascend from a base, and what stands from a place of a rising table on. By cases on the table.
+-- Epochs that ascend, all of them and from a place on, and the place of an epoch among them. By cases on the table.
 -- Assumes nothing.
 use mathlib.Core.Path.{_≡_, refl}
 use mathlib.Core.List.{List, [], _∷_}
-use mathlib.Core.Bool.{true, and-eq-true-iff}
+use mathlib.Core.Bool.{true, _&&_, and-eq-true-iff}
 use Prim.Native.Nat.{ℕ, zero, suc, _+_, _≤_, _<_}
 use native.Mathlib.Numerals.{add-one}
 use native.Mathlib.Omega.{arith}
 use lib.Dec.{ltb}
 use lib.ListN.{length, drop, getD, drop-of-length-le}
 use lib.Seq.{drop-cons}
-use borrow.Author.Tests.{ltb-true, lt-ltb}
-use Rattle.records.specs.Tables.{ascending, rising}
+use borrow.Author.Tests.{ltb-true, lt-ltb, le-ltb}
+use Rattle.records.specs.Tables.{ascending, rising, placeOf}
 
 pub asc-none : (b : ℕ) → ascending b [] ≡ true
 unfolding ascending
@@ -52,6 +52,11 @@ rising-drop (suc i) [] h = h
 rising-drop (suc i) (e ∷ es) h = rising-drop i es (asc-rises e es h)
 
 module _ (es : List ℕ) (i : ℕ) where
+  -- what stands from place i on begins with the epoch there
+  pub asc-on : (b : ℕ) → i < length es → ascending b (drop i es) ≡ (ltb b (getD es i 0) && ascending (getD es i 0) (drop (i + 1) es))
+  unfolding ascending
+  asc-on b p = rw (drop-next es i p)
+
   -- behind place i the epochs ascend from the one there
   pub asc-behind : rising es ≡ true → i < length es → ascending (getD es i 0) (drop (i + 1) es) ≡ true
   unfolding rising
@@ -59,8 +64,23 @@ module _ (es : List ℕ) (i : ℕ) where
 
   -- from place i on they ascend from what is below the one there
   pub asc-from : (b : ℕ) → rising es ≡ true → i < length es → b < getD es i 0 → ascending b (drop i es) ≡ true
-  asc-from b h p q = rw (drop-next es i p) (asc-cons b (getD es i 0) (drop (i + 1) es) q (asc-behind h p))
+  asc-from b h p q = rw (asc-on b p, lt-ltb b (getD es i 0) q) (asc-behind h p)
 
   -- behind the end there are none
   pub asc-end : (b : ℕ) → length es ≤ i → ascending b (drop i es) ≡ true
   asc-end b p = rw (drop-of-length-le es {i = i} p) (asc-none b)
+
+  -- ---- the place of an epoch
+
+  module _ (e : ℕ) where
+    pub place-here : i < length es → e ≤ getD es i 0 → placeOf e (drop i es) ≡ 0
+    unfolding placeOf
+    place-here p q = rw (drop-next es i p, le-ltb (getD es i 0) e q)
+
+    pub place-on : i < length es → getD es i 0 < e → placeOf e (drop i es) ≡ suc (placeOf e (drop (i + 1) es))
+    unfolding placeOf
+    place-on p q = rw (drop-next es i p, lt-ltb (getD es i 0) e q)
+
+    pub place-end : length es ≤ i → placeOf e (drop i es) ≡ 0
+    unfolding placeOf
+    place-end p = rw (drop-of-length-le es {i = i} p)

@@ -7,7 +7,7 @@ use native.Mathlib.Nat.{add-zero, zero-add}
 use native.Mathlib.Numerals.{add-one}
 use native.Mathlib.Omega.{arith}
 use lib.ListN.{length, drop, getD, set, length-set}
-use lib.Seq.{drop-nil, drop-cons, sets, sets-eq}
+use lib.Seq.{drop-cons, sets, sets-eq}
 use Rattle.records.specs.Tables.{At, _⦂_, recordsOf, epochsOf, countsOf, over, Placed}
 
 -- ---- records, and their epochs and counts

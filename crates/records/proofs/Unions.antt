@@ -1,19 +1,19 @@
 -- The next record of a union, from the tests that find it, and what the loops over a union keep.
 -- A record below all that is left goes to the front; of two at one epoch the incoming one stands.
 -- Assumes nothing.
-use mathlib.Core.Path.{_≡_, refl, sym, ap, _∙_}
+use mathlib.Core.Path.{_≡_, refl, ap, _∙_}
 use mathlib.Core.List.{List, [], _∷_}
 use mathlib.Core.Bool.{Bool, true, false}
-use Prim.Native.Nat.{ℕ, _+_, _^_, _≤_, _<_}
+use Prim.Native.Nat.{ℕ, _+_, _≤_, _<_}
 use native.Mathlib.Omega.{arith}
 use lib.Dec.{ltb, eqb}
 use lib.ListN.{length, drop, getD, length-drop, drop-of-length-le}
 use borrow.Author.Tests.{ltb-true, ltb-false, lt-ltb, le-ltb, eqb-true, eqb-false, eq-eqb, ne-eqb}
-use Rattle.records.specs.Tables.{At, _⦂_, recordsOf, epochsOf, ascending, rising, put, union, Table}
+use Rattle.records.specs.Tables.{At, _⦂_, recordsOf, epochsOf, ascending, put, union, Table}
 use Rattle.records.specs.Unions.{Within, Stepped}
 use Rattle.records.specs.declared.table.Next.{Next}
 use Rattle.records.proofs.Tables.{length-recordsOf, epochs-records, drop-records, records-on}
-use Rattle.records.proofs.Rising.{asc-none, asc-head, asc-tail, asc-cons, asc-lower, asc-behind, asc-from, asc-end}
+use Rattle.records.proofs.Rising.{asc-none, asc-head, asc-tail, asc-cons, asc-lower, asc-behind}
 
 -- the records' epochs ascend strictly and are above b
 abbrev above : ℕ → List At → Type 0

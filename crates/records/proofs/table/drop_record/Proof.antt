@@ -3,7 +3,6 @@
 use Prim.Native.Nat.{_-_, _≤_, _<_}
 use native.Mathlib.Omega.{arith}
 use borrow.Author.Needs.{needs}
-use lib.ListN.{length-set}
 use Rattle.records.proofs.Dropping.{Dropping, dropping-start, dropping-step, dropping-done}
 use Rattle.records.proofs.table.drop_record.Statement.{statement}
 use Rattle.records.proofs.table.drop_record.Tie as tie

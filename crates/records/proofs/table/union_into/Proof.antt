@@ -1,6 +1,5 @@
 -- `records::table::union_into` meets its contract: what is left of the union makes of the tables what all of it makes of the tables lent.
 -- Assumes nothing.
-use mathlib.Core.Path.{_≡_}
 use Prim.Native.Nat.{_+_, _-_, _<_}
 use native.Mathlib.Omega.{arith}
 use lib.ListN.{length, drop}
