@@ -81,7 +81,11 @@ pub fn deserialize_multi_epoch(src: &[u8], epochs: &mut [u16], counts: &mut [u32
     read_as(Kind::MultiEpoch, src, epochs, counts)
 }
 
-pub fn deserialize_single_epoch_owned(src: &[u8], epochs: &mut [u16], counts: &mut [u32]) -> Answered
+pub fn deserialize_single_epoch_owned(
+    src: &[u8],
+    epochs: &mut [u16],
+    counts: &mut [u32],
+) -> Answered
     ensures { λ r. ⌜ shown r (now (epochs .exit)) (now (counts .exit)) ≡ deserializedAs SingleEpochOwned (now (src .entry)) (now (epochs .entry)) (now (counts .entry)) ⌝ }
 {
     read_as(Kind::SingleEpochOwned, src, epochs, counts)

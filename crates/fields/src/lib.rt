@@ -4,11 +4,11 @@ mod varint;
 
 pub use big::be16_at;
 pub use big::put_be16;
+pub use varint::Judged;
+pub use varint::Reading;
+pub use varint::Varint;
 pub use varint::judge_varint;
 pub use varint::put_varint;
 pub use varint::read_varint;
 pub use varint::varint_at;
 pub use varint::varint_len;
-pub use varint::Judged;
-pub use varint::Reading;
-pub use varint::Varint;

@@ -1,0 +1,8 @@
+-- What the proofs share, and the crates above cite. Assumes nothing.
+pub mod Tables
+pub mod Rising
+pub mod Unions
+pub mod Dropping
+pub mod Proper
+pub mod Answers
+pub mod Only

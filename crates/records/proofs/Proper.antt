@@ -1,0 +1,48 @@
+-- What proper flags are, read back from `proper`: its tests one by one, and that their kind is the one that owner and records tell.
+-- Assumes nothing.
+use mathlib.Core.Path.{_≡_}
+use mathlib.Core.Bool.{true, false, _&&_, and-eq-true-iff}
+use mathlib.Core.List.{List}
+use Prim.Native.Nat.{ℕ, _≤_}
+use native.Mathlib.Omega.{arith}
+use lib.Dec.{leb, eqb}
+use lib.ListN.{length, take}
+use borrow.Author.Tests.{leb-true, ne-eqb}
+use Rattle.records.specs.Tables.{ascending}
+use Rattle.records.specs.Flags.{owned, ownerIf, ownerOf, kindOf, agrees, proper}
+use Rattle.records.specs.declared.head.Head.{Head}
+use Rattle.records.specs.declared.head.Kind.{Kind}
+use Rattle.records.specs.declared.head.Kind.the-variants.{SingleEpoch, MultiEpoch, SingleEpochOwned, MultiEpochOwned}
+
+pub record IsProper (h : Head) (es cs : List ℕ) : Type 0 where
+  pub agrees-kind : agrees (h .kind) (h .records) ≡ true
+  pub epochs-long : h .records ≤ length es
+  pub counts-long : h .records ≤ length cs
+  pub ascends : ascending (h .base) (take (h .records) es) ≡ true
+
+pub proper-inv : (h : Head) (es cs : List ℕ) → proper h es cs ≡ true → IsProper h es cs
+unfolding proper
+proper-inv h es cs p =
+    let n = h .records in
+    let a = ascending (h .base) (take n es) in
+    let x = and-eq-true-iff (agrees (h .kind) n) (leb n (length es) && (leb n (length cs) && a)) .0 p in
+    let y = and-eq-true-iff (leb n (length es)) (leb n (length cs) && a) .0 (x .1) in
+    let z = and-eq-true-iff (leb n (length cs)) a .0 (y .1) in
+    record {
+      agrees-kind = x .0;
+      epochs-long = leb-true n (length es) (y .0);
+      counts-long = leb-true n (length cs) (z .0);
+      ascends = z .1;
+    }
+
+some-records : (n : ℕ) → leb 1 n ≡ true → eqb n 0 ≡ false
+some-records n h = let p = leb-true 1 n h in ne-eqb n 0 (λ e. omega arith)
+
+kind-told : (k : Kind) (n : ℕ) (o : List ℕ) → agrees k n ≡ true → kindOf (ownerIf (owned k) o) n ≡ k
+kind-told SingleEpoch n o h = rw h
+kind-told MultiEpoch n o h = rw (some-records n h)
+kind-told SingleEpochOwned n o h = rw h
+kind-told MultiEpochOwned n o h = rw (some-records n h)
+
+pub kind-agrees : (h : Head) → agrees (h .kind) (h .records) ≡ true → kindOf (ownerOf h) (h .records) ≡ h .kind
+kind-agrees h = kind-told (h .kind) (h .records) (h .owner)

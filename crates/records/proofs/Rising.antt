@@ -1,0 +1,86 @@
+-- Epochs that ascend, all of them and from a place on, and the place of an epoch among them. By cases on the table.
+-- Assumes nothing.
+use mathlib.Core.Path.{_≡_, refl}
+use mathlib.Core.List.{List, [], _∷_}
+use mathlib.Core.Bool.{true, _&&_, and-eq-true-iff}
+use Prim.Native.Nat.{ℕ, zero, suc, _+_, _≤_, _<_}
+use native.Mathlib.Numerals.{add-one}
+use native.Mathlib.Omega.{arith}
+use lib.Dec.{ltb}
+use lib.ListN.{length, drop, getD, drop-of-length-le}
+use lib.Seq.{drop-cons}
+use borrow.Author.Tests.{ltb-true, lt-ltb, le-ltb}
+use Rattle.records.specs.Tables.{ascending, rising, placeOf}
+
+pub asc-none : (b : ℕ) → ascending b [] ≡ true
+unfolding ascending
+asc-none b = refl
+
+pub asc-head : (b e : ℕ) (es : List ℕ) → ascending b (e ∷ es) ≡ true → b < e
+unfolding ascending
+asc-head b e es h = ltb-true _ _ (and-eq-true-iff (ltb b e) (ascending e es) .0 h .0)
+
+pub asc-tail : (b e : ℕ) (es : List ℕ) → ascending b (e ∷ es) ≡ true → ascending e es ≡ true
+unfolding ascending
+asc-tail b e es h = and-eq-true-iff (ltb b e) (ascending e es) .0 h .1
+
+pub asc-cons : (b e : ℕ) (es : List ℕ) → b < e → ascending e es ≡ true → ascending b (e ∷ es) ≡ true
+unfolding ascending
+asc-cons b e es p h = rw (lt-ltb b e p) h
+
+-- what ascends from b ascends from what is below b
+pub asc-lower : (a b : ℕ) (es : List ℕ) → a ≤ b → ascending b es ≡ true → ascending a es ≡ true
+asc-lower a b [] p h = asc-none a
+asc-lower a b (e ∷ es) p h =
+    let q : b < e = asc-head b e es h in
+    asc-cons a e es (omega arith) (asc-tail b e es h)
+
+pub asc-rises : (b : ℕ) (es : List ℕ) → ascending b es ≡ true → rising es ≡ true
+unfolding rising
+asc-rises b [] h = refl
+asc-rises b (e ∷ es) h = asc-tail b e es h
+
+-- ---- from a place on
+
+pub drop-next : (es : List ℕ) (i : ℕ) → i < length es → drop i es ≡ getD es i 0 ∷ drop (i + 1) es
+drop-next es i p = rw add-one (drop-cons es i 0 p)
+
+pub rising-drop : (i : ℕ) (es : List ℕ) → rising es ≡ true → rising (drop i es) ≡ true
+unfolding rising
+rising-drop zero es h = h
+rising-drop (suc i) [] h = h
+rising-drop (suc i) (e ∷ es) h = rising-drop i es (asc-rises e es h)
+
+module _ (es : List ℕ) (i : ℕ) where
+  -- what stands from place i on begins with the epoch there
+  pub asc-on : (b : ℕ) → i < length es → ascending b (drop i es) ≡ (ltb b (getD es i 0) && ascending (getD es i 0) (drop (i + 1) es))
+  unfolding ascending
+  asc-on b p = rw (drop-next es i p)
+
+  -- behind place i the epochs ascend from the one there
+  pub asc-behind : rising es ≡ true → i < length es → ascending (getD es i 0) (drop (i + 1) es) ≡ true
+  unfolding rising
+  asc-behind h p = rw (drop-next es i p) at (rising-drop i es h)
+
+  -- from place i on they ascend from what is below the one there
+  pub asc-from : (b : ℕ) → rising es ≡ true → i < length es → b < getD es i 0 → ascending b (drop i es) ≡ true
+  asc-from b h p q = rw (asc-on b p, lt-ltb b (getD es i 0) q) (asc-behind h p)
+
+  -- behind the end there are none
+  pub asc-end : (b : ℕ) → length es ≤ i → ascending b (drop i es) ≡ true
+  asc-end b p = rw (drop-of-length-le es {i = i} p) (asc-none b)
+
+  -- ---- the place of an epoch
+
+  module _ (e : ℕ) where
+    pub place-here : i < length es → e ≤ getD es i 0 → placeOf e (drop i es) ≡ 0
+    unfolding placeOf
+    place-here p q = rw (drop-next es i p, le-ltb (getD es i 0) e q)
+
+    pub place-on : i < length es → getD es i 0 < e → placeOf e (drop i es) ≡ suc (placeOf e (drop (i + 1) es))
+    unfolding placeOf
+    place-on p q = rw (drop-next es i p, lt-ltb (getD es i 0) e q)
+
+    pub place-end : length es ≤ i → placeOf e (drop i es) ≡ 0
+    unfolding placeOf
+    place-end p = rw (drop-of-length-le es {i = i} p)

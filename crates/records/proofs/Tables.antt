@@ -1,0 +1,122 @@
+-- Records and the two tables that hold them: the one gives the other back, and records are written into tables one after another.
+-- Assumes nothing.
+use mathlib.Core.Path.{_≡_, refl, sym, ap, _∙_}
+use mathlib.Core.List.{List, [], _∷_, _++_}
+use Prim.Native.Nat.{ℕ, zero, suc, _+_, _≤_, _<_}
+use native.Mathlib.Nat.{add-zero, zero-add}
+use native.Mathlib.Numerals.{add-one}
+use native.Mathlib.Omega.{arith}
+use lib.ListN.{length, drop, getD, set, length-set}
+use lib.Seq.{drop-cons, sets, sets-eq}
+use Rattle.records.specs.Tables.{At, _⦂_, recordsOf, epochsOf, countsOf, over, Placed}
+
+-- ---- records, and their epochs and counts
+
+pub length-recordsOf : (es cs : List ℕ) → length es ≡ length cs → length (recordsOf es cs) ≡ length es
+unfolding recordsOf
+length-recordsOf [] cs h = refl
+length-recordsOf (e ∷ es) [] h = absurd (omega arith)
+length-recordsOf (e ∷ es) (c ∷ cs) h = ap suc (length-recordsOf es cs (omega arith))
+
+pub length-epochsOf : (rs : List At) → length (epochsOf rs) ≡ length rs
+unfolding epochsOf
+length-epochsOf [] = refl
+length-epochsOf (r ∷ rs) = ap suc (length-epochsOf rs)
+
+pub length-countsOf : (rs : List At) → length (countsOf rs) ≡ length rs
+unfolding countsOf
+length-countsOf [] = refl
+length-countsOf (r ∷ rs) = ap suc (length-countsOf rs)
+
+pub epochs-records : (es cs : List ℕ) → length es ≡ length cs → epochsOf (recordsOf es cs) ≡ es
+unfolding recordsOf epochsOf
+epochs-records [] cs h = refl
+epochs-records (e ∷ es) [] h = absurd (omega arith)
+epochs-records (e ∷ es) (c ∷ cs) h = rw (epochs-records es cs (omega arith))
+
+pub counts-records : (es cs : List ℕ) → length es ≡ length cs → countsOf (recordsOf es cs) ≡ cs
+unfolding recordsOf countsOf
+counts-records [] [] h = refl
+counts-records [] (c ∷ cs) h = absurd (omega arith)
+counts-records (e ∷ es) [] h = absurd (omega arith)
+counts-records (e ∷ es) (c ∷ cs) h = rw (counts-records es cs (omega arith))
+
+pub records-back : (rs : List At) → recordsOf (epochsOf rs) (countsOf rs) ≡ rs
+unfolding recordsOf epochsOf countsOf
+records-back [] = refl
+records-back (r ∷ rs) = rw (records-back rs)
+
+-- ---- from a place on
+
+no-counts : (es : List ℕ) → recordsOf es [] ≡ []
+unfolding recordsOf
+no-counts [] = refl
+no-counts (e ∷ es) = refl
+
+pub drop-records : (k : ℕ) (es cs : List ℕ) → drop k (recordsOf es cs) ≡ recordsOf (drop k es) (drop k cs)
+unfolding recordsOf
+drop-records zero es cs = refl
+drop-records (suc k) [] cs = refl
+drop-records (suc k) (e ∷ es) [] = sym (no-counts (drop k es))
+drop-records (suc k) (e ∷ es) (c ∷ cs) = drop-records k es cs
+
+pub records-on : (es cs : List ℕ) (k : ℕ) → k < length es → k < length cs
+    → recordsOf (drop k es) (drop k cs) ≡ getD es k 0 ⦂ getD cs k 0 ∷ recordsOf (drop (k + 1) es) (drop (k + 1) cs)
+unfolding recordsOf
+records-on es cs k p q = rw (add-one, drop-cons es k 0, drop-cons cs k 0)
+
+-- ---- written one after another
+
+pub sets-append : (xs ys l : List ℕ) (i : ℕ) → sets l i (xs ++ ys) ≡ sets (sets l i xs) (i + length xs) ys
+sets-append [] ys l i = rw (add-zero i)
+sets-append (x ∷ xs) ys l i =
+    let e : suc i + length xs ≡ i + suc (length xs) = omega arith in
+    rw (← e) (sets-append xs ys (set l i x) (suc i))
+
+pub over-sets : (xs old : List ℕ) → length xs ≤ length old → sets old 0 xs ≡ over xs old
+over-sets xs old h = sets-eq xs old 0 (omega arith) ∙ rw (zero-add (length xs))
+
+pub placed-none : (at : ℕ) (es cs : List ℕ) → Placed [] at at es cs es cs
+unfolding epochsOf countsOf
+placed-none at es cs = record { behind = omega arith; epochs-set = refl; counts-set = refl }
+
+-- the place k is reached, and what is left to write there makes of the tables what all makes of the tables lent
+pub record Filling (all left : List At) (at k : ℕ) (es₀ cs₀ es cs : List ℕ) : Type 0 where
+  pub reached : k + length left ≡ at + length all
+  pub epochs-to-set : sets es k (epochsOf left) ≡ sets es₀ at (epochsOf all)
+  pub counts-to-set : sets cs k (countsOf left) ≡ sets cs₀ at (countsOf all)
+  pub epochs-long : length es ≡ length es₀
+  pub counts-long : length cs ≡ length cs₀
+
+pub filling-start : (all : List At) (at : ℕ) (es cs : List ℕ) → Filling all all at at es cs es cs
+filling-start all at es cs =
+    record { reached = refl; epochs-to-set = refl; counts-to-set = refl; epochs-long = refl; counts-long = refl }
+
+module _ {all left : List At} {at k : ℕ} {es₀ cs₀ es cs : List ℕ} (f : Filling all left at k es₀ cs₀ es cs) where
+  -- one record more is written
+  pub filling-step : {rest : List At} {e c : ℕ} → left ≡ e ⦂ c ∷ rest → Filling all rest at (k + 1) es₀ cs₀ (set es k e) (set cs k c)
+  unfolding epochsOf countsOf
+  filling-step {rest} {e} {c} h =
+      record {
+        reached = omega (arith, f .reached, ap (length {A = At}) h);
+        epochs-to-set = rw add-one (rw h at (f .epochs-to-set));
+        counts-to-set = rw add-one (rw h at (f .counts-to-set));
+        epochs-long = length-set es k e ∙ f .epochs-long;
+        counts-long = length-set cs k c ∙ f .counts-long;
+      }
+
+  -- the record has room where all have
+  pub filling-room : {rest : List At} {e c : ℕ} → left ≡ e ⦂ c ∷ rest → at + length all ≤ length es₀ → at + length all ≤ length cs₀
+      → (k < length es) × (k < length cs)
+  filling-room h p q =
+      let l = ap (length {A = At}) h in
+      (omega (arith, f .reached, f .epochs-long), omega (arith, f .reached, f .counts-long))
+
+  pub filling-done : left ≡ [] → Placed all at k es₀ cs₀ es cs
+  unfolding epochsOf countsOf
+  filling-done h =
+      record {
+        behind = omega (arith, f .reached, ap (length {A = At}) h);
+        epochs-set = rw h at (f .epochs-to-set);
+        counts-set = rw h at (f .counts-to-set);
+      }
