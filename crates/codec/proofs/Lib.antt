@@ -1,0 +1,4 @@
+pub mod Parsing
+pub mod Turns
+pub mod Readings
+pub mod Copying
