@@ -1,3 +1,9 @@
+-- `codec::reading::read_as` meets its contract: what was judged decides. Assumes nothing.
+use mathlib.Core.Path.{_≡_, refl, ap, sym, _∙_}
+use Rattle.records.specs.Flags.{Flags, headOf}
+use Rattle.codec.specs.Reading.{readAs, someFlags, flagsIn}
+use Rattle.codec.specs.declared.judging.Judgement.{Judgement}
+use Rattle.codec.proofs.Settling.{judged-absent, judged-refused, judged-present, read-whole, left-absent, left-refused}
 use borrow.Author.Needs.{needs}
 use Rattle.codec.proofs.reading.read_as.Statement.{statement}
 use Rattle.codec.proofs.reading.read_as.Tie as tie
@@ -34,15 +40,26 @@ enum-told-2 c = search needs
 
 -- src/reading.rt:67:13
 settle-requires : tie.Need-settle-requires
-settle-requires c κs = ?
+settle-requires c κs =
+    let a = c .before .before .before .before .before .before .before .before .before .args in
+    let j = judged-present (readAs (a .kind) (a .src .now)) (sym (ap (λ (j : Judgement). j .verdict) (c .before .before .before .before .before .judge-as .ensures)) ∙ c .before .before .before .enum-told2 .given .1) in
+    let f = read-whole (a .kind) (a .src .now) (j .0) (j .1) .in-bytes in
+    (j .1 ∙ ap someFlags f, ap (λ (j : Judgement). j .head) (c .before .before .before .before .before .judge-as .ensures) ∙ j .2 ∙ ap headOf f)
 
 -- src/reading.rt:57:1
 returns : tie.Need-returns
-returns c = ?
+returns c =
+    let a = c .before .before .before .before .before .before .before .args in
+    left-absent (a .kind) (a .src .now) (a .epochs .now) (a .counts .now) (c .absent .result) (c .absent .ensures)
+    (judged-absent (readAs (a .kind) (a .src .now)) (sym (ap (λ (j : Judgement). j .verdict) (c .before .before .before .judge-as .ensures)) ∙ c .before .enum-told .given .1))
 
 -- src/reading.rt:57:1
 returns-2 : tie.Need-returns-2
-returns-2 c = ?
+returns-2 c =
+    let a = c .before .before .before .before .before .before .before .before .args in
+    let g = c .before .before .verdict .given in
+    left-refused (a .kind) (a .src .now) (a .epochs .now) (a .counts .now) (c .refused .result) (g .0 .0) _ (c .refused .ensures)
+    (judged-refused (readAs (a .kind) (a .src .now)) (g .0 .0) _ (sym (ap (λ (j : Judgement). j .verdict) (c .before .before .before .before .judge-as .ensures)) ∙ g .1))
 
 -- src/reading.rt:57:1
 same-length : tie.Need-same-length
