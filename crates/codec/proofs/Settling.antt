@@ -87,14 +87,17 @@ read-whole k xs f e = by (multi k) refl
 
 -- ---- what a reader leaves
 
+-- no flags, or a refusal
+module _ (x : Read) (es cs : List ℕ) (a : Answered) where
+  pub left-absent : a ≡ record { outcome = Absent; head = noHead } → x ≡ noFlags → shown a es cs ≡ after (answer x) es cs
+  left-absent ea e = ap (λ (b : Answered). shown b es cs) ea ∙ sym (ap (λ (y : Read). after (answer y) es cs) e ∙ after-absent es cs)
+
+  pub left-refused : (r : Refusal) (place : ℕ) → a ≡ record { outcome = Refused r; head = noHead } → x ≡ refusedAt r place → shown a es cs ≡ after (answer x) es cs
+  left-refused r place ea e =
+      ap (λ (b : Answered). shown b es cs) ea ∙ sym (ap (λ (y : Read). after (answer y) es cs) e ∙ after-refused (number r) es cs)
+
+-- flags
 module _ (k : Kind) (src es cs : List ℕ) where
-  pub left-absent : (a : Answered) → a ≡ record { outcome = Absent; head = noHead } → readAs k src ≡ noFlags → shown a es cs ≡ deserializedAs k src es cs
-  left-absent a ea e = ap (λ (x : Answered). shown x es cs) ea ∙ sym (ap (λ (x : Read). after (answer x) es cs) e ∙ after-absent es cs)
-
-  pub left-refused : (a : Answered) (r : Refusal) (place : ℕ) → a ≡ record { outcome = Refused r; head = noHead } → readAs k src ≡ refusedAt r place
-      → shown a es cs ≡ deserializedAs k src es cs
-  left-refused a r place ea e = ap (λ (x : Answered). shown x es cs) ea ∙ sym (ap (λ (x : Read). after (answer x) es cs) e ∙ after-refused (number r) es cs)
-
   module _ (e : readAs k src ≡ someFlags (flagsIn k src)) (a : Answered) where
     left-flags : deserializedAs k src es cs ≡ after (ok (some (flagsIn k src))) es cs
     left-flags = ap (λ (x : Read). after (answer x) es cs) e

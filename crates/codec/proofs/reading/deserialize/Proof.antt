@@ -1,3 +1,12 @@
+-- `codec::reading::deserialize` meets its contract: byte 0 names the kind by which the bytes are read. Assumes nothing.
+use mathlib.Core.Path.{_≡_, sym, ap, _∙_}
+use native.Mathlib.Omega.{arith}
+use Rattle.records.specs.Answers.{after}
+use Rattle.records.specs.declared.head.KindByte.{KindByte}
+use Rattle.codec.specs.Reading.{Read, readByte, read}
+use Rattle.codec.specs.Calls.{answer}
+use Rattle.codec.proofs.Readings.{read-nothing, read-by-byte}
+use Rattle.codec.proofs.Settling.{left-absent, left-refused}
 use borrow.Author.Needs.{needs}
 use Rattle.codec.proofs.reading.deserialize.Statement.{statement}
 use Rattle.codec.proofs.reading.deserialize.Tie as tie
@@ -14,7 +23,9 @@ absent-requires c κs = search needs
 
 -- src/reading.rt:105:9
 returns : tie.Need-returns
-returns c = ?
+returns c =
+    let a = c .before .before .before .before .before .args in
+    left-absent (read (a .src .now)) (a .epochs .now) (a .counts .now) (c .absent .result) (c .absent .ensures) (read-nothing (a .src .now) (c .before .if1 .taken))
 
 -- src/reading.rt:107:33
 shared-slice-read-kind-of-byte : tie.Need-shared-slice-read-kind-of-byte
@@ -50,11 +61,19 @@ same-length-2 c = search needs
 
 -- src/reading.rt:101:1
 returns-2 : tie.Need-returns-2
-returns-2 c = ?
+returns-2 c =
+    let a = c .before .before .before .before .before .before .before .before .before .before .before .before .before .before .before .before .args in
+    let d = a .src .now in
+    c .before .before .before .before .read-as .ensures
+    ∙ ap (λ (x : Read). after (answer x) (a .epochs .now) (a .counts .now)) (sym (read-by-byte d (omega (arith, c .before .before .before .before .before .before .before .before .before .before .before .before .if1 .left)) ∙ ap (λ (b : KindByte). readByte b d) (sym (c .before .before .before .before .before .before .before .before .before .before .kind-of-byte .ensures) ∙ c .before .before .before .before .before .before .before .before .kind .given .1)))
 
 -- src/reading.rt:101:1
 returns-3 : tie.Need-returns-3
-returns-3 c = ?
+returns-3 c =
+    let a = c .before .before .before .before .before .before .before .before .before .args in
+    let d = a .src .now in
+    left-refused (read d) (a .epochs .now) (a .counts .now) (c .refused .result) _ 0 (c .refused .ensures)
+    (read-by-byte d (omega (arith, c .before .before .before .before .before .if1 .left)) ∙ ap (λ (b : KindByte). readByte b d) (sym (c .before .before .before .kind-of-byte .ensures) ∙ c .before .enum-told .given .1))
 
 pub deserialize-spec : {M : Type 1} → statement M
 deserialize-spec =

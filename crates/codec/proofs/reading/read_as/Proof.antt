@@ -1,7 +1,7 @@
 -- `codec::reading::read_as` meets its contract: what was judged decides. Assumes nothing.
 use mathlib.Core.Path.{_≡_, refl, ap, sym, _∙_}
 use Rattle.records.specs.Flags.{Flags, headOf}
-use Rattle.codec.specs.Reading.{readAs, someFlags, flagsIn}
+use Rattle.codec.specs.Reading.{Read, readAs, someFlags, flagsIn}
 use Rattle.codec.specs.declared.judging.Judgement.{Judgement}
 use Rattle.codec.proofs.Settling.{judged-absent, judged-refused, judged-present, read-whole, left-absent, left-refused}
 use borrow.Author.Needs.{needs}
@@ -50,16 +50,18 @@ settle-requires c κs =
 returns : tie.Need-returns
 returns c =
     let a = c .before .before .before .before .before .before .before .args in
-    left-absent (a .kind) (a .src .now) (a .epochs .now) (a .counts .now) (c .absent .result) (c .absent .ensures)
-    (judged-absent (readAs (a .kind) (a .src .now)) (sym (ap (λ (j : Judgement). j .verdict) (c .before .before .before .judge-as .ensures)) ∙ c .before .enum-told .given .1))
+    let x : Read = readAs (a .kind) (a .src .now) in
+    left-absent x (a .epochs .now) (a .counts .now) (c .absent .result) (c .absent .ensures)
+    (judged-absent x (sym (ap (λ (j : Judgement). j .verdict) (c .before .before .before .judge-as .ensures)) ∙ c .before .enum-told .given .1))
 
 -- src/reading.rt:57:1
 returns-2 : tie.Need-returns-2
 returns-2 c =
     let a = c .before .before .before .before .before .before .before .before .args in
+    let x : Read = readAs (a .kind) (a .src .now) in
     let g = c .before .before .verdict .given in
-    left-refused (a .kind) (a .src .now) (a .epochs .now) (a .counts .now) (c .refused .result) (g .0 .0) _ (c .refused .ensures)
-    (judged-refused (readAs (a .kind) (a .src .now)) (g .0 .0) _ (sym (ap (λ (j : Judgement). j .verdict) (c .before .before .before .before .judge-as .ensures)) ∙ g .1))
+    left-refused x (a .epochs .now) (a .counts .now) (c .refused .result) (g .0 .0) _ (c .refused .ensures)
+    (judged-refused x (g .0 .0) _ (sym (ap (λ (j : Judgement). j .verdict) (c .before .before .before .before .judge-as .ensures)) ∙ g .1))
 
 -- src/reading.rt:57:1
 same-length : tie.Need-same-length
