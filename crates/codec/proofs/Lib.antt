@@ -6,3 +6,5 @@ pub mod Fills
 pub mod Settling
 pub mod Sizing
 pub mod Writings
+pub mod RoundTrip
+pub mod Canonical

@@ -11,9 +11,6 @@ use Rattle.fields.proofs.Places.{value-on, first-inside, first-more, fi
 use borrow.Author.Needs.{needs}
 use Rattle.fields.proofs.varint.varint_at.Statement.{statement}
 use Rattle.fields.proofs.varint.varint_at.Tie as tie
-use Rattle.fields.proofs.varint.varint_at.Reads as reads
-use Rattle.fields.proofs.varint.varint_at.Lts as lts
-use Rattle.fields.proofs.varint.wide.Reads as wide-reads
 
 -- one to four bytes with the top bit set are passed
 one : (c : tie.Else1) → let a = c .before .before .before .args in Passed (a .src .now) (a .at) 1
@@ -59,144 +56,69 @@ module _ (d : List ℕ) (at : ℕ) where
       let e : getD d (at + 4) 0 % 16 ≡ getD d (at + 4) 0 % 128 = omega arith in
       ap₂ (λ (x y : ℕ). x + y * 268435456) (says-four (omega arith)) e ∙ value-on d at 4 (value (take 4 (drop at d))) h refl
 
--- src/varint.rt:160:17
 shared-slice-read-first : tie.Need-shared-slice-read-first
 shared-slice-read-first c = let a = c .before .before .args in first-inside (a .src .now) (a .at) (c .before .before .pre)
 
--- src/varint.rt:163:20
-wide-requires : tie.Need-wide-requires
-wide-requires c κs = search needs
-
--- src/varint.rt:164:19
 add-t15 : tie.Need-add-t15
 add-t15 c = let a = c .before .before .before .before .args in omega (arith, first-inside (a .src .now) (a .at) (c .before .before .before .before .pre))
 
--- src/varint.rt:162:9
 returns : tie.Need-returns
 returns c =
     let a = c .before .before .before .before .args in
     (λ i. Whole (record { count = c .wide .ensures i; next = a .at + 1 }))
     ∙ ap (readAt (a .at)) (sym (first-whole (a .src .now) (a .at) (first-inside (a .src .now) (a .at) (c .before .before .before .before .pre)) (c .before .if1 .taken)))
 
--- src/varint.rt:167:22
 add-second : tie.Need-add-second
 add-second c = omega (arith, one-more c)
 
--- src/varint.rt:167:18
 shared-slice-read-second : tie.Need-shared-slice-read-second
 shared-slice-read-second c = one-more (c .before)
 
--- src/varint.rt:168:15
-wide-requires-2 : tie.Need-wide-requires-2
-wide-requires-2 c κs = search needs
-
--- src/varint.rt:168:35
-wide-requires-3 : tie.Need-wide-requires-3
-wide-requires-3 c κs = search needs
-
--- src/varint.rt:168:35
-mul-two : tie.Need-mul-two
-mul-two c = search needs
-
--- src/varint.rt:168:15
-add-two : tie.Need-add-two
-add-two c = search needs
-
--- src/varint.rt:172:19
 add-t22 : tie.Need-add-t22
 add-t22 c = omega (arith, one-more (c .before .before .before .before))
 
--- src/varint.rt:170:9
 returns-2 : tie.Need-returns-2
 returns-2 c =
     let a = c .before .before .before .before .before .before .before .args in
     passed-read (a .src .now) (a .at) 1 (one (c .before .before .before .before)) (one-more (c .before .before .before .before)) (c .if2 .taken) (omega arith) _ (a .at + 2) (c .before .before .before .before .before .before .before .pre) (omega (arith, says-two (a .src .now) (a .at) (one-more (c .before .before .before .before)))) refl
 
--- src/varint.rt:175:21
 add-third : tie.Need-add-third
 add-third c = omega (arith, two-more c)
 
--- src/varint.rt:175:17
 shared-slice-read-third : tie.Need-shared-slice-read-third
 shared-slice-read-third c = two-more (c .before)
 
--- src/varint.rt:176:23
-wide-requires-4 : tie.Need-wide-requires-4
-wide-requires-4 c κs = search needs
-
--- src/varint.rt:176:23
-mul-three : tie.Need-mul-three
-mul-three c = search needs
-
--- src/varint.rt:176:17
-add-three : tie.Need-add-three
-add-three c = search needs
-
--- src/varint.rt:180:19
 add-t24 : tie.Need-add-t24
 add-t24 c = omega (arith, two-more (c .before .before .before))
 
--- src/varint.rt:178:9
 returns-3 : tie.Need-returns-3
 returns-3 c =
     let a = c .before .before .before .before .before .before .before .before .before .before .args in
     passed-read (a .src .now) (a .at) 2 (two (c .before .before .before)) (two-more (c .before .before .before)) (c .if3 .taken) (omega arith) _ (a .at + 3) (c .before .before .before .before .before .before .before .before .before .before .pre) (omega (arith, says-three (a .src .now) (a .at) (two-more (c .before .before .before)))) refl
 
--- src/varint.rt:183:22
 add-fourth : tie.Need-add-fourth
 add-fourth c = omega (arith, three-more c)
 
--- src/varint.rt:183:18
 shared-slice-read-fourth : tie.Need-shared-slice-read-fourth
 shared-slice-read-fourth c = three-more (c .before)
 
--- src/varint.rt:184:24
-wide-requires-5 : tie.Need-wide-requires-5
-wide-requires-5 c κs = search needs
-
--- src/varint.rt:184:24
-mul-four : tie.Need-mul-four
-mul-four c = search needs
-
--- src/varint.rt:184:16
-add-four : tie.Need-add-four
-add-four c = search needs
-
--- src/varint.rt:188:19
 add-t26 : tie.Need-add-t26
 add-t26 c = omega (arith, three-more (c .before .before .before))
 
--- src/varint.rt:186:9
 returns-4 : tie.Need-returns-4
 returns-4 c =
     let a = c .before .before .before .before .before .before .before .before .before .before .before .before .before .args in
     passed-read (a .src .now) (a .at) 3 (three (c .before .before .before)) (three-more (c .before .before .before)) (c .if4 .taken) (omega arith) _ (a .at + 4) (c .before .before .before .before .before .before .before .before .before .before .before .before .before .pre) (omega (arith, says-four (a .src .now) (a .at) (three-more (c .before .before .before)))) refl
 
--- src/varint.rt:191:21
 add-fifth : tie.Need-add-fifth
 add-fifth c = omega (arith, four-more c)
 
--- src/varint.rt:191:17
 shared-slice-read-fifth : tie.Need-shared-slice-read-fifth
 shared-slice-read-fifth c = four-more (c .before)
 
--- src/varint.rt:193:23
-wide-requires-6 : tie.Need-wide-requires-6
-wide-requires-6 c κs = search needs
-
--- src/varint.rt:193:23
-mul-t21 : tie.Need-mul-t21
-mul-t21 c = search needs
-
--- src/varint.rt:193:16
-add-t18 : tie.Need-add-t18
-add-t18 c = search needs
-
--- src/varint.rt:194:15
 add-t16 : tie.Need-add-t16
 add-t16 c = omega (arith, four-more (c .before .before))
 
--- src/varint.rt:156:1
 returns-5 : tie.Need-returns-5
 returns-5 c =
     let a = c .before .before .before .before .before .before .before .before .before .before .before .before .before .before .before .args in
@@ -214,35 +136,35 @@ varint-at-spec =
     tie.close
     (tie.spec
     shared-slice-read-first
-    wide-requires
+    (λ c κs. search needs)
     add-t15
     returns
     add-second
     shared-slice-read-second
-    wide-requires-2
-    wide-requires-3
-    mul-two
-    add-two
+    (λ c κs. search needs)
+    (λ c κs. search needs)
+    (λ c. search needs)
+    (λ c. search needs)
     add-t22
     returns-2
     add-third
     shared-slice-read-third
-    wide-requires-4
-    mul-three
-    add-three
+    (λ c κs. search needs)
+    (λ c. search needs)
+    (λ c. search needs)
     add-t24
     returns-3
     add-fourth
     shared-slice-read-fourth
-    wide-requires-5
-    mul-four
-    add-four
+    (λ c κs. search needs)
+    (λ c. search needs)
+    (λ c. search needs)
     add-t26
     returns-4
     add-fifth
     shared-slice-read-fifth
-    wide-requires-6
-    mul-t21
-    add-t18
+    (λ c κs. search needs)
+    (λ c. search needs)
+    (λ c. search needs)
     add-t16
     returns-5)
