@@ -119,6 +119,7 @@ kind-byte b k e =
   where
     same : (j : Kind) → kindOfByte b ≡ Known j → j ≡ k
     same j q = let z : Known j ≡ Known k = sym q ∙ e in cc
+
     other : kindOfByte b ≡ Unknown → ⊥
     other q = let y : Unknown ≡ Known k = sym q ∙ e in let z : _≡_ {A = ℕ} 0 1 = cc in omega arith
 

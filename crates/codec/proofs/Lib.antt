@@ -8,3 +8,5 @@ pub mod Sizing
 pub mod Writings
 pub mod RoundTrip
 pub mod Canonical
+pub mod Calls
+pub mod Marked
