@@ -3,7 +3,7 @@ use mathlib.Core.Path.{refl, sym, ap, _∙_}
 use Prim.Native.Nat.{_+_}
 use native.Mathlib.Omega.{arith}
 use Rattle.fields.specs.Varint.{judgedAt}
-use Rattle.fields.proofs.Places.{passed-cut, passed-more, passed-judged, fifth-fits, fifth-large}
+use Rattle.fields.proofs.Places.{judged-cut, passed-more, passed-judged, fifth-fits, fifth-large}
 use borrow.Author.Needs.{needs}
 use Rattle.fields.proofs.varint.judge_fifth.Statement.{statement}
 use Rattle.fields.proofs.varint.judge_fifth.Tie as tie
@@ -11,7 +11,7 @@ use Rattle.fields.proofs.varint.judge_fifth.Tie as tie
 returns : tie.Need-returns
 returns c =
     let a = c .before .before .args in
-    ap (judgedAt (a .at)) (sym (passed-cut (a .src .now) (a .at) 4 (c .before .before .pre .0) (omega arith)))
+    judged-cut (a .src .now) (a .at) 4 (c .before .before .pre .0) (omega arith)
 
 returns-2 : tie.Need-returns-2
 returns-2 c =

@@ -6,7 +6,7 @@ use native.Mathlib.Omega.{arith}
 use borrow.Author.Needs.{needs}
 use lib.ListN.{length}
 use Rattle.fields.specs.Varint.{Passed, judgedAt}
-use Rattle.fields.proofs.Places.{passed-cut, passed-ten, passed-more, passed-long}
+use Rattle.fields.proofs.Places.{judged-cut, passed-ten, passed-more, passed-long}
 use Rattle.fields.proofs.varint.judge_long.Statement.{statement}
 use Rattle.fields.proofs.varint.judge_long.Tie as tie
 
@@ -26,7 +26,7 @@ returns : tie.Need-returns Inv-loop μ-loop
 returns c =
     let a = c .before .before .before .args in
     let l = c .before .before .loop in
-    ap (judgedAt (a .at)) (sym (passed-cut (a .src .now) (a .at) (l .k) (l .inv .3) (c .if1 .taken)))
+    judged-cut (a .src .now) (a .at) (l .k) (l .inv .3) (c .if1 .taken)
 
 returns-2 : tie.Need-returns-2 Inv-loop μ-loop
 returns-2 c =

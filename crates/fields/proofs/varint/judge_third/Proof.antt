@@ -1,9 +1,9 @@
 -- `fields::varint::judge_third` meets its contract: the third or the fourth byte is missing, the last, or not the last. Assumes nothing.
-use mathlib.Core.Path.{refl, sym, ap, _∙_}
+use mathlib.Core.Path.{refl, _∙_}
 use Prim.Native.Nat.{_+_}
 use native.Mathlib.Omega.{arith}
-use Rattle.fields.specs.Varint.{Passed, judgedAt}
-use Rattle.fields.proofs.Places.{passed-cut, passed-more, passed-judged, passed-small}
+use Rattle.fields.specs.Varint.{Passed}
+use Rattle.fields.proofs.Places.{passed-more, judged-cut, judged-small}
 use borrow.Author.Needs.{needs}
 use Rattle.fields.proofs.varint.judge_third.Statement.{statement}
 use Rattle.fields.proofs.varint.judge_third.Tie as tie
@@ -15,26 +15,22 @@ three c = let a = c .before .before .before .before .args in passed-more (a .src
 returns : tie.Need-returns
 returns c =
     let a = c .before .before .args in
-    ap (judgedAt (a .at)) (sym (passed-cut (a .src .now) (a .at) 2 (c .before .before .pre .0) (omega arith)))
+    judged-cut (a .src .now) (a .at) 2 (c .before .before .pre .0) (omega arith)
 
 returns-2 : tie.Need-returns-2
 returns-2 c =
     let a = c .before .before .before .before .before .args in
-    let p = c .before .before .before .before .before .pre .0 in
-    c .end-at .ensures
-    ∙ passed-judged (a .src .now) (a .at) 2 p (omega arith) (c .before .if2 .taken) (omega arith) (a .at + 3) (omega arith) refl (passed-small (a .src .now) (a .at) 2 p (omega arith))
+    c .end-at .ensures ∙ judged-small (a .src .now) (a .at) 2 (c .before .before .before .before .before .pre .0) (a .at + 3) (omega arith) (omega arith) (omega arith) (c .before .if2 .taken) refl
 
 returns-3 : tie.Need-returns-3
 returns-3 c =
     let a = c .before .before .before .before .before .args in
-    ap (judgedAt (a .at)) (sym (passed-cut (a .src .now) (a .at) 3 (three (c .before)) (omega arith)))
+    judged-cut (a .src .now) (a .at) 3 (three (c .before)) (omega arith)
 
 returns-4 : tie.Need-returns-4
 returns-4 c =
     let a = c .before .before .before .before .before .before .before .before .args in
-    let p = three (c .before .before .before .before) in
-    c .end-at2 .ensures
-    ∙ passed-judged (a .src .now) (a .at) 3 p (omega arith) (c .before .if4 .taken) (omega arith) (a .at + 4) (omega arith) refl (passed-small (a .src .now) (a .at) 3 p (omega arith))
+    c .end-at2 .ensures ∙ judged-small (a .src .now) (a .at) 3 (three (c .before .before .before .before)) (a .at + 4) (omega arith) (omega arith) (omega arith) (c .before .if4 .taken) refl
 
 judge-fifth-requires : tie.Need-judge-fifth-requires
 judge-fifth-requires c κs =

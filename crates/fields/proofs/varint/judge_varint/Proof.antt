@@ -3,7 +3,7 @@ use mathlib.Core.Path.{refl, sym, ap, _∙_}
 use Prim.Native.Nat.{_+_}
 use native.Mathlib.Omega.{arith}
 use Rattle.fields.specs.Varint.{Passed, judgedAt}
-use Rattle.fields.proofs.Places.{passed-none, first-more, first-whole, passed-cut, passed-more, passed-judged, passed-small}
+use Rattle.fields.proofs.Places.{passed-none, first-more, first-whole, passed-more, judged-cut, judged-small}
 use borrow.Author.Needs.{needs}
 use Rattle.fields.proofs.varint.judge_varint.Statement.{statement}
 use Rattle.fields.proofs.varint.judge_varint.Tie as tie
@@ -15,7 +15,7 @@ one c = let a = c .before .before .before .before .args in first-more (a .src .n
 returns : tie.Need-returns
 returns c =
     let a = c .before .before .args in
-    ap (judgedAt (a .at)) (sym (passed-cut (a .src .now) (a .at) 0 (passed-none (a .src .now) (a .at)) (omega arith)))
+    judged-cut (a .src .now) (a .at) 0 (passed-none (a .src .now) (a .at)) (omega arith)
 
 returns-2 : tie.Need-returns-2
 returns-2 c =
@@ -25,14 +25,12 @@ returns-2 c =
 returns-3 : tie.Need-returns-3
 returns-3 c =
     let a = c .before .before .before .before .before .args in
-    ap (judgedAt (a .at)) (sym (passed-cut (a .src .now) (a .at) 1 (one (c .before)) (omega arith)))
+    judged-cut (a .src .now) (a .at) 1 (one (c .before)) (omega arith)
 
 returns-4 : tie.Need-returns-4
 returns-4 c =
     let a = c .before .before .before .before .before .before .before .before .args in
-    let p = one (c .before .before .before .before) in
-    c .end-at .ensures
-    ∙ passed-judged (a .src .now) (a .at) 1 p (omega arith) (c .before .if4 .taken) (omega arith) (a .at + 2) (omega arith) refl (passed-small (a .src .now) (a .at) 1 p (omega arith))
+    c .end-at .ensures ∙ judged-small (a .src .now) (a .at) 1 (one (c .before .before .before .before)) (a .at + 2) (omega arith) (omega arith) (omega arith) (c .before .if4 .taken) refl
 
 judge-third-requires : tie.Need-judge-third-requires
 judge-third-requires c κs =
