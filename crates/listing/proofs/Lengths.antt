@@ -4,13 +4,14 @@ use mathlib.Core.Path.{_≡_, ap, _∙_}
 use mathlib.Core.List.{List, [], _++_}
 use Prim.Native.Nat.{ℕ, _+_, _≤_, _<_}
 use native.Mathlib.Omega.{arith}
-use lib.ListN.{length, drop, getD, length-append, drop-of-length-le}
+use lib.ListN.{length, take, drop, getD, length-append, drop-of-length-le}
+use lib.Seq.{length-take-le}
 use Rattle.records.specs.Tables.{_⦂_, recordsOf}
 use Rattle.records.specs.Flags.{typeByte, ownerOf}
 use Rattle.records.specs.declared.head.Head.{Head}
 use Rattle.records.proofs.Tables.{records-on}
 use Rattle.listing.specs.Text.{ascii, decimal, line, ownerLine, recordLine, recordLines}
-use Rattle.listing.specs.Heads.{headText}
+use Rattle.listing.specs.Heads.{headText, Held}
 
 pub length-line : (word : List ℕ) (n : ℕ) → length (word ++ (decimal n ++ ascii "\n")) ≡ length word + length (decimal n) + 1
 length-line word n = simp length-append (omega arith)
@@ -46,3 +47,12 @@ module _ (es cs : List ℕ) (k : ℕ) where
   pub lines-end : length es ≤ k → linesFrom es cs k ≡ []
   unfolding recordLines recordsOf
   lines-end h = rw (drop-of-length-le es {i = k} h)
+
+-- ---- tables that hold the records of a head
+
+module _ {h : Head} {es cs : List ℕ} (p : Held h es cs) where
+  pub held-epochs : length (take (h .records) es) ≡ h .records
+  held-epochs = length-take-le (h .records) es (p .epochs-long)
+
+  pub held-counts : length (take (h .records) cs) ≡ h .records
+  held-counts = length-take-le (h .records) cs (p .counts-long)
