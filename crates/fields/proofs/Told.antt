@@ -1,10 +1,10 @@
 -- What is found, as judging answers it and as reading answers it: the one leads to the other. Assumes nothing.
 use mathlib.Core.Path.{_≡_, refl, sym, ap, _∙_}
-use mathlib.Core.Bool.{true}
 use Prim.Native.Nat.{ℕ, _+_}
-use Rattle.fields.specs.Varint.{Found, incomplete, notCanonical, whole, judgedAt, readAt, isWhole}
+use Rattle.fields.specs.Varint.{Found, incomplete, notCanonical, whole, judgedAt, readAt}
 use Rattle.fields.specs.declared.varint.Judged.the-variants.{Incomplete, NotCanonical, Ends}
-use Rattle.fields.specs.declared.varint.Reading.the-variants.{Incomplete as NoVarint, NotCanonical as OtherVarint}
+use Rattle.fields.specs.declared.varint.Varint.{Varint}
+use Rattle.fields.specs.declared.varint.Reading.the-variants.{Whole}
 
 -- found incomplete
 pub told-incomplete : (at place : ℕ) (f : Found) → judgedAt at f ≡ Incomplete place → (f ≡ incomplete) × (at ≡ place)
@@ -17,7 +17,22 @@ told-strange at place incomplete e = (cc, cc)
 told-strange at place notCanonical e = (refl, cc)
 told-strange at place (whole v u) e = (cc, cc)
 
-pub told-whole : (at next : ℕ) (f : Found) → judgedAt at f ≡ Ends next → isWhole f ≡ true
-told-whole at next incomplete e = cc
-told-whole at next notCanonical e = cc
-told-whole at next (whole v u) e = refl
+-- found whole, with what it says and its number of bytes
+pub record Told (at next : ℕ) (f : Found) : Type 0 where
+  pub count : ℕ
+  pub used : ℕ
+  pub is-whole : f ≡ whole count used
+  pub is-behind : next ≡ at + used
+
+pub told-ends : (at next : ℕ) (f : Found) → judgedAt at f ≡ Ends next → Told at next f
+told-ends at next incomplete e = record { count = 0; used = 0; is-whole = cc; is-behind = cc }
+told-ends at next notCanonical e = record { count = 0; used = 0; is-whole = cc; is-behind = cc }
+told-ends at next (whole v u) e = record { count = v; used = u; is-whole = refl; is-behind = cc }
+
+-- the same of what was read
+pub told-read : (at count next : ℕ) (f : Found) → Whole (record { count = count; next = next }) ≡ readAt at f → (used : ℕ) × (f ≡ whole count used) × (next ≡ at + used)
+told-read at count next incomplete e = (0, cc, cc)
+told-read at count next notCanonical e = (0, cc, cc)
+told-read at count next (whole v u) e =
+    let r : _≡_ {A = Varint} (record { count = count; next = next }) (record { count = v; next = at + u }) = cc in
+    (u, ap (λ (x : Varint). whole (x .count) u) (sym r), ap (λ (x : Varint). x .next) r)

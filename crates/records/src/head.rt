@@ -1,6 +1,5 @@
 // The head of flags, by value, and the calls on it alone.
 ghost use mathlib.Core.Path.{_≡_};
-ghost use mathlib.Core.List.{[]};
 ghost use Rattle.records.specs.Flags.{owned, multi, typeByte, kindOfByte, ownerIf, ownerOf, maybeOwner, headFor, withOwner};
 
 pub type OwnerId = [u8; 32];

@@ -1,10 +1,10 @@
 -- `fields::varint::read_varint` meets its contract: what judging found decides, and a whole varint is then read. Assumes nothing.
 use mathlib.Core.Path.{sym, ap, _∙_}
 use Prim.Native.Nat.{ℕ}
-use Rattle.fields.specs.Varint.{found, judgedAt, readAt}
+use Rattle.fields.specs.Varint.{found, readAt, isWhole}
 use lib.ListN.{drop}
 use Rattle.fields.specs.declared.varint.Reading.the-variants.{Incomplete, NotCanonical}
-use Rattle.fields.proofs.Told.{told-incomplete, told-strange, told-whole}
+use Rattle.fields.proofs.Told.{told-incomplete, told-strange, told-ends}
 use borrow.Author.Needs.{needs}
 use Rattle.fields.proofs.varint.read_varint.Statement.{statement}
 use Rattle.fields.proofs.varint.read_varint.Tie as tie
@@ -33,7 +33,7 @@ enum-told c = search needs
 varint-at-requires : tie.Need-varint-at-requires
 varint-at-requires c κs =
     let a = c .before .before .before .before .args in
-    told-whole (a .at) _ (found (drop (a .at) (a .src .now))) (sym (c .before .before .judge-varint .ensures) ∙ c .enum-told .given .1)
+    ap isWhole (told-ends (a .at) _ (found (drop (a .at) (a .src .now))) (sym (c .before .before .judge-varint .ensures) ∙ c .enum-told .given .1) .is-whole)
 
 -- src/varint.rt:199:1
 returns : tie.Need-returns

@@ -24,19 +24,10 @@ loop-holds c =
     let p = c .before .before .before .before .pre in
     (walking-start (p .0) (p .1 .0) (p .1 .1), omega arith, omega arith)
 
-add-loop : tie.Need-add-loop Inv-loop μ-loop
-add-loop c = omega arith
-
 next-record-requires : tie.Need-next-record-requires Inv-loop μ-loop
 next-record-requires c κs =
     let p = c .before .before .before .before .before .before .pre in
     (p .0, (p .1 .0, walking-within (c .before .loop .inv .0) (c .loop-test .taken)))
-
-add-n : tie.Need-add-n Inv-loop μ-loop
-add-n c = omega arith
-
-loop-less : tie.Need-loop-less Inv-loop μ-loop
-loop-less c = omega arith
 
 loop-again : tie.Need-loop-again Inv-loop μ-loop
 loop-again c =
@@ -57,9 +48,9 @@ union-len-spec =
     μ-loop
     (λ c. search needs)
     loop-holds
-    add-loop
+    (λ c. omega arith)
     next-record-requires
-    add-n
-    loop-less
+    (λ c. omega arith)
+    (λ c. omega arith)
     loop-again
     returns)

@@ -1,0 +1,6 @@
+pub mod Parsing
+pub mod Turns
+pub mod Readings
+pub mod Copying
+pub mod Fills
+pub mod Settling

@@ -1,0 +1,120 @@
+-- From what was judged to what a reader leaves: flags that are there go to the lent tables where these have room.
+-- Assumes nothing.
+use Prim.Native.Nat.{ℕ, _≤_, _<_}
+use native.Mathlib.Decide.{decLt, ℕ-discrete}
+use native.Mathlib.Omega.{arith}
+use mathlib.Core.Path.{_≡_, refl, sym, ap, ap₂, _∙_}
+use mathlib.Core.Bool.{Bool, true, false}
+use mathlib.Core.Option.{Option, none, some}
+use mathlib.Core.List.{List, [], _∷_}
+use lib.ListN.{length}
+use Rattle.records.specs.Tables.{At, epochsOf, countsOf, Placed}
+use Rattle.records.specs.Refusals.{number}
+use Rattle.records.specs.Flags.{Flags, flags, multi, headOf, noHead}
+use Rattle.records.specs.Answers.{ok, refused, After, shown, after}
+use Rattle.records.specs.declared.refusal.Refusal.{Refusal}
+use Rattle.records.specs.declared.refusal.Refusal.the-variants.{WrongSize, NoRoom}
+use Rattle.records.specs.declared.head.Kind.{Kind}
+use Rattle.records.specs.declared.head.Head.{Head}
+use Rattle.records.specs.declared.answer.Answered.{Answered}
+use Rattle.records.specs.declared.answer.Outcome.the-variants.{Absent, Present, Refused}
+use Rattle.records.proofs.Tables.{length-epochsOf, length-countsOf, over-sets}
+use Rattle.records.proofs.Answers.{after-refused, after-absent, after-placed, after-no-epochs, after-no-counts}
+use Rattle.codec.specs.Bytes.{headSize}
+use Rattle.codec.specs.Reading.{Fault, Parsed, Read, noFlags, someFlags, refusedAt, withRecords, baseIn, ownerIn, recordsIn, flagsIn, readAs}
+use Rattle.codec.specs.Calls.{Complete, judgement, answer, deserializedAs}
+use Rattle.codec.specs.declared.judging.Judgement.{Judgement}
+use Rattle.codec.specs.declared.judging.Verdict.{Verdict}
+use Rattle.codec.specs.declared.judging.Verdict.the-variants.{Absent as IsAbsent, Present as IsPresent, Refused as IsRefused}
+use Rattle.codec.proofs.Parsing.{rest-end}
+use Rattle.codec.proofs.Readings.{multi-short, multi-long, single-right, single-wrong}
+
+-- ---- what a judgement says of the bytes
+
+pub judged-absent : (x : Read) → judgement x .verdict ≡ IsAbsent → x ≡ noFlags
+judged-absent noFlags e = refl
+judged-absent (someFlags f) e = cc
+judged-absent (refusedAt r p) e = cc
+
+pub judged-refused : (x : Read) (r : Refusal) (place : ℕ) → judgement x .verdict ≡ IsRefused r place → x ≡ refusedAt r place
+judged-refused noFlags r place e = cc
+judged-refused (someFlags f) r place e = cc
+judged-refused (refusedAt s p) r place e = cc
+
+pub judged-present : (x : Read) → judgement x .verdict ≡ IsPresent → (f : Flags) × (x ≡ someFlags f) × (judgement x .head ≡ headOf f)
+judged-present noFlags e = let z : _≡_ {A = ℕ} 0 1 = cc in absurd (omega arith)
+judged-present (someFlags f) e = (f, refl, refl)
+judged-present (refusedAt r p) e = let z : _≡_ {A = ℕ} 0 1 = cc in absurd (omega arith)
+
+-- ---- flags that were read stand in the bytes, all their records without a fault
+
+pub record Whole (k : Kind) (xs : List ℕ) (f : Flags) : Type 0 where
+  pub complete : Complete k xs (length (recordsIn k xs .records))
+  pub in-bytes : f ≡ flagsIn k xs
+
+no-refusal : (r : Refusal) (p : ℕ) (f : Flags) → refusedAt r p ≡ someFlags f → ⊥
+no-refusal r p f e = let z : _≡_ {A = ℕ} 0 1 = cc in omega arith
+
+with-flags : (end base : ℕ) (owner : Option (List ℕ)) (ft : Option Fault) (rs : List At) (f : Flags) → withRecords end base owner ft rs ≡ someFlags f
+    → (ft ≡ none) × (f ≡ flags base owner rs)
+with-flags end base owner (some x) rs f e = absurd (no-refusal _ _ f e)
+with-flags end base owner none [] f e = absurd (no-refusal _ _ f e)
+with-flags end base owner none (r ∷ rs) f e = (refl, cc)
+
+pub read-whole : (k : Kind) (xs : List ℕ) (f : Flags) → readAs k xs ≡ someFlags f → Whole k xs f
+read-whole k xs f e = by (multi k) refl
+  where
+    by : (b : Bool) → multi k ≡ b → Whole k xs f
+    by true m =
+        elim (decLt (length xs) (headSize k)) [
+          | yes h ↦ absurd (no-refusal _ _ f (sym (multi-short k xs m h) ∙ e))
+          | no h ↦
+              let w = with-flags (length xs) (baseIn k xs) (ownerIn k xs) (recordsIn k xs .fault) (recordsIn k xs .records) f (sym (multi-long k xs m (omega arith)) ∙ e) in
+              record { complete = record { head-inside = omega arith; no-fault = w .0; all-there = refl }; in-bytes = w .1 }
+        ]
+    by false m =
+        elim (ℕ-discrete (length xs) (headSize k)) [
+          | yes h ↦
+              let z = rest-end xs (headSize k) (baseIn k xs) (omega arith) in
+              let g : someFlags (flags (baseIn k xs) (ownerIn k xs) []) ≡ someFlags f = sym (single-right k xs m h) ∙ e in
+              let i : flags (baseIn k xs) (ownerIn k xs) [] ≡ f = cc in
+              record {
+                complete = record { head-inside = omega arith; no-fault = ap (λ (p : Parsed). p .fault) z; all-there = refl };
+                in-bytes = sym i ∙ ap (λ (p : Parsed). flags (baseIn k xs) (ownerIn k xs) (p .records)) (sym z);
+              }
+          | no h ↦ absurd (no-refusal _ _ f (sym (single-wrong k xs m h) ∙ e))
+        ]
+
+-- ---- what a reader leaves
+
+-- no flags, or a refusal
+module _ (x : Read) (es cs : List ℕ) (a : Answered) where
+  pub left-absent : a ≡ record { outcome = Absent; head = noHead } → x ≡ noFlags → shown a es cs ≡ after (answer x) es cs
+  left-absent ea e = ap (λ (b : Answered). shown b es cs) ea ∙ sym (ap (λ (y : Read). after (answer y) es cs) e ∙ after-absent es cs)
+
+  pub left-refused : (r : Refusal) (place : ℕ) → a ≡ record { outcome = Refused r; head = noHead } → x ≡ refusedAt r place → shown a es cs ≡ after (answer x) es cs
+  left-refused r place ea e =
+      ap (λ (b : Answered). shown b es cs) ea ∙ sym (ap (λ (y : Read). after (answer y) es cs) e ∙ after-refused (number r) es cs)
+
+-- flags
+module _ (k : Kind) (src es cs : List ℕ) where
+  module _ (e : readAs k src ≡ someFlags (flagsIn k src)) (a : Answered) where
+    left-flags : deserializedAs k src es cs ≡ after (ok (some (flagsIn k src))) es cs
+    left-flags = ap (λ (x : Read). after (answer x) es cs) e
+
+    pub left-no-epochs : a ≡ record { outcome = Refused NoRoom; head = noHead } → length es < length (recordsIn k src .records) → shown a es cs ≡ deserializedAs k src es cs
+    left-no-epochs ea h = ap (λ (x : Answered). shown x es cs) ea ∙ sym (left-flags ∙ after-no-epochs (flagsIn k src) es cs h)
+
+    pub left-no-counts : a ≡ record { outcome = Refused NoRoom; head = noHead } → length cs < length (recordsIn k src .records) → shown a es cs ≡ deserializedAs k src es cs
+    left-no-counts ea h = ap (λ (x : Answered). shown x es cs) ea ∙ sym (left-flags ∙ after-no-counts (flagsIn k src) es cs h)
+
+    pub left-placed : (head : Head) (n : ℕ) (es′ cs′ : List ℕ) → a ≡ record { outcome = Present; head = head } → head ≡ headOf (flagsIn k src)
+        → Placed (recordsIn k src .records) 0 n es cs es′ cs′ → length (recordsIn k src .records) ≤ length es → length (recordsIn k src .records) ≤ length cs
+        → shown a es′ cs′ ≡ deserializedAs k src es cs
+    left-placed head n es′ cs′ ea eh p he hc =
+        let rs : List At = recordsIn k src .records in
+        let ee = p .epochs-set ∙ over-sets (epochsOf rs) es (omega (arith, length-epochsOf rs)) in
+        let ec = p .counts-set ∙ over-sets (countsOf rs) cs (omega (arith, length-countsOf rs)) in
+        ap (λ (x : Answered). shown x es′ cs′) ea
+        ∙ (λ i. record { refusal = 0; present = true; head = eh i; epochs = ee i; counts = ec i })
+        ∙ sym (left-flags ∙ after-placed (flagsIn k src) es cs he hc)

@@ -1,0 +1,97 @@
+-- `codec::judging::judge_multi` meets its contract: the size and what scanning the records found lead to each case of `readAs`.
+-- Assumes nothing.
+use mathlib.Core.Path.{_≡_, sym, ap, _∙_}
+use Prim.Native.Nat.{ℕ}
+use native.Mathlib.Omega.{arith}
+use Rattle.records.specs.Flags.{headFor}
+use Rattle.codec.specs.Reading.{baseIn, ownerIn}
+use Rattle.codec.specs.Calls.{judgement}
+use Rattle.codec.specs.declared.judging.Judgement.{Judgement}
+use Rattle.codec.specs.declared.judging.Verdict.the-variants.{Present}
+use Rattle.codec.proofs.Readings.{multi-short, agrees-multi, scan-faulty, scan-records, scan-read}
+use borrow.Author.Needs.{needs}
+use Rattle.codec.proofs.judging.judge_multi.Statement.{statement}
+use Rattle.codec.proofs.judging.judge_multi.Tie as tie
+use Rattle.codec.proofs.judging.judge_multi.Reads as reads
+use Rattle.codec.proofs.judging.judge_multi.Lts as lts
+use Rattle.codec.proofs.judging.base_in.Reads as base-in-reads
+use Rattle.codec.proofs.judging.head_size.Reads as head-size-reads
+use Rattle.codec.proofs.judging.judge_records.Reads as judge-records-reads
+use Rattle.codec.proofs.judging.present.Reads as present-reads
+use Rattle.codec.proofs.judging.refused_at.Reads as refused-at-reads
+
+-- src/judging.rt:179:9
+head-size-requires : tie.Need-head-size-requires
+head-size-requires c κs = search needs
+
+-- src/judging.rt:181:9
+refused-at-requires : tie.Need-refused-at-requires
+refused-at-requires c κs = search needs
+
+-- src/judging.rt:181:9
+returns : tie.Need-returns
+returns c =
+    let a = c .before .before .before .before .args in
+    c .refused-at .ensures ∙ ap judgement (sym (multi-short (a .kind) (a .src .now) (c .before .before .before .before .pre) (omega (arith, c .before .before .head-size .ensures))))
+
+-- src/judging.rt:183:9
+base-in-requires : tie.Need-base-in-requires
+base-in-requires c κs = search needs
+
+-- src/judging.rt:184:11
+judge-records-requires : tie.Need-judge-records-requires
+judge-records-requires c κs = search needs
+
+-- src/judging.rt:185:22
+enum-known-refusal : tie.Need-enum-known-refusal
+enum-known-refusal c = search needs
+
+-- src/judging.rt:185:41
+refused-at-requires-2 : tie.Need-refused-at-requires-2
+refused-at-requires-2 c κs = search needs
+
+-- src/judging.rt:186:23
+enum-known-n : tie.Need-enum-known-n
+enum-known-n c = search needs
+
+-- src/judging.rt:186:29
+present-requires : tie.Need-present-requires
+present-requires c κs =
+    let a = c .before .before .before .before .before .before .before .before .args in
+    let g = c .before .n .given in
+    let s = scan-records (a .kind) (a .src .now) (c .before .before .before .before .before .before .head-size .result) (c .before .before .before .before .base-in .result) (c .before .before .before .judge-records .result) (c .before .before .before .before .before .before .head-size .ensures) (c .before .before .before .before .base-in .ensures) (c .before .before .before .judge-records .ensures) (c .before .before .before .before .before .before .before .before .pre) (c .before .before .before .before .before .if1 .left) (g .0 .0) (g .1) in
+    (omega (arith, c .before .before .before .before .before .before .head-size .ensures), agrees-multi (a .kind) (g .0 .0) (c .before .before .before .before .before .before .before .before .pre) (s .some-records))
+
+-- src/judging.rt:175:1
+returns-2 : tie.Need-returns-2
+returns-2 c =
+    let a = c .before .before .before .before .before .before .before .before .before .args in
+    let g = c .before .before .refusal .given in
+    c .refused-at2 .ensures
+    ∙ ap judgement (sym (scan-faulty (a .kind) (a .src .now) (c .before .before .before .before .before .before .before .head-size .result) (c .before .before .before .before .before .base-in .result) (c .before .before .before .before .judge-records .result) (c .before .before .before .before .before .before .before .head-size .ensures) (c .before .before .before .before .before .base-in .ensures) (c .before .before .before .before .judge-records .ensures) (c .before .before .before .before .before .before .before .before .before .pre) (c .before .before .before .before .before .before .if1 .left) (g .0 .0) (g .0 .1 .0) (g .1)))
+
+-- src/judging.rt:175:1
+returns-3 : tie.Need-returns-3
+returns-3 c =
+    let a = c .before .before .before .before .before .before .before .before .before .args in
+    let g = c .before .before .n .given in
+    let s = scan-records (a .kind) (a .src .now) (c .before .before .before .before .before .before .before .head-size .result) (c .before .before .before .before .before .base-in .result) (c .before .before .before .before .judge-records .result) (c .before .before .before .before .before .before .before .head-size .ensures) (c .before .before .before .before .before .base-in .ensures) (c .before .before .before .before .judge-records .ensures) (c .before .before .before .before .before .before .before .before .before .pre) (c .before .before .before .before .before .before .if1 .left) (g .0 .0) (g .1) in
+    c .present .ensures
+    ∙ ap (λ (n : ℕ). record { verdict = Present; head = headFor (baseIn (a .kind) (a .src .now)) (ownerIn (a .kind) (a .src .now)) n }) (s .count)
+    ∙ ap judgement (sym (scan-read (a .kind) (a .src .now) (c .before .before .before .before .before .before .before .head-size .result) (c .before .before .before .before .before .base-in .result) (c .before .before .before .before .judge-records .result) (c .before .before .before .before .before .before .before .head-size .ensures) (c .before .before .before .before .before .base-in .ensures) (c .before .before .before .before .judge-records .ensures) (c .before .before .before .before .before .before .before .before .before .pre) (c .before .before .before .before .before .before .if1 .left) (g .0 .0) (g .1)))
+
+pub judge-multi-spec : {M : Type 1} → statement M
+judge-multi-spec =
+    tie.close
+    (tie.spec
+    head-size-requires
+    refused-at-requires
+    returns
+    base-in-requires
+    judge-records-requires
+    enum-known-refusal
+    refused-at-requires-2
+    enum-known-n
+    present-requires
+    returns-2
+    returns-3)

@@ -1,0 +1,30 @@
+-- `codec::judging::present` meets its contract: the kind is the one that its owner and its records tell. Assumes nothing.
+use mathlib.Core.Path.{_≡_, sym}
+use lib.ListN.{take, drop}
+use Rattle.records.proofs.Proper.{kind-agrees}
+use Rattle.codec.specs.declared.judging.Verdict.the-variants.{Present}
+use borrow.Author.Needs.{needs}
+use Rattle.codec.proofs.judging.present.Statement.{statement}
+use Rattle.codec.proofs.judging.present.Tie as tie
+use Rattle.codec.proofs.judging.present.Reads as reads
+use Rattle.codec.proofs.judging.present.Lts as lts
+use Rattle.codec.proofs.judging.base_in.Reads as base-in-reads
+use Rattle.codec.proofs.judging.owner_in.Reads as owner-in-reads
+
+-- src/judging.rt:161:9
+base-in-requires : tie.Need-base-in-requires
+base-in-requires c κs = c .before .pre .0
+
+-- src/judging.rt:162:9
+owner-in-requires : tie.Need-owner-in-requires
+owner-in-requires c κs = c .before .before .pre .0
+
+-- src/judging.rt:156:1
+returns : tie.Need-returns
+returns c =
+    let a = c .before .before .before .args in
+    let k = kind-agrees (record { kind = a .kind; base = 0; owner = take 32 (drop 1 (a .src .now)); records = a .records }) (c .before .before .before .pre .1) in
+    λ i. record { verdict = Present; head = record { kind = sym k i; base = c .before .base-in .ensures i; owner = c .owner-in .ensures i; records = a .records } }
+
+pub present-spec : {M : Type 1} → statement M
+present-spec = tie.close (tie.spec base-in-requires owner-in-requires returns)

@@ -1,0 +1,18 @@
+-- `codec::judging::refused_at` meets its contract: its head is `no_head`'s. Assumes nothing.
+use borrow.Author.Needs.{needs}
+use Rattle.codec.proofs.judging.refused_at.Statement.{statement}
+use Rattle.codec.proofs.judging.refused_at.Tie as tie
+use Rattle.codec.proofs.judging.refused_at.Reads as reads
+use Rattle.codec.proofs.judging.refused_at.Lts as lts
+use Rattle.records.proofs.no_head.Reads as no-head-reads
+
+-- src/judging.rt:148:9
+no-head-requires : tie.Need-no-head-requires
+no-head-requires c κs = search needs
+
+-- src/judging.rt:145:1
+returns : tie.Need-returns
+returns c = rw (c .no-head .ensures)
+
+pub refused-at-spec : {M : Type 1} → statement M
+refused-at-spec = tie.close (tie.spec no-head-requires returns)
