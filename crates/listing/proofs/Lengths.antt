@@ -20,14 +20,15 @@ length-line word n = simp length-append (omega arith)
 pub length-record : (e n : ℕ) → length (recordLine (e ⦂ n)) ≡ 6 + length (decimal e) + length (ascii " bytes " ++ (decimal n ++ ascii "\n"))
 length-record e n = omega (arith, length-append (decimal e) (ascii " bytes " ++ (decimal n ++ ascii "\n")))
 
--- the length of flags' text, by its five parts
+-- a text of five parts
+pub length-five : (a b c d e : List ℕ) → length (a ++ (b ++ (c ++ (d ++ e)))) ≡ length a + length b + length c + length d + length e
+length-five a b c d e = simp length-append (omega arith)
+
 pub length-head : (h : Head) (es cs : List ℕ)
     → length (headText h es cs)
     ≡ length (line "kind " (typeByte (h .kind))) + length (ownerLine (ownerOf h)) + length (line "base " (h .base)) + length (recordLines (recordsOf es cs)) + length (line "records " (length es))
-length-head h es cs = five (line "kind " (typeByte (h .kind))) (ownerLine (ownerOf h)) (line "base " (h .base)) (recordLines (recordsOf es cs)) (line "records " (length es))
-  where
-    five : (a b c d e : List ℕ) → length (a ++ (b ++ (c ++ (d ++ e)))) ≡ length a + length b + length c + length d + length e
-    five a b c d e = simp length-append (omega arith)
+length-head h es cs =
+    length-five (line "kind " (typeByte (h .kind))) (ownerLine (ownerOf h)) (line "base " (h .base)) (recordLines (recordsOf es cs)) (line "records " (length es))
 
 -- ---- records from a place on
 

@@ -3,3 +3,7 @@ pub mod Parts
 pub mod Decimals
 pub mod Hexes
 pub mod Lengths
+pub mod Bounds
+pub mod Shown
+pub mod Writes
+pub mod Marked
