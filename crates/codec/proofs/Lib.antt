@@ -4,3 +4,5 @@ pub mod Readings
 pub mod Copying
 pub mod Fills
 pub mod Settling
+pub mod Sizing
+pub mod Writings

@@ -1,15 +1,17 @@
 // The sizes of flag bytes.
 ghost use mathlib.Core.Path.{_≡_};
-ghost use Prim.Native.Nat.{_+_};
+ghost use Prim.Native.Nat.{_+_, _*_, _≤_};
 ghost use lib.Dec.{leb};
+ghost use lib.ListN.{length};
+ghost use Rattle.records.specs.Flags.{owned, ownerIf, ownerOf};
 ghost use Rattle.records.specs.Answers.{counted};
-ghost use Rattle.codec.specs.Bytes.{headSize};
-ghost use Rattle.codec.specs.Sizes.{approximate, countsSize};
+ghost use Rattle.codec.specs.Bytes.{ownerBytes};
+ghost use Rattle.codec.specs.Sizes.{changesSize, approximate, countsSize};
 ghost use Rattle.codec.specs.Calls.{sizeOf};
-use crate::judging::head_size;
 use records::Counted;
 use records::Head;
 use records::Kind;
+use records::OwnerId;
 use records::Refusal;
 
 // How many changes there are about, and the size of each, if given.
@@ -18,23 +20,30 @@ pub enum Changes {
     Given(u16, u8),
 }
 
+// The size of so many changes.
+fn changes_size(changes: Changes) -> u32
+    ensures { λ r. ⌜ (r ≡ changesSize changes) × (r ≤ 16842495) ⌝ }
+{
+    match changes {
+        Changes::NotGiven => 0,
+        Changes::Given(count, bytes) => (count as u32) * (2 + bytes as u32),
+    }
+}
+
 // The size of flags before they are made.
 pub fn approximate_size(has_owner_id: bool, changes: Changes) -> u32
     ensures { λ r. ⌜ r ≡ approximate «has_owner_id» changes ⌝ }
 {
-    let mut size: u32 = 3;
+    let size = changes_size(changes);
     if has_owner_id {
-        size = 35;
+        return 35 + size;
     }
-    match changes {
-        Changes::NotGiven => size,
-        Changes::Given(count, bytes) => size + (count as u32) * (2 + bytes as u32),
-    }
+    3 + size
 }
 
 // The number of bytes of records with these counts.
-pub fn records_size(counts: &[u32]) -> usize
-    ensures { λ r. ⌜ r ≡ countsSize (now (counts .entry)) ⌝ }
+fn records_size(counts: &[u32]) -> usize
+    ensures { λ r. ⌜ (r ≡ countsSize (now (counts .entry))) × (r ≤ 7 * length (now (counts .entry))) ⌝ }
 {
     let mut size: usize = 0;
     let mut k: usize = 0;
@@ -45,11 +54,30 @@ pub fn records_size(counts: &[u32]) -> usize
     size
 }
 
-// Whether flags fit in so many bytes. Seven bytes a record are surely enough, and then no sum is made.
-pub fn fit(kind: Kind, counts: &[u32], room: usize) -> bool
-    ensures { λ r. ⌜ r ≡ leb (headSize kind + countsSize (now (counts .entry))) room ⌝ }
+// The number of bytes of an owner, if there is one.
+fn owner_id_size(kind: Kind, owner: OwnerId) -> usize
+    ensures { λ r. ⌜ (r ≡ length (ownerBytes (ownerIf (owned kind) owner))) × (r ≤ 32) ⌝ }
 {
-    let size = head_size(kind);
+    if kind.is_owned() {
+        return 32;
+    }
+    0
+}
+
+// The number of bytes before the records.
+pub fn head_bytes_size(head: Head) -> usize
+    ensures { λ r. ⌜ (r ≡ 3 + length (ownerBytes (ownerOf head))) × (r ≤ 35) ⌝ }
+{
+    let kind = head.kind;
+    let owner = head.owner;
+    3 + owner_id_size(kind, owner)
+}
+
+// Whether `size` bytes and records with these counts fit in `room` bytes. Seven bytes a record are surely enough, and then
+// no sum is made.
+pub fn fit(size: usize, counts: &[u32], room: usize) -> bool
+    ensures { λ r. ⌜ r ≡ leb (size + countsSize (now (counts .entry))) room ⌝ }
+{
     if room < size {
         return false;
     }
@@ -65,9 +93,8 @@ pub fn serialized_size(head: Head, epochs: &[u16], counts: &[u32]) -> Counted
     ensures { λ r. ⌜ counted r ≡ sizeOf head (now (epochs .entry)) (now (counts .entry)) ⌝ }
 {
     if records::is_proper(head, epochs, counts) {
-        let kind = head.kind;
         let n = head.records;
-        return Counted::Count(head_size(kind) + records_size(&counts[..n]));
+        return Counted::Count(head_bytes_size(head) + records_size(&counts[..n]));
     }
     Counted::Refused(Refusal::BadTable)
 }

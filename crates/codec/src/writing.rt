@@ -6,10 +6,11 @@ ghost use Rattle.fields.specs.Writing.{Put};
 ghost use Rattle.records.specs.Tables.{recordsOf};
 ghost use Rattle.records.specs.Flags.{ownerOf};
 ghost use Rattle.records.specs.Answers.{wrote};
-ghost use Rattle.codec.specs.Bytes.{headSize, headBytes, recordsBytes};
+ghost use Rattle.codec.specs.Bytes.{ownerBytes, headBytes, recordsBytes};
 ghost use Rattle.codec.specs.Sizes.{countsSize};
 ghost use Rattle.codec.specs.Calls.{serialized};
 use crate::sizes::fit;
+use crate::sizes::head_bytes_size;
 use records::Counted;
 use records::Head;
 use records::OwnerId;
@@ -17,8 +18,8 @@ use records::Refusal;
 
 // Writes the owner's 32 bytes at `at`; answers the place behind them.
 fn put_owner(out: &mut [u8], at: usize, owner: OwnerId) -> usize
-    requires { ⌜ at + 32 ≤ length (now out) ⌝ }
-    ensures { λ r. ⌜ (length owner ≡ 32) × Put owner at r (now (out .entry)) (now (out .exit)) ⌝ }
+    requires { ⌜ at + length owner ≤ length (now out) ⌝ }
+    ensures { λ r. ⌜ Put owner at r (now (out .entry)) (now (out .exit)) ⌝ }
 {
     let mut k: usize = 0;
     while k < 32 {
@@ -30,8 +31,8 @@ fn put_owner(out: &mut [u8], at: usize, owner: OwnerId) -> usize
 
 // Writes what stands before the records at the start of `out`; answers the place behind it.
 fn put_head(out: &mut [u8], head: Head) -> usize
-    requires { ⌜ headSize (head .kind) ≤ length (now out) ⌝ }
-    ensures { λ r. ⌜ (r ≡ headSize (head .kind)) × Put (headBytes (head .kind) (ownerOf head) (head .base)) 0 r (now (out .entry)) (now (out .exit)) ⌝ }
+    requires { ⌜ 3 + length (ownerBytes (ownerOf head)) ≤ length (now out) ⌝ }
+    ensures { λ r. ⌜ Put (headBytes (head .kind) (ownerOf head) (head .base)) 0 r (now (out .entry)) (now (out .exit)) ⌝ }
 {
     let kind = head.kind;
     out[0] = kind.type_byte();
@@ -64,9 +65,8 @@ pub fn serialize(head: Head, epochs: &[u16], counts: &[u32], out: &mut [u8]) -> 
     ensures { λ r. ⌜ wrote r (now (out .exit)) ≡ serialized head (now (epochs .entry)) (now (counts .entry)) (now (out .entry)) ⌝ }
 {
     if records::is_proper(head, epochs, counts) {
-        let kind = head.kind;
         let n = head.records;
-        if fit(kind, &counts[..n], out.len()) {
+        if fit(head_bytes_size(head), &counts[..n], out.len()) {
             let at = put_head(out, head);
             return Counted::Count(put_records(out, at, &epochs[..n], &counts[..n]));
         }

@@ -67,12 +67,6 @@ records-on es cs k p q = rw (add-one, drop-cons es k 0, drop-cons cs k 0)
 
 -- ---- written one after another
 
-pub sets-append : (xs ys l : List ℕ) (i : ℕ) → sets l i (xs ++ ys) ≡ sets (sets l i xs) (i + length xs) ys
-sets-append [] ys l i = rw (add-zero i)
-sets-append (x ∷ xs) ys l i =
-    let e : suc i + length xs ≡ i + suc (length xs) = omega arith in
-    rw (← e) (sets-append xs ys (set l i x) (suc i))
-
 pub over-sets : (xs old : List ℕ) → length xs ≤ length old → sets old 0 xs ≡ over xs old
 over-sets xs old h = sets-eq xs old 0 (omega arith) ∙ rw (zero-add (length xs))
 

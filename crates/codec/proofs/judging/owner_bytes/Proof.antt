@@ -6,22 +6,22 @@ use native.Mathlib.Nat.{add-comm, zero-add}
 use native.Mathlib.Omega.{arith}
 use borrow.Author.Needs.{needs}
 use lib.ListN.{length, getD, take, drop, set, length-set, length-take, length-drop}
-use lib.Seq.{sets, getD-drop}
-use Rattle.codec.proofs.Copying.{copy-more, copy-all}
+use lib.Seq.{getD-drop, getD-take}
+use Rattle.codec.proofs.Copying.{Copied, copy-start, copy-more, copy-done, copy-all}
 use Rattle.codec.proofs.judging.owner_bytes.Statement.{statement}
 use Rattle.codec.proofs.judging.owner_bytes.Tie as tie
 use Rattle.codec.proofs.judging.owner_bytes.Reads as reads
 use Rattle.codec.proofs.judging.owner_bytes.Lts as lts
 
 abbrev Inv-loop : tie.InvT-loop
-Inv-loop src owner₀ k₀ owner k = (k ≤ 32) × (length owner ≡ 32) × (owner ≡ sets owner₀ 0 (take k (drop 1 src)))
+Inv-loop src owner₀ k₀ owner k = (k ≤ 32) × (length owner ≡ 32) × Copied (take 32 (drop 1 src)) 0 owner₀ k owner
 
 abbrev μ-loop : tie.MeasureT-loop
 μ-loop src owner₀ k₀ owner k = 32 - k
 
 -- src/judging.rt:117:5
 loop-holds : tie.Need-loop-holds Inv-loop μ-loop
-loop-holds c = (omega arith, refl, refl)
+loop-holds c = (omega arith, refl, copy-start (take 32 (drop 1 (c .args .src .now))) 0 _)
 
 -- src/judging.rt:118:24
 add-owner : tie.Need-add-owner Inv-loop μ-loop
@@ -46,22 +46,21 @@ loop-less c = search needs
 -- src/judging.rt:117:5
 loop-again : tie.Need-loop-again Inv-loop μ-loop
 loop-again c =
-    let a = c .before .before .before .args in
+    let d = c .before .before .before .args .src .now in
     let l = c .before .before .loop in
-    let owner : List ℕ = drop 1 (a .src .now) in
-    let x : ℕ = getD (a .src .now) (l .k + 1) 0 in
-    let e : x ≡ getD owner (l .k) 0 = ap (λ (i : ℕ). getD (a .src .now) i 0) (add-comm (l .k) 1) ∙ sym (getD-drop 1 (a .src .now) (l .k) 0) in
-    let m = copy-more (l .owner) _ owner 0 (l .k) x (l .inv .2) (simp length-drop (omega arith)) e in
-    (omega arith, simp length-set (l .inv .1), ap (λ (i : ℕ). set (l .owner) i x) (sym (zero-add (l .k))) ∙ m)
+    let x : ℕ = getD d (l .k + 1) 0 in
+    let n : length (take 32 (drop 1 d)) ≡ 32 = simp (length-take, length-drop) (omega arith) in
+    let e : x ≡ getD (take 32 (drop 1 d)) (l .k) 0 =
+    ap (λ (i : ℕ). getD d i 0) (add-comm (l .k) 1) ∙ sym (getD-drop 1 d (l .k) 0) ∙ sym (getD-take 32 (drop 1 d) (l .k) 0 (c .before .loop-test .taken)) in
+    (omega arith, simp length-set (l .inv .1), rw (zero-add (l .k)) at (copy-more (l .inv .2) x (omega arith) e))
 
 -- src/judging.rt:111:1
 returns : tie.Need-returns Inv-loop μ-loop
 returns c =
-    let a = c .before .before .args in
+    let d = c .before .before .args .src .now in
     let l = c .before .loop in
-    let e : l .k ≡ 32 = omega (arith, c .loop-test .left) in
-    let n : length (take 32 (drop 1 (a .src .now))) ≡ 32 = simp (length-take, length-drop) (omega arith) in
-    (rw e at (l .inv .2)) ∙ copy-all (take 32 (drop 1 (a .src .now))) _ n
+    let n : length (take 32 (drop 1 d)) ≡ 32 = simp (length-take, length-drop) (omega arith) in
+    copy-all (take 32 (drop 1 d)) _ (l .owner) _ (copy-done (l .inv .2) (omega (arith, c .loop-test .left))) n
 
 pub owner-bytes-spec : {M : Type 1} → statement M
 owner-bytes-spec =

@@ -1,36 +1,42 @@
+-- `codec::sizes::fit` meets its contract: what is left of the room is compared, with the bound or with the sum. Assumes nothing.
+use mathlib.Core.Path.{_≡_, sym, ap, _∙_}
+use Prim.Native.Nat.{ℕ, _+_, _-_}
+use native.Mathlib.Omega.{arith}
+use lib.Dec.{leb}
+use borrow.Author.Tests.{le-leb, lt-leb}
+use Rattle.codec.specs.Sizes.{countsSize}
+use Rattle.codec.proofs.Sizing.{counts-most, leb-left}
 use borrow.Author.Needs.{needs}
 use Rattle.codec.proofs.sizes.fit.Statement.{statement}
 use Rattle.codec.proofs.sizes.fit.Tie as tie
 use Rattle.codec.proofs.sizes.fit.Reads as reads
 use Rattle.codec.proofs.sizes.fit.Lts as lts
-use Rattle.codec.proofs.judging.head_size.Reads as head-size-reads
 use Rattle.codec.proofs.sizes.records_size.Reads as records-size-reads
 
--- src/sizes.rt:52:9
-head-size-requires : tie.Need-head-size-requires
-head-size-requires c κs = search needs
-
--- src/sizes.rt:54:9
+-- src/sizes.rt:75:9
 returns : tie.Need-returns
-returns c = ?
+returns c = let a = c .before .before .args in sym (lt-leb (a .size + countsSize (a .counts .now)) (a .room) (omega arith))
 
--- src/sizes.rt:57:8
+-- src/sizes.rt:78:8
 mul-if2 : tie.Need-mul-if2
 mul-if2 c = search needs
 
--- src/sizes.rt:58:9
+-- src/sizes.rt:79:9
 returns-2 : tie.Need-returns-2
-returns-2 c = ?
+returns-2 c =
+    let a = c .before .before .before .args in
+    let m = counts-most (a .counts .now) (λ i. omega (arith, c .before .before .shared-slice-known .given i)) in
+    sym (le-leb (a .size + countsSize (a .counts .now)) (a .room) (omega arith))
 
--- src/sizes.rt:60:5
+-- src/sizes.rt:81:5
 records-size-requires : tie.Need-records-size-requires
 records-size-requires c κs = search needs
 
--- src/sizes.rt:49:1
+-- src/sizes.rt:71:1
 returns-3 : tie.Need-returns-3
-returns-3 c = ?
+returns-3 c =
+    let a = c .before .before .before .before .args in
+    ap (λ (n : ℕ). leb n (a .room - a .size)) (c .records-size .ensures .0) ∙ leb-left (a .size) (countsSize (a .counts .now)) (a .room) (c .before .before .if1 .left)
 
 pub fit-spec : {M : Type 1} → statement M
-fit-spec =
-    tie.close
-    (tie.spec head-size-requires returns mul-if2 returns-2 records-size-requires returns-3)
+fit-spec = tie.close (tie.spec returns mul-if2 returns-2 records-size-requires returns-3)

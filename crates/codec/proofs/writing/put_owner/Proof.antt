@@ -1,53 +1,65 @@
+-- `codec::writing::put_owner` meets its contract. The loop's invariant: the first k bytes of the owner are copied. Assumes nothing.
+use mathlib.Core.Path.{_≡_, refl, sym, ap, _∙_}
+use Prim.Native.Nat.{ℕ, _+_, _-_, _≤_}
+use native.Mathlib.Omega.{arith}
+use borrow.Author.Needs.{needs}
+use lib.ListN.{length, length-set}
+use Rattle.codec.proofs.Copying.{Copied, copy-start, copy-more, copy-done}
 use Rattle.codec.proofs.writing.put_owner.Statement.{statement}
 use Rattle.codec.proofs.writing.put_owner.Tie as tie
 use Rattle.codec.proofs.writing.put_owner.Reads as reads
 use Rattle.codec.proofs.writing.put_owner.Lts as lts
 
 abbrev Inv-loop : tie.InvT-loop
-Inv-loop out₀ at owner k₀ out k = ?
+Inv-loop out₀ at owner k₀ out k = (k ≤ 32) × (length owner ≡ 32) × Copied owner at out₀ k out
 
 abbrev μ-loop : tie.MeasureT-loop
-μ-loop out₀ at owner k₀ out k = ?
+μ-loop out₀ at owner k₀ out k = 32 - k
 
--- src/writing.rt:24:5
+-- src/writing.rt:25:5
 loop-holds : tie.Need-loop-holds Inv-loop μ-loop
-loop-holds c = ?
+loop-holds c = (omega arith, omega arith, copy-start (c .args .t3) (c .args .at) (c .args .out .now))
 
--- src/writing.rt:25:23
+-- src/writing.rt:26:23
 array-read-out : tie.Need-array-read-out Inv-loop μ-loop
-array-read-out c = ?
+array-read-out c = search needs
 
--- src/writing.rt:25:13
+-- src/writing.rt:26:13
 add-out : tie.Need-add-out Inv-loop μ-loop
-add-out c = ?
-
--- src/writing.rt:25:9
-slice-write-out : tie.Need-slice-write-out Inv-loop μ-loop
-slice-write-out c = ?
+add-out c = let l = c .before .loop in omega (arith, l .inv .2 .reached)
 
 -- src/writing.rt:26:9
+slice-write-out : tie.Need-slice-write-out Inv-loop μ-loop
+slice-write-out c = let l = c .before .loop in omega (arith, l .inv .2 .long)
+
+-- src/writing.rt:27:9
 add-k : tie.Need-add-k Inv-loop μ-loop
-add-k c = ?
+add-k c = search needs
 
--- src/writing.rt:24:5
+-- src/writing.rt:25:5
 loop-less : tie.Need-loop-less Inv-loop μ-loop
-loop-less c = ?
+loop-less c = search needs
 
--- src/writing.rt:24:5
+-- src/writing.rt:25:5
 loop-again : tie.Need-loop-again Inv-loop μ-loop
-loop-again c = ?
+loop-again c =
+    let l = c .before .loop in
+    (omega arith, l .inv .1, copy-more (l .inv .2) _ (omega arith) refl)
 
--- src/writing.rt:28:5
+-- src/writing.rt:29:5
 add-result : tie.Need-add-result Inv-loop μ-loop
-add-result c = ?
+add-result c = search needs
 
--- src/writing.rt:19:1
+-- src/writing.rt:20:1
 same-length : tie.Need-same-length Inv-loop μ-loop
-same-length c = ?
+same-length c = c .before .loop .inv .2 .long
 
--- src/writing.rt:19:1
+-- src/writing.rt:20:1
 returns : tie.Need-returns Inv-loop μ-loop
-returns c = ?
+returns c =
+    let l = c .before .loop in
+    let e : l .k ≡ 32 = omega (arith, c .loop-test .left) in
+    rw e at (copy-done (l .inv .2) (omega arith))
 
 pub put-owner-spec : {M : Type 1} → statement M
 put-owner-spec =

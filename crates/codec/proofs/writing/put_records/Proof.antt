@@ -1,3 +1,16 @@
+-- `codec::writing::put_records` meets its contract. The loop's invariant: of all records' bytes those from the k-th on are left to write.
+-- Assumes nothing.
+use Rattle.fields.proofs.Bigs.{length-big}
+use mathlib.Core.Path.{_≡_, refl, sym, ap, _∙_}
+use mathlib.Core.List.{List, _++_}
+use Prim.Native.Nat.{ℕ, _+_, _-_, _≤_, _<_}
+use native.Mathlib.Omega.{arith}
+use borrow.Author.Needs.{needs}
+use lib.ListN.{length, getD, length-append}
+use Rattle.fields.specs.Big.{big}
+use Rattle.fields.specs.Varint.{varint}
+use Rattle.fields.proofs.Parts.{Parts, parts-start, parts-put, parts-done, parts-room}
+use Rattle.codec.proofs.Writings.{bytesFrom, bytes-on, bytes-end, bytes-size}
 use Rattle.codec.proofs.writing.put_records.Statement.{statement}
 use Rattle.codec.proofs.writing.put_records.Tie as tie
 use Rattle.codec.proofs.writing.put_records.Reads as reads
@@ -6,58 +19,86 @@ use Rattle.fields.proofs.put_be16.Reads as put-be16-reads
 use Rattle.fields.proofs.put_varint.Reads as put-varint-reads
 
 abbrev Inv-loop : tie.InvT-loop
-Inv-loop out₀ at epochs counts i₀ k₀ out i k = ?
+Inv-loop out₀ at epochs counts i₀ k₀ out i k = (k ≤ length epochs) × Parts (bytesFrom epochs counts 0) at out₀ (bytesFrom epochs counts k) i out
 
 abbrev μ-loop : tie.MeasureT-loop
-μ-loop out₀ at epochs counts i₀ k₀ out i k = ?
+μ-loop out₀ at epochs counts i₀ k₀ out i k = length epochs - k
 
--- src/writing.rt:54:5
+-- src/writing.rt:55:5
 loop-holds : tie.Need-loop-holds Inv-loop μ-loop
-loop-holds c = ?
+loop-holds c = (omega arith, parts-start _ _ _)
 
--- src/writing.rt:55:47
+-- src/writing.rt:56:47
 mul-put-be16 : tie.Need-mul-put-be16 Inv-loop μ-loop
-mul-put-be16 c = ?
+mul-put-be16 c = search needs
 
--- src/writing.rt:55:47
+-- src/writing.rt:56:47
 shared-slice-read-put-be16 : tie.Need-shared-slice-read-put-be16 Inv-loop μ-loop
-shared-slice-read-put-be16 c = ?
+shared-slice-read-put-be16 c = search needs
 
--- src/writing.rt:55:13
+-- all records have room
+all-room : (c : tie.Start Inv-loop μ-loop) → let a = c .args in a .at + length (bytesFrom (a .epochs .now) (a .counts .now) 0) ≤ length (a .out .now)
+all-room c = omega (arith, c .pre .1, bytes-size (c .args .epochs .now) (c .args .counts .now) (c .pre .0))
+
+room : (c : tie.In-loop Inv-loop μ-loop) → let a = c .before .before .before .before .before .args in let l = c .before .loop in
+    l .i + length (bytesFrom (a .epochs .now) (a .counts .now) (l .k)) ≤ length (l .out)
+room c = parts-room (c .before .loop .inv .1) (all-room (c .before .before .before .before .before))
+
+-- a record is its epoch and its varint
+left-at : (c : tie.In-loop Inv-loop μ-loop) → let es = c .before .before .before .before .before .args .epochs .now in let cs = c .before .before .before .before .before .args .counts .now in let k = c .before .loop .k in
+    bytesFrom es cs k ≡ big 2 (getD es k 0) ++ (varint (getD cs k 0) ++ bytesFrom es cs (k + 1))
+left-at c = let a = c .before .before .before .before .before .args in bytes-on (a .epochs .now) (a .counts .now) (c .before .loop .k) (c .loop-test .taken) (omega (arith, c .before .before .before .before .before .pre .0, c .loop-test .taken))
+
+-- the epoch is written
+epoch-put : (c : tie.After-put-be16 Inv-loop μ-loop) → let a = c .before .before .before .before .before .before .before .before .args in let k = c .before .before .before .before .loop .k in
+    Parts (bytesFrom (a .epochs .now) (a .counts .now) 0) (a .at) (a .out .now) (varint (getD (a .counts .now) k 0) ++ bytesFrom (a .epochs .now) (a .counts .now) (k + 1))
+    (c .put-be16 .result) (c .put-be16 .last .0)
+epoch-put c = parts-put (c .before .before .before .before .loop .inv .1) (left-at (c .before .before .before)) (c .put-be16 .ensures)
+
+-- src/writing.rt:56:13
 put-be16-requires : tie.Need-put-be16-requires Inv-loop μ-loop
-put-be16-requires c κs = ?
+put-be16-requires c κs =
+    let a = c .before .before .before .before .before .before .before .args in
+    let l = c .before .before .before .loop in
+    let v : List ℕ = varint (getD (a .counts .now) (l .k) 0) ++ bytesFrom (a .epochs .now) (a .counts .now) (l .k + 1) in
+    omega (arith, room (c .before .before), ap length (left-at (c .before .before)), length-append (big 2 (getD (a .epochs .now) (l .k) 0)) v, length-big 2 (getD (a .epochs .now) (l .k) 0))
 
--- src/writing.rt:56:45
+-- src/writing.rt:57:45
 mul-put-varint : tie.Need-mul-put-varint Inv-loop μ-loop
-mul-put-varint c = ?
+mul-put-varint c = omega (arith, c .before .before .before .before .before .before .before .before .before .before .before .good, c .before .before .before .before .before .before .before .before .before .before .before .pre .0, c .before .before .before .before .before .before .loop-test .taken)
 
--- src/writing.rt:56:45
+-- src/writing.rt:57:45
 shared-slice-read-put-varint : tie.Need-shared-slice-read-put-varint Inv-loop μ-loop
-shared-slice-read-put-varint c = ?
-
--- src/writing.rt:56:9
-put-varint-requires : tie.Need-put-varint-requires Inv-loop μ-loop
-put-varint-requires c κs = ?
+shared-slice-read-put-varint c = omega (arith, c .before .before .before .before .before .before .before .before .before .before .before .before .pre .0, c .before .before .before .before .before .before .before .loop-test .taken)
 
 -- src/writing.rt:57:9
+put-varint-requires : tie.Need-put-varint-requires Inv-loop μ-loop
+put-varint-requires c κs =
+    let a = c .before .before .before .before .before .before .before .before .before .before .before .before .args in
+    let l = c .before .before .before .before .before .before .before .before .loop in
+    omega (arith, parts-room (epoch-put (c .before .before .before .before)) (all-room (c .before .before .before .before .before .before .before .before .before .before .before .before)), length-append (varint (getD (a .counts .now) (l .k) 0)) (bytesFrom (a .epochs .now) (a .counts .now) (l .k + 1)))
+
+-- src/writing.rt:58:9
 add-k : tie.Need-add-k Inv-loop μ-loop
-add-k c = ?
+add-k c = omega (arith, c .before .before .before .before .before .before .before .before .before .before .before .before .before .before .before .good, c .before .before .before .before .before .before .before .before .before .before .loop-test .taken)
 
--- src/writing.rt:54:5
+-- src/writing.rt:55:5
 loop-less : tie.Need-loop-less Inv-loop μ-loop
-loop-less c = ?
+loop-less c = omega (arith, c .before .before .before .before .before .before .before .before .before .before .loop-test .taken)
 
--- src/writing.rt:54:5
+-- src/writing.rt:55:5
 loop-again : tie.Need-loop-again Inv-loop μ-loop
-loop-again c = ?
+loop-again c = (omega (arith, c .before .before .before .before .before .before .before .before .before .before .loop-test .taken), parts-put (epoch-put (c .before .before .before .before .before .before .before)) refl (c .before .before .put-varint .ensures))
 
--- src/writing.rt:47:1
+-- src/writing.rt:48:1
 same-length : tie.Need-same-length Inv-loop μ-loop
-same-length c = ?
+same-length c = c .before .loop .inv .1 .long
 
--- src/writing.rt:47:1
+-- src/writing.rt:48:1
 returns : tie.Need-returns Inv-loop μ-loop
-returns c = ?
+returns c =
+    let a = c .before .before .before .before .before .args in
+    parts-done (c .before .loop .inv .1) (bytes-end (a .epochs .now) (a .counts .now) (c .before .loop .k) (c .loop-test .left))
 
 pub put-records-spec : {M : Type 1} → statement M
 put-records-spec =

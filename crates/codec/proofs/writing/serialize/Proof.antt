@@ -1,20 +1,62 @@
+-- `codec::writing::serialize` meets its contract: proper flags that fit are written head first, and else nothing is written. Assumes nothing.
+use mathlib.Core.Path.{_≡_, refl, sym, ap, _∙_}
+use mathlib.Core.Bool.{true, false}
+use mathlib.Core.List.{List, _++_}
+use Prim.Native.Nat.{ℕ, _+_, _≤_, _<_}
+use native.Mathlib.Omega.{arith}
+use borrow.Author.Tests.{leb-true, leb-false}
+use lib.ListN.{length, take}
+use Rattle.fields.specs.Writing.{Put}
+use Rattle.fields.proofs.Parts.{parts-start, parts-put, parts-last, put-long}
+use Rattle.records.specs.Tables.{recordsOf}
+use Rattle.records.specs.Flags.{flagsOf, ownerOf}
+use Rattle.records.proofs.Proper.{IsProper, proper-inv}
+use Rattle.records.proofs.Answers.{writing-short}
+use Rattle.codec.specs.Bytes.{ownerBytes, headBytes, recordsBytes, bytesOf}
+use Rattle.codec.specs.Sizes.{countsSize}
+use Rattle.codec.proofs.Sizing.{length-head, held-epochs, held-counts, length-flags}
+use Rattle.codec.proofs.Writings.{serialized-proper, serialized-improper, bytes-proper, put-written}
 use borrow.Author.Needs.{needs}
 use Rattle.codec.proofs.writing.serialize.Statement.{statement}
 use Rattle.codec.proofs.writing.serialize.Tie as tie
 use Rattle.codec.proofs.writing.serialize.Reads as reads
 use Rattle.codec.proofs.writing.serialize.Lts as lts
 use Rattle.codec.proofs.sizes.fit.Reads as fit-reads
+use Rattle.codec.proofs.sizes.head_bytes_size.Reads as head-bytes-size-reads
 use Rattle.codec.proofs.writing.put_head.Reads as put-head-reads
 use Rattle.codec.proofs.writing.put_records.Reads as put-records-reads
 use Rattle.records.proofs.is_proper.Reads as is-proper-reads
 
--- src/writing.rt:66:8
+-- the flags are proper
+right : (c : tie.Then1) → let a = c .before .before .before .before .before .args in IsProper (a .head) (a .epochs .now) (a .counts .now)
+right c = let a = c .before .before .before .before .before .args in proper-inv (a .head) (a .epochs .now) (a .counts .now) (sym (c .before .is-proper .ensures) ∙ c .if1 .taken)
+
+-- and have room
+fits : (c : tie.Then2) → let a = c .before .before .before .before .before .before .before .before .before .args in 3 + length (ownerBytes (ownerOf (a .head))) + countsSize (take (a .head .records) (a .counts .now)) ≤ length (a .out .now)
+fits c =
+    let a = c .before .before .before .before .before .before .before .before .before .args in
+    let h = leb-true (c .before .before .before .head-bytes-size .result + countsSize (take (a .head .records) (a .counts .now))) (length (a .out .now)) (sym (c .before .fit .ensures) ∙ c .if2 .taken) in
+    omega (arith, c .before .before .before .head-bytes-size .ensures .0)
+
+-- the head and then the records are the flags
+put : (c : tie.After-slice-known3) → let a = c .before .before .before .before .before .before .before .before .before .before .before .before .before .before .before .before .before .before .before .args in
+    Put (bytesOf (flagsOf (a .head) (a .epochs .now) (a .counts .now))) 0 (c .before .before .put-records .result) (a .out .now) (c .before .before .put-records .last .0)
+put c =
+    let a = c .before .before .before .before .before .before .before .before .before .before .before .before .before .before .before .before .before .before .before .args in
+    rw (bytes-proper (a .head) (a .epochs .now) (a .counts .now) (right (c .before .before .before .before .before .before .before .before .before .before .before .before .before .before)))
+    (parts-last (parts-put (parts-start _ 0 (a .out .now)) refl (c .before .before .before .before .before .before .before .before .put-head .ensures)) (c .before .before .put-records .ensures))
+
+-- src/writing.rt:67:8
 is-proper-requires : tie.Need-is-proper-requires
 is-proper-requires c κs = search needs
 
--- src/writing.rt:69:22
+-- src/writing.rt:69:16
+head-bytes-size-requires : tie.Need-head-bytes-size-requires
+head-bytes-size-requires c κs = search needs
+
+-- src/writing.rt:69:39
 slice-aggregate-fit : tie.Need-slice-aggregate-fit
-slice-aggregate-fit c = ?
+slice-aggregate-fit c = let a = c .before .before .before .before .before .before .before .args in sym (held-counts (a .head) (a .epochs .now) (a .counts .now) (right (c .before .before)))
 
 -- src/writing.rt:69:12
 fit-requires : tie.Need-fit-requires
@@ -22,41 +64,58 @@ fit-requires c κs = search needs
 
 -- src/writing.rt:70:17
 put-head-requires : tie.Need-put-head-requires
-put-head-requires c κs = ?
+put-head-requires c κs = omega (arith, fits (c .before))
 
 -- src/writing.rt:71:56
 slice-aggregate-put-records : tie.Need-slice-aggregate-put-records
-slice-aggregate-put-records c = ?
+slice-aggregate-put-records c = let a = c .before .before .before .before .before .before .before .before .before .before .before .before .before .before .before .args in sym (held-epochs (a .head) (a .epochs .now) (a .counts .now) (right (c .before .before .before .before .before .before .before .before .before .before)))
 
 -- src/writing.rt:71:70
 slice-aggregate-put-records-2 : tie.Need-slice-aggregate-put-records-2
-slice-aggregate-put-records-2 c = ?
+slice-aggregate-put-records-2 c = let a = c .before .before .before .before .before .before .before .before .before .before .before .before .before .before .before .before .args in sym (held-counts (a .head) (a .epochs .now) (a .counts .now) (right (c .before .before .before .before .before .before .before .before .before .before .before)))
 
 -- src/writing.rt:71:35
 put-records-requires : tie.Need-put-records-requires
-put-records-requires c κs = ?
+put-records-requires c κs =
+    let a = c .before .before .before .before .before .before .before .before .before .before .before .before .before .before .before .before .args in
+    let r = right (c .before .before .before .before .before .before .before .before .before .before .before) in
+    let p = c .before .before .before .before .before .put-head .ensures in
+    (held-epochs (a .head) (a .epochs .now) (a .counts .now) r ∙ sym (held-counts (a .head) (a .epochs .now) (a .counts .now) r),
+    omega (arith, fits (c .before .before .before .before .before .before .before), p .behind, length-head (a .head .kind) (ownerOf (a .head)) (a .head .base), put-long p))
 
 -- src/writing.rt:71:13
 same-length : tie.Need-same-length
-same-length c = search needs
+same-length c = put-long (put c)
 
 -- src/writing.rt:71:13
 returns : tie.Need-returns
-returns c = ?
+returns c =
+    let a = c .before .before .before .before .before .before .before .before .before .before .before .before .before .before .before .before .before .before .before .args in
+    let n = length-flags (a .head) (a .epochs .now) (a .counts .now) (right (c .before .before .before .before .before .before .before .before .before .before .before .before .before .before)) in
+    put-written (bytesOf (flagsOf (a .head) (a .epochs .now) (a .counts .now))) (a .out .now) _ _ (put c) (omega (arith, n, fits (c .before .before .before .before .before .before .before .before .before .before)))
+    ∙ sym (serialized-proper (a .head) (a .epochs .now) (a .counts .now) (a .out .now) (sym (c .before .before .before .before .before .before .before .before .before .before .before .before .before .before .before .is-proper .ensures) ∙ c .before .before .before .before .before .before .before .before .before .before .before .before .before .before .if1 .taken))
 
 -- src/writing.rt:73:9
 returns-2 : tie.Need-returns-2
-returns-2 c = ?
+returns-2 c =
+    let a = c .before .before .before .before .before .before .before .before .before .args in
+    let n = length-flags (a .head) (a .epochs .now) (a .counts .now) (right (c .before .before .before .before)) in
+    let m = leb-false (c .before .before .before .head-bytes-size .result + countsSize (take (a .head .records) (a .counts .now))) (length (a .out .now)) (sym (c .before .fit .ensures) ∙ c .if2 .left) in
+    sym (serialized-proper (a .head) (a .epochs .now) (a .counts .now) (a .out .now) (sym (c .before .before .before .before .before .is-proper .ensures) ∙ c .before .before .before .before .if1 .taken)
+    ∙ writing-short (bytesOf (flagsOf (a .head) (a .epochs .now) (a .counts .now))) (a .out .now) (omega (arith, n, m, c .before .before .before .head-bytes-size .ensures .0)))
 
--- src/writing.rt:63:1
+-- src/writing.rt:64:1
 returns-3 : tie.Need-returns-3
-returns-3 c = ?
+returns-3 c =
+    let a = c .before .before .before .before .before .args in
+    sym (serialized-improper (a .head) (a .epochs .now) (a .counts .now) (a .out .now) (sym (c .before .is-proper .ensures) ∙ c .if1 .left))
 
 pub serialize-spec : {M : Type 1} → statement M
 serialize-spec =
     tie.close
     (tie.spec
     is-proper-requires
+    head-bytes-size-requires
     slice-aggregate-fit
     fit-requires
     put-head-requires

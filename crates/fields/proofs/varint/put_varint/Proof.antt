@@ -5,8 +5,10 @@ use mathlib.Core.List.{List}
 use Prim.Native.Nat.{ℕ, _+_, _/_, _%_, _≤_, _<_}
 use native.Mathlib.Omega.{arith}
 use lib.ListN.{length, set, length-set}
+use Rattle.fields.specs.Varint.{varint}
 use Rattle.fields.proofs.Varints.{length-pos}
-use Rattle.fields.proofs.Putting.{Putting, putting-start, putting-more, putting-last}
+use Rattle.fields.proofs.Parts.{Parts, parts-start}
+use Rattle.fields.proofs.Putting.{putting-more, putting-last}
 use borrow.Author.Needs.{needs}
 use Rattle.fields.proofs.varint.put_varint.Statement.{statement}
 use Rattle.fields.proofs.varint.put_varint.Tie as tie
@@ -27,16 +29,16 @@ module _ (out : List ℕ) (at count : ℕ) where
   abbrev four : List ℕ
   four = set three (at + 3) (count / 2097152 % 128 + 128)
 
-  put-one : 128 ≤ count → Putting out at count one (at + 1) (count / 128)
-  put-one h = putting-more (putting-start out at count) (at + 1) (count / 128) h refl refl
+  put-one : 128 ≤ count → Parts (varint count) at out (varint (count / 128)) (at + 1) one
+  put-one h = putting-more (parts-start (varint count) at out) (at + 1) (count / 128) h refl refl
 
-  put-two : 16384 ≤ count → Putting out at count two (at + 2) (count / 16384)
+  put-two : 16384 ≤ count → Parts (varint count) at out (varint (count / 16384)) (at + 2) two
   put-two h = putting-more (put-one (omega arith)) (at + 2) (count / 16384) (omega arith) (omega arith) (omega arith)
 
-  put-three : 2097152 ≤ count → Putting out at count three (at + 3) (count / 2097152)
+  put-three : 2097152 ≤ count → Parts (varint count) at out (varint (count / 2097152)) (at + 3) three
   put-three h = putting-more (put-two (omega arith)) (at + 3) (count / 2097152) (omega arith) (omega arith) (omega arith)
 
-  put-four : 268435456 ≤ count → Putting out at count four (at + 4) (count / 268435456)
+  put-four : 268435456 ≤ count → Parts (varint count) at out (varint (count / 268435456)) (at + 4) four
   put-four h = putting-more (put-three (omega arith)) (at + 4) (count / 268435456) (omega arith) (omega arith) (omega arith)
 
 -- src/varint.rt:51:19
@@ -59,7 +61,7 @@ same-length c = search needs
 returns : tie.Need-returns
 returns c =
     let a = c .before .args in
-    putting-last (putting-start (a .out .now) (a .at) (a .count)) (a .at + 1) (c .if1 .taken) refl
+    putting-last (parts-start (varint (a .count)) (a .at) (a .out .now)) (a .at + 1) (c .if1 .taken) refl
 
 -- src/varint.rt:54:16
 add-out : tie.Need-add-out
@@ -86,7 +88,7 @@ slice-write-out-3 : tie.Need-slice-write-out-3
 slice-write-out-3 c =
     let a = c .before .before .args in
     let p = put-one (a .out .now) (a .at) (a .count) (omega arith) in
-    simp length-set (omega (arith, p .room, length-pos (a .count / 128)))
+    simp length-set (omega (arith, p .reached, length-pos (a .count / 128)))
 
 -- src/varint.rt:57:16
 add-result-2 : tie.Need-add-result-2
@@ -119,7 +121,7 @@ slice-write-out-4 : tie.Need-slice-write-out-4
 slice-write-out-4 c =
     let a = c .before .before .args in
     let p = put-one (a .out .now) (a .at) (a .count) (omega arith) in
-    simp length-set (omega (arith, p .room, length-pos (a .count / 128)))
+    simp length-set (omega (arith, p .reached, length-pos (a .count / 128)))
 
 -- src/varint.rt:61:23
 cast-out-5 : tie.Need-cast-out-5
@@ -134,7 +136,7 @@ slice-write-out-5 : tie.Need-slice-write-out-5
 slice-write-out-5 c =
     let a = c .before .before .before .args in
     let p = put-two (a .out .now) (a .at) (a .count) (omega arith) in
-    simp length-set (omega (arith, p .room, length-pos (a .count / 16384)))
+    simp length-set (omega (arith, p .reached, length-pos (a .count / 16384)))
 
 -- src/varint.rt:62:16
 add-result-3 : tie.Need-add-result-3
@@ -167,7 +169,7 @@ slice-write-out-6 : tie.Need-slice-write-out-6
 slice-write-out-6 c =
     let a = c .before .before .before .args in
     let p = put-two (a .out .now) (a .at) (a .count) (omega arith) in
-    simp length-set (omega (arith, p .room, length-pos (a .count / 16384)))
+    simp length-set (omega (arith, p .reached, length-pos (a .count / 16384)))
 
 -- src/varint.rt:66:23
 cast-out-7 : tie.Need-cast-out-7
@@ -182,7 +184,7 @@ slice-write-out-7 : tie.Need-slice-write-out-7
 slice-write-out-7 c =
     let a = c .before .before .before .before .args in
     let p = put-three (a .out .now) (a .at) (a .count) (omega arith) in
-    simp length-set (omega (arith, p .room, length-pos (a .count / 2097152)))
+    simp length-set (omega (arith, p .reached, length-pos (a .count / 2097152)))
 
 -- src/varint.rt:67:16
 add-result-4 : tie.Need-add-result-4
@@ -215,7 +217,7 @@ slice-write-out-8 : tie.Need-slice-write-out-8
 slice-write-out-8 c =
     let a = c .before .before .before .before .args in
     let p = put-three (a .out .now) (a .at) (a .count) (omega arith) in
-    simp length-set (omega (arith, p .room, length-pos (a .count / 2097152)))
+    simp length-set (omega (arith, p .reached, length-pos (a .count / 2097152)))
 
 -- src/varint.rt:70:19
 cast-out-9 : tie.Need-cast-out-9
@@ -230,7 +232,7 @@ slice-write-out-9 : tie.Need-slice-write-out-9
 slice-write-out-9 c =
     let a = c .before .before .before .before .args in
     let p = put-four (a .out .now) (a .at) (a .count) (omega arith) in
-    simp length-set (omega (arith, p .room, length-pos (a .count / 268435456)))
+    simp length-set (omega (arith, p .reached, length-pos (a .count / 268435456)))
 
 -- src/varint.rt:71:5
 add-result-5 : tie.Need-add-result-5

@@ -1,0 +1,80 @@
+-- The number of bytes of records and of flags. Assumes nothing.
+use Prim.Native.Nat.{ℕ, suc, _+_, _-_, _*_, _≤_, _<_}
+use native.Mathlib.Decide.{decLt}
+use native.Mathlib.Numerals.{add-one}
+use native.Mathlib.Omega.{arith}
+use mathlib.Core.Path.{_≡_, refl, sym, ap, ap₂, _∙_}
+use mathlib.Core.Bool.{true}
+use mathlib.Core.Option.{Option, none, some}
+use mathlib.Core.List.{List, [], _∷_, _++_}
+use borrow.Author.Tests.{le-leb, lt-leb}
+use lib.Dec.{leb}
+use lib.ListN.{length, getD, take, drop, length-append, length-take, drop-of-length-le}
+use lib.Seq.{drop-cons}
+use Rattle.fields.specs.Big.{big}
+use Rattle.fields.specs.Varint.{largest, varint}
+use Rattle.fields.proofs.Bigs.{length-big}
+use Rattle.fields.proofs.Varints.{length-five}
+use Rattle.records.specs.Tables.{At, recordsOf, countsOf}
+use Rattle.records.specs.Flags.{flagsOf, ownerOf, kindOf}
+use Rattle.records.specs.declared.head.Kind.{Kind}
+use Rattle.records.specs.declared.head.Head.{Head}
+use Rattle.records.proofs.Tables.{length-recordsOf, counts-records}
+use Rattle.records.proofs.Proper.{IsProper}
+use Rattle.codec.specs.Bytes.{recordBytes, recordsBytes, ownerBytes, headBytes, bytesOf}
+use Rattle.codec.specs.Sizes.{countsSize}
+
+-- ---- records
+
+pub counts-on : (cs : List ℕ) (k : ℕ) → k < length cs → countsSize (drop k cs) ≡ 2 + length (varint (getD cs k 0)) + countsSize (drop (k + 1) cs)
+unfolding countsSize
+counts-on cs k h = rw (add-one, drop-cons cs k 0)
+
+pub counts-end : (cs : List ℕ) (k : ℕ) → length cs ≤ k → countsSize (drop k cs) ≡ 0
+unfolding countsSize
+counts-end cs k h = rw (drop-of-length-le cs {i = k} h)
+
+-- a count of 32 bits takes five bytes at most, so a record takes seven
+pub counts-most : (cs : List ℕ) → ((i : ℕ) → getD cs i 0 ≤ largest) → countsSize cs ≤ 7 * length cs
+unfolding countsSize
+counts-most [] f = omega arith
+counts-most (c ∷ cs) f = omega (arith, length-five c (f 0), counts-most cs (λ i. f (suc i)))
+
+pub length-record : (r : At) → length (recordBytes r) ≡ 2 + length (varint (r .bytes))
+length-record r = omega (arith, length-append (big 2 (r .epoch)) (varint (r .bytes)), length-big 2 (r .epoch))
+
+pub length-records : (rs : List At) → length (recordsBytes rs) ≡ countsSize (countsOf rs)
+unfolding recordsBytes countsSize countsOf
+length-records [] = refl
+length-records (r ∷ rs) = omega (arith, length-append (recordBytes r) (recordsBytes rs), length-record r, length-records rs)
+
+-- ---- flags
+
+pub length-head : (k : Kind) (o : Option (List ℕ)) (base : ℕ) → length (headBytes k o base) ≡ 3 + length (ownerBytes o)
+length-head k o base = omega (arith, length-append (ownerBytes o) (big 2 base), length-big 2 base)
+
+-- both tables hold as many
+module _ (h : Head) (es cs : List ℕ) (p : IsProper h es cs) where
+  pub held-epochs : length (take (h .records) es) ≡ h .records
+  held-epochs = length-take (h .records) es ∙ omega (arith, p .epochs-long)
+
+  pub held-counts : length (take (h .records) cs) ≡ h .records
+  held-counts = length-take (h .records) cs ∙ omega (arith, p .counts-long)
+
+  pub length-flags : length (bytesOf (flagsOf h es cs)) ≡ 3 + length (ownerBytes (ownerOf h)) + countsSize (take (h .records) cs)
+  unfolding bytesOf
+  length-flags =
+      let rs : List At = recordsOf (take (h .records) es) (take (h .records) cs) in
+      let k : Kind = kindOf (ownerOf h) (length rs) in
+      let e = ap countsSize (counts-records (take (h .records) es) (take (h .records) cs) (held-epochs ∙ sym held-counts)) in
+      omega (arith, length-append (headBytes k (ownerOf h) (h .base)) (recordsBytes rs), length-head k (ownerOf h) (h .base), length-records rs, e)
+
+-- ---- room
+
+-- what is left of a room holds what the room holds behind the rest
+pub leb-left : (a b c : ℕ) → a ≤ c → leb b (c - a) ≡ leb (a + b) c
+leb-left a b c h =
+    elim (decLt (c - a) b) [
+      | yes l ↦ lt-leb b (c - a) l ∙ sym (lt-leb (a + b) c (omega arith))
+      | no l ↦ le-leb b (c - a) (omega arith) ∙ sym (le-leb (a + b) c (omega arith))
+    ]
