@@ -2,14 +2,12 @@
 -- Assumes nothing.
 use Prim.Native.Nat.{ℕ, zero, suc, _+_, _*_, _^_, _≤_, _<_}
 use native.Mathlib.Decide.{decLt}
-use native.Mathlib.Nat.{le-refl}
 use native.Mathlib.Omega.{arith}
-use mathlib.Core.Path.{_≡_, refl, sym, ap, _∙_}
+use mathlib.Core.Path.{_≡_, refl}
 use mathlib.Core.Bool.{Bool, true, false}
-use mathlib.Core.Option.{Option, none, some}
 use mathlib.Core.List.{List, [], _∷_, _++_}
 use borrow.Author.Tests.{le-leb, lt-leb}
-use lib.ListN.{length, getD, take, drop, length-append, length-take, length-drop, List·getD-eq-default}
+use lib.ListN.{length, take, drop, length-append, length-take, length-drop, List·getD-eq-default}
 use lib.Seq.{getD-take, getD-drop, length-take-le}
 use Rattle.fields.specs.Big.{said}
 use Rattle.fields.proofs.Bigs.{said-below}
@@ -25,11 +23,11 @@ use Rattle.records.specs.declared.head.Kind.the-variants.{SingleEpoch, MultiEpo
 use Rattle.records.specs.declared.head.KindByte.{KindByte}
 use Rattle.records.specs.declared.head.KindByte.the-variants.{Known, Unknown}
 use Rattle.codec.specs.Bytes.{headSize, basePlace}
-use Rattle.codec.specs.Reading.{Next, bad, good, next, Parsed, Read, noFlags, someFlags, refusedAt, baseIn, ownerIn, recordsIn, flagsIn, readByte, read}
+use Rattle.codec.specs.Reading.{Next, bad, good, next, Read, noFlags, someFlags, refusedAt, baseIn, ownerIn, recordsIn, readByte, read}
 use Rattle.codec.specs.Calls.{answer}
 use Rattle.codec.proofs.Parsing.{next-good, rest, rest-end, rest-bad, Turn, rest-good}
 use Rattle.codec.proofs.Settling.{Whole, read-whole}
-use Rattle.listing.specs.Text.{ascii, decimal, hex, line, ownerLine, recordLine, recordLines, flagsText, listing}
+use Rattle.listing.specs.Text.{ascii, decimal, line, ownerLine, recordLine, recordLines, flagsText, listing}
 use Rattle.listing.specs.Listed.{most, places, longest, listed}
 use Rattle.listing.proofs.Decimals.{length-below}
 use Rattle.listing.proofs.Hexes.{length-hex, length-owner}
@@ -107,10 +105,10 @@ unfolding recordLines
 short-lines d b at prev =
     by-turns d (λ (at : ℕ) (rs : List At). length (recordLines rs) ≤ 29 * length rs) (λ at. omega arith)
     (λ at prev r u q t ih.
-      let g = next-good prev (drop at d) r u q in
-      let e : r .epoch < 65536 = rw (g .epoch-is) (two-bytes d b at (omega (arith, t .inside, t .some-bytes))) in
-      let n : length (recordLine r) ≤ 29 = short-line r e (found-inv (drop 2 (drop at d)) (r .bytes) (g .used) (g .count-is) .fits) in
-      omega (arith, length-append (recordLine r) (recordLines (rest d (at + u) (r .epoch) .records))))
+    let g = next-good prev (drop at d) r u q in
+    let e : r .epoch < 65536 = rw (g .epoch-is) (two-bytes d b at (omega (arith, t .inside, t .some-bytes))) in
+    let n : length (recordLine r) ≤ 29 = short-line r e (found-inv (drop 2 (drop at d)) (r .bytes) (g .used) (g .count-is) .fits) in
+    omega (arith, length-append (recordLine r) (recordLines (rest d (at + u) (r .epoch) .records))))
     (length d)
     at
     prev

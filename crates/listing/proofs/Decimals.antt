@@ -1,17 +1,16 @@
 -- The decimal digits of a number: their two equations, their number, and how they are written from the last to the first.
 -- Assumes nothing.
-use Prim.Native.Nat.{ℕ, zero, suc, _+_, _-_, _*_, _/_, _%_, _^_, _≤_, _<_}
+use Prim.Native.Nat.{ℕ, zero, suc, _+_, _-_, _/_, _%_, _^_, _≤_, _<_}
 use native.Mathlib.Nat.{pow-succ'}
 use native.Mathlib.Decide.{decLt}
 use native.Mathlib.Omega.{arith}
-use mathlib.Core.Path.{_≡_, refl, sym, ap, ap₂, _∙_}
-use mathlib.Core.Bool.{true, false}
+use mathlib.Core.Path.{_≡_, refl, sym, ap, _∙_}
 use mathlib.Core.List.{List, [], _∷_, _++_}
 use borrow.Author.Tests.{lt-ltb, le-ltb}
 use lib.ListN.{length, set, length-set, length-append}
 use lib.Seq.{sets, set-comm}
 use Rattle.fields.specs.Writing.{Put}
-use Rattle.records.proofs.Tables.{sets-append}
+use Rattle.fields.proofs.Parts.{sets-append}
 use Rattle.listing.specs.Text.{digits, decimal}
 
 digits-last : (f n : ℕ) → n < 10 → digits f n ≡ (48 + n) ∷ []

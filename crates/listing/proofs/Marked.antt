@@ -1,8 +1,7 @@
 -- The marked texts of document 01: P5 as it stands there, and what is printed of P1, P3, P6 and P9, by computation.
 -- Assumes nothing.
 use mathlib.Core.Path.{_≡_, refl}
-use mathlib.Core.List.{List, [], _∷_}
-use Prim.Native.Nat.{ℕ}
+use mathlib.Core.List.{[], _∷_}
 use Rattle.codec.specs.Reading.{next, parse, readAs, read}
 use Rattle.fields.specs.Big.{saidAfter}
 use Rattle.fields.specs.Varint.{found, high, value, varint, groups}

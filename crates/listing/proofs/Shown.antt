@@ -2,18 +2,17 @@
 -- Assumes nothing.
 use Prim.Native.Nat.{ℕ, _≤_}
 use native.Mathlib.Omega.{arith}
-use mathlib.Core.Path.{_≡_, refl, sym, ap, ap₂, _∙_}
+use mathlib.Core.Path.{_≡_, refl, ap₂, _∙_}
 use mathlib.Core.Bool.{Bool, true, false}
 use mathlib.Core.Option.{Option, none, some}
-use mathlib.Core.List.{List, [], _∷_, _++_}
+use mathlib.Core.List.{List}
 use lib.Dec.{eqb}
 use lib.ListN.{length, take, drop, length-append}
 use lib.Seq.{take-at}
 use Rattle.records.specs.Refusals.{number}
-use Rattle.records.specs.Tables.{At, recordsOf, epochsOf, countsOf, over}
-use Rattle.records.specs.Flags.{Flags, owned, kindOf, idOf, ownerIf, ownerOf, headOf, noHead}
+use Rattle.records.specs.Tables.{epochsOf, countsOf, over}
+use Rattle.records.specs.Flags.{Flags, owned, kindOf, idOf, ownerIf, headOf, noHead}
 use Rattle.records.specs.Answers.{shown, after}
-use Rattle.records.specs.declared.head.Head.{Head}
 use Rattle.records.specs.declared.answer.Answered.{Answered}
 use Rattle.records.specs.declared.answer.Outcome.the-variants.{Absent, Present, Refused}
 use Rattle.records.proofs.Tables.{length-epochsOf, length-countsOf, records-back}
@@ -21,7 +20,7 @@ use Rattle.records.proofs.Answers.{after-refused, after-absent, after-placed}
 use Rattle.records.proofs.Only.{shown-only}
 use Rattle.codec.specs.Reading.{Read, noFlags, someFlags, refusedAt, read}
 use Rattle.codec.specs.Calls.{answer, deserialized}
-use Rattle.listing.specs.Text.{line, ownerLine, recordLines, flagsText, listing}
+use Rattle.listing.specs.Text.{flagsText, listing}
 use Rattle.listing.specs.Heads.{headText, outcomeText, Held}
 use Rattle.listing.specs.Listed.{most, places}
 use Rattle.listing.proofs.Bounds.{flags-few}

@@ -1,18 +1,16 @@
 -- `listing::list_flags` meets its contract: what was read tells the text, which is written where it has room. Assumes nothing.
 use mathlib.Core.Path.{_≡_, sym, _∙_}
 use native.Mathlib.Omega.{arith}
-use lib.ListN.{length}
 use borrow.Author.Needs.{needs}
 use Rattle.codec.specs.Reading.{read}
 use Rattle.listing.specs.Heads.{outcomeText}
 use Rattle.listing.specs.Listed.{listed}
+use Rattle.records.proofs.Answers.{writing-short}
+use Rattle.codec.proofs.Writings.{put-written}
 use Rattle.listing.proofs.Bounds.{listed-read}
 use Rattle.listing.proofs.Shown.{Telling, telling}
-use Rattle.listing.proofs.Writes.{wrote-put, wrote-short}
 use Rattle.listing.proofs.list_flags.Statement.{statement}
 use Rattle.listing.proofs.list_flags.Tie as tie
-use Rattle.listing.proofs.list_flags.Reads as reads
-use Rattle.listing.proofs.list_flags.Lts as lts
 
 told : (c : tie.After-deserialize)
     → let d = c .deserialize in
@@ -29,14 +27,14 @@ text c = listed-read (c .before .before .before .before .before .before .before 
 
 returns : tie.Need-returns
 returns c =
-    rw (text (c .before .before .before .before .before .before .before .before)) (wrote-short _ _ (rw (c .before .answer-len .ensures) at (c .if1 .taken)))
+    rw (text (c .before .before .before .before .before .before .before .before)) (sym (writing-short _ _ (rw (c .before .answer-len .ensures) at (c .if1 .taken))))
 
 put-answer-requires : tie.Need-put-answer-requires
 put-answer-requires c κs = (told (c .before .before .before .before .before .before .before .before .before .before .before) .held, omega (arith, c .before .before .before .before .answer-len .ensures, c .before .before .before .if1 .left))
 
 returns-2 : tie.Need-returns-2
 returns-2 c =
-    rw (text (c .before .before .before .before .before .before .before .before .before .before .before .before .before .before)) (wrote-put (c .before .before .put-answer .ensures) (omega (arith, c .before .before .before .before .before .before .before .answer-len .ensures, c .before .before .before .before .before .before .if1 .left)))
+    rw (text (c .before .before .before .before .before .before .before .before .before .before .before .before .before .before)) (put-written _ _ _ _ (c .before .before .put-answer .ensures) (omega (arith, c .before .before .before .before .before .before .before .answer-len .ensures, c .before .before .before .before .before .before .if1 .left)))
 
 pub list-flags-spec : {M : Type 1} → statement M
 list-flags-spec =

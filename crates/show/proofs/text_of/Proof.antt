@@ -4,7 +4,7 @@ use native.Mathlib.Omega.{arith}
 use mathlib.Core.Path.{_≡_, sym, ap, _∙_}
 use mathlib.Core.List.{List}
 use lib.ListN.{length, take, drop, length-append}
-use lib.Seq.{take-at, length-take-le}
+use lib.Seq.{take-at}
 use borrow.Author.Needs.{needs}
 use Rattle.io.specs.Counts.{Counts}
 use Rattle.records.specs.Tables.{over}
@@ -17,8 +17,6 @@ use Rattle.listing.specs.Listed.{listed}
 use Rattle.listing.proofs.Bounds.{listed-fits}
 use Rattle.show.proofs.text_of.Statement.{statement}
 use Rattle.show.proofs.text_of.Tie as tie
-use Rattle.show.proofs.text_of.Reads as reads
-use Rattle.show.proofs.text_of.Lts as lts
 
 -- a text that has room is counted, and stands at the start
 module _ (r : Counted) (xs old new : List ℕ) (fits : length xs ≤ length old) (e : wrote r new ≡ writing xs old) where

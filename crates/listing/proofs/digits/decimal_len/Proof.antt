@@ -1,6 +1,6 @@
 -- `listing::digits::decimal_len` meets its contract. The invariant: the digits counted and those of the rest make one more than all.
 -- The measure is the rest. Assumes nothing.
-use Prim.Native.Nat.{_+_, _≤_, _^_}
+use Prim.Native.Nat.{_+_, _≤_}
 use mathlib.Core.Path.{_≡_}
 use native.Mathlib.Omega.{arith}
 use lib.ListN.{length}

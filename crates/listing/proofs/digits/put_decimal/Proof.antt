@@ -9,8 +9,6 @@ use Rattle.listing.specs.Text.{decimal}
 use Rattle.listing.proofs.Decimals.{Backing, backing-start, backing-more, backing-last, length-more, length-last}
 use Rattle.listing.proofs.digits.put_decimal.Statement.{statement}
 use Rattle.listing.proofs.digits.put_decimal.Tie as tie
-use Rattle.listing.proofs.digits.put_decimal.Reads as reads
-use Rattle.listing.proofs.digits.put_decimal.Lts as lts
 
 abbrev Inv-loop : tie.InvT-loop
 Inv-loop out₀ at n end i₀ rest₀ out i rest =
@@ -23,7 +21,7 @@ add-end : tie.Need-add-end Inv-loop μ-loop
 add-end c = omega (arith, c .decimal-len .ensures .counts)
 
 loop-holds : tie.Need-loop-holds Inv-loop μ-loop
-loop-holds c = 
+loop-holds c =
     let e = c .decimal-len .ensures .counts in
     let end : c .before .before .args .at + c .decimal-len .result ≡ c .before .before .args .at + length (decimal (c .before .before .args .n)) = omega arith in
     (backing-start _ _ _ _ end, omega arith, end)

@@ -9,12 +9,10 @@ use lib.ListN.{length, drop, getD, set, length-set}
 use borrow.Author.Needs.{needs}
 use Rattle.fields.specs.Writing.{Put}
 use Rattle.listing.specs.Text.{hexDigit, hex}
-use Rattle.listing.proofs.Parts.{Parts, parts-start, parts-put, parts-done, parts-room}
+use Rattle.fields.proofs.Parts.{Parts, parts-start, parts-put, parts-done, parts-room}
 use Rattle.listing.proofs.Hexes.{hex-on, hex-end}
 use Rattle.listing.proofs.digits.put_hex.Statement.{statement}
 use Rattle.listing.proofs.digits.put_hex.Tie as tie
-use Rattle.listing.proofs.digits.put_hex.Reads as reads
-use Rattle.listing.proofs.digits.put_hex.Lts as lts
 
 abbrev Inv-loop : tie.InvT-loop
 Inv-loop out₀ at bytes i₀ k₀ out i k = Parts (hex bytes) at out₀ (hex (drop k bytes)) i out
@@ -31,17 +29,11 @@ room c =
     let s = c .before .before .before .before in
     omega (arith, parts-room (c .before .loop .inv) (s .pre), ap length (hex-on (s .args .bytes .now) (c .before .loop .k) (c .loop-test .taken)))
 
-shared-slice-read-byte : tie.Need-shared-slice-read-byte Inv-loop μ-loop
-shared-slice-read-byte c = search needs
-
 hex-digit-requires : tie.Need-hex-digit-requires Inv-loop μ-loop
 hex-digit-requires c κs = omega (arith, c .shared-slice-known2 .given (c .before .before .loop .k))
 
 slice-write-out : tie.Need-slice-write-out Inv-loop μ-loop
 slice-write-out c = omega (arith, room (c .before .before))
-
-hex-digit-requires-2 : tie.Need-hex-digit-requires-2 Inv-loop μ-loop
-hex-digit-requires-2 c κs = search needs
 
 add-out : tie.Need-add-out Inv-loop μ-loop
 add-out c = omega (arith, room (c .before .before .before))
@@ -79,10 +71,10 @@ put-hex-spec =
     Inv-loop
     μ-loop
     loop-holds
-    shared-slice-read-byte
+    (λ c. search needs)
     hex-digit-requires
     slice-write-out
-    hex-digit-requires-2
+    (λ c κs. search needs)
     add-out
     slice-write-out-2
     add-i

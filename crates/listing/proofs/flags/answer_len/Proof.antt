@@ -7,8 +7,6 @@ use Rattle.listing.specs.Text.{line}
 use Rattle.listing.proofs.Lengths.{held-epochs, held-counts}
 use Rattle.listing.proofs.flags.answer_len.Statement.{statement}
 use Rattle.listing.proofs.flags.answer_len.Tie as tie
-use Rattle.listing.proofs.flags.answer_len.Reads as reads
-use Rattle.listing.proofs.flags.answer_len.Lts as lts
 
 flags-len-requires : tie.Need-flags-len-requires
 flags-len-requires c κs =

@@ -7,8 +7,6 @@ use Rattle.listing.specs.Text.{line}
 use Rattle.listing.proofs.Lengths.{length-head}
 use Rattle.listing.proofs.flags.flags_len.Statement.{statement}
 use Rattle.listing.proofs.flags.flags_len.Tie as tie
-use Rattle.listing.proofs.flags.flags_len.Reads as reads
-use Rattle.listing.proofs.flags.flags_len.Lts as lts
 
 returns : tie.Need-returns
 returns c =

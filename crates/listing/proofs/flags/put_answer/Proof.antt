@@ -7,8 +7,6 @@ use Rattle.listing.specs.Text.{line}
 use Rattle.listing.proofs.Lengths.{held-epochs, held-counts}
 use Rattle.listing.proofs.flags.put_answer.Statement.{statement}
 use Rattle.listing.proofs.flags.put_answer.Tie as tie
-use Rattle.listing.proofs.flags.put_answer.Reads as reads
-use Rattle.listing.proofs.flags.put_answer.Lts as lts
 
 put-text-requires : tie.Need-put-text-requires
 put-text-requires c κs = let p = rw (c .before .before .enum-told .given .1) at (c .before .before .before .before .before .before .before .pre .1) in omega arith

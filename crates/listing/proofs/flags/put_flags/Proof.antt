@@ -5,11 +5,9 @@ use lib.ListN.{length}
 use borrow.Author.Needs.{needs}
 use Rattle.listing.specs.Text.{line}
 use Rattle.listing.proofs.Lengths.{length-head}
-use Rattle.listing.proofs.Parts.{parts-start, parts-put, parts-last}
+use Rattle.fields.proofs.Parts.{parts-start, parts-put, parts-last}
 use Rattle.listing.proofs.flags.put_flags.Statement.{statement}
 use Rattle.listing.proofs.flags.put_flags.Tie as tie
-use Rattle.listing.proofs.flags.put_flags.Reads as reads
-use Rattle.listing.proofs.flags.put_flags.Lts as lts
 
 put-line-requires : tie.Need-put-line-requires
 put-line-requires c κs =

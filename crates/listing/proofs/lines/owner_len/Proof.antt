@@ -5,25 +5,24 @@ use borrow.Author.Needs.{needs}
 use Rattle.listing.proofs.Hexes.{length-hex, length-owner}
 use Rattle.listing.proofs.lines.owner_len.Statement.{statement}
 use Rattle.listing.proofs.lines.owner_len.Tie as tie
-use Rattle.listing.proofs.lines.owner_len.Reads as reads
-use Rattle.listing.proofs.lines.owner_len.Lts as lts
 
-slice-aggregate-bytes : tie.Need-slice-aggregate-bytes
-slice-aggregate-bytes c = search needs
+-- the owner has 32 bytes
+long : tie.Need-slice-aggregate-bytes
+long c = search needs
 
 returns : tie.Need-returns
 returns c =
     let owner = c .before .before .before .before .args .head .owner in
     let o = sym (c .before .before .before .is-owned .ensures) ∙ c .before .before .if1 .taken in
-    record { counts = rw o (omega (arith, length-owner owner, length-hex owner)); bounded = omega (arith, slice-aggregate-bytes c) }
+    record { counts = rw o (omega (arith, length-owner owner, length-hex owner)); bounded = omega (arith, long c) }
 
 pub owner-len-spec : {M : Type 1} → statement M
 owner-len-spec =
     tie.close
     (tie.spec
     (λ c κs. search needs)
-    slice-aggregate-bytes
-    (λ c. omega (arith, slice-aggregate-bytes c))
-    (λ c. omega (arith, slice-aggregate-bytes c))
+    long
+    (λ c. omega (arith, long c))
+    (λ c. omega (arith, long c))
     returns
     (λ c. search needs))

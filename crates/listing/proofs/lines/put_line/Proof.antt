@@ -2,12 +2,10 @@
 use mathlib.Core.Path.{refl}
 use native.Mathlib.Omega.{arith}
 use borrow.Author.Needs.{needs}
-use Rattle.listing.proofs.Parts.{parts-start, parts-put, parts-last}
+use Rattle.fields.proofs.Parts.{parts-start, parts-put, parts-last}
 use Rattle.listing.proofs.Lengths.{length-line}
 use Rattle.listing.proofs.lines.put_line.Statement.{statement}
 use Rattle.listing.proofs.lines.put_line.Tie as tie
-use Rattle.listing.proofs.lines.put_line.Reads as reads
-use Rattle.listing.proofs.lines.put_line.Lts as lts
 
 put-text-requires : tie.Need-put-text-requires
 put-text-requires c κs = let a = c .before .before .before .args in omega (arith, length-line (a .word .now) (a .n))

@@ -3,11 +3,9 @@ use mathlib.Core.Path.{refl, sym, _∙_}
 use native.Mathlib.Omega.{arith}
 use borrow.Author.Needs.{needs}
 use Rattle.listing.proofs.Hexes.{length-owner}
-use Rattle.listing.proofs.Parts.{parts-start, parts-put, parts-last, parts-done}
+use Rattle.fields.proofs.Parts.{parts-start, parts-put, parts-last, parts-done}
 use Rattle.listing.proofs.lines.put_owner.Statement.{statement}
 use Rattle.listing.proofs.lines.put_owner.Tie as tie
-use Rattle.listing.proofs.lines.put_owner.Reads as reads
-use Rattle.listing.proofs.lines.put_owner.Lts as lts
 
 put-text-requires : tie.Need-put-text-requires
 put-text-requires c κs =

@@ -2,12 +2,10 @@
 use mathlib.Core.Path.{refl}
 use native.Mathlib.Omega.{arith}
 use borrow.Author.Needs.{needs}
-use Rattle.listing.proofs.Parts.{parts-start, parts-put, parts-last}
+use Rattle.fields.proofs.Parts.{parts-start, parts-put, parts-last}
 use Rattle.listing.proofs.Lengths.{length-record}
 use Rattle.listing.proofs.lines.put_record.Statement.{statement}
 use Rattle.listing.proofs.lines.put_record.Tie as tie
-use Rattle.listing.proofs.lines.put_record.Reads as reads
-use Rattle.listing.proofs.lines.put_record.Lts as lts
 
 put-decimal-requires : tie.Need-put-decimal-requires
 put-decimal-requires c κs = let a = c .before .before .before .before .before .before .before .args in omega (arith, length-record (a .epoch) (a .count))

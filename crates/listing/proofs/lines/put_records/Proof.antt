@@ -6,12 +6,10 @@ use lib.ListN.{length}
 use borrow.Author.Needs.{needs}
 use Rattle.records.specs.Tables.{recordsOf}
 use Rattle.listing.specs.Text.{recordLines}
-use Rattle.listing.proofs.Parts.{Parts, parts-start, parts-put, parts-room, parts-done}
+use Rattle.fields.proofs.Parts.{Parts, parts-start, parts-put, parts-room, parts-done}
 use Rattle.listing.proofs.Lengths.{linesFrom, lines-on, length-on, lines-end}
 use Rattle.listing.proofs.lines.put_records.Statement.{statement}
 use Rattle.listing.proofs.lines.put_records.Tie as tie
-use Rattle.listing.proofs.lines.put_records.Reads as reads
-use Rattle.listing.proofs.lines.put_records.Lts as lts
 
 abbrev Inv-loop : tie.InvT-loop
 Inv-loop out₀ at epochs counts i₀ k₀ out i k =

@@ -6,11 +6,9 @@ use native.Mathlib.Omega.{arith}
 use lib.ListN.{length, drop, drop-of-length-le}
 use borrow.Author.Needs.{needs}
 use Rattle.records.proofs.Rising.{drop-next}
-use Rattle.listing.proofs.Parts.{Parts, parts-start, parts-byte, parts-done, parts-room}
+use Rattle.fields.proofs.Parts.{Parts, parts-start, parts-byte, parts-done, parts-room}
 use Rattle.listing.proofs.lines.put_text.Statement.{statement}
 use Rattle.listing.proofs.lines.put_text.Tie as tie
-use Rattle.listing.proofs.lines.put_text.Reads as reads
-use Rattle.listing.proofs.lines.put_text.Lts as lts
 
 abbrev Inv-loop : tie.InvT-loop
 Inv-loop out₀ at text i₀ k₀ out i k = Parts text at out₀ (drop k text) i out

@@ -4,8 +4,6 @@ use borrow.Author.Needs.{needs}
 use Rattle.listing.proofs.Lengths.{length-record}
 use Rattle.listing.proofs.lines.record_len.Statement.{statement}
 use Rattle.listing.proofs.lines.record_len.Tie as tie
-use Rattle.listing.proofs.lines.record_len.Reads as reads
-use Rattle.listing.proofs.lines.record_len.Lts as lts
 
 returns : tie.Need-returns
 returns c =

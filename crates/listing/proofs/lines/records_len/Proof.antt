@@ -10,8 +10,6 @@ use Rattle.listing.specs.Text.{recordLines}
 use Rattle.listing.proofs.Lengths.{linesFrom, length-on, lines-end}
 use Rattle.listing.proofs.lines.records_len.Statement.{statement}
 use Rattle.listing.proofs.lines.records_len.Tie as tie
-use Rattle.listing.proofs.lines.records_len.Reads as reads
-use Rattle.listing.proofs.lines.records_len.Lts as lts
 
 abbrev Inv-loop : tie.InvT-loop
 Inv-loop epochs counts size₀ k₀ size k =
