@@ -1,0 +1,94 @@
+-- What a reader answered and left, as text: its head and tables are those of the flags that were read. By cases of what was read.
+-- Assumes nothing.
+use Prim.Native.Nat.{ℕ, _≤_}
+use native.Mathlib.Omega.{arith}
+use mathlib.Core.Path.{_≡_, refl, ap₂, _∙_}
+use mathlib.Core.Bool.{Bool, true, false}
+use mathlib.Core.Option.{Option, none, some}
+use mathlib.Core.List.{List}
+use lib.Dec.{eqb}
+use lib.ListN.{length, take, drop, length-append}
+use lib.Seq.{take-at}
+use Rattle.records.specs.Refusals.{number}
+use Rattle.records.specs.Tables.{epochsOf, countsOf, over}
+use Rattle.records.specs.Flags.{Flags, owned, kindOf, idOf, ownerIf, headOf, noHead}
+use Rattle.records.specs.Answers.{shown, after}
+use Rattle.records.specs.declared.answer.Answered.{Answered}
+use Rattle.records.specs.declared.answer.Outcome.the-variants.{Absent, Present, Refused}
+use Rattle.records.proofs.Tables.{length-epochsOf, length-countsOf, records-back}
+use Rattle.records.proofs.Answers.{after-refused, after-absent, after-placed}
+use Rattle.records.proofs.Only.{shown-only}
+use Rattle.codec.specs.Reading.{Read, noFlags, someFlags, refusedAt, read}
+use Rattle.codec.specs.Calls.{answer, deserialized}
+use Rattle.listing.specs.Text.{flagsText, listing}
+use Rattle.listing.specs.Heads.{headText, outcomeText, Held}
+use Rattle.listing.specs.Listed.{most, places}
+use Rattle.listing.proofs.Bounds.{flags-few}
+
+-- the owner that a head of flags tells
+owner-told : (o : Option (List ℕ)) (n : ℕ) → ownerIf (owned (kindOf o n)) (idOf o) ≡ o
+owner-told none n = by (eqb n 0) refl
+  where
+    by : (b : Bool) → eqb n 0 ≡ b → ownerIf (owned (kindOf none n)) (idOf none) ≡ none
+    by true e = rw e
+    by false e = rw e
+owner-told (some o) n = by (eqb n 0) refl
+  where
+    by : (b : Bool) → eqb n 0 ≡ b → ownerIf (owned (kindOf (some o) n)) (idOf (some o)) ≡ some o
+    by true e = rw e
+    by false e = rw e
+
+-- flags by their head and their records' tables
+head-flags : (f : Flags) → headText (headOf f) (epochsOf (f .records)) (countsOf (f .records)) ≡ flagsText f
+head-flags f = rw (owner-told (f .owner) (length (f .records)), records-back (f .records), length-epochsOf (f .records))
+
+front : (xs old : List ℕ) (n : ℕ) → length xs ≡ n → take n (over xs old) ≡ xs
+front xs old n e = take-at xs (drop (length xs) old) n e
+
+-- flags that stand at the start of two tables
+placed-text : (f : Flags) (es cs : List ℕ)
+    → outcomeText Present (headOf f) (over (epochsOf (f .records)) es) (over (countsOf (f .records)) cs) ≡ flagsText f
+placed-text f es cs =
+    let rs = f .records in
+    ap₂ (headText (headOf f)) (front (epochsOf rs) es (length rs) (length-epochsOf rs)) (front (countsOf rs) cs (length rs) (length-countsOf rs))
+    ∙ head-flags f
+
+placed-held : (f : Flags) (es cs : List ℕ) → length (f .records) ≤ places → Held (headOf f) (over (epochsOf (f .records)) es) (over (countsOf (f .records)) cs)
+placed-held f es cs h =
+    let rs = f .records in
+    record {
+      few = h;
+      epochs-long = omega (arith, length-append (epochsOf rs) (drop (length (epochsOf rs)) es), length-epochsOf rs);
+      counts-long = omega (arith, length-append (countsOf rs) (drop (length (countsOf rs)) cs), length-countsOf rs);
+    }
+
+-- an answer with its tables, as the functions below ask for it
+pub record Telling (x : Read) (a : Answered) (es cs : List ℕ) : Type 0 where
+  pub text : outcomeText (a .outcome) (a .head) es cs ≡ listing (answer x)
+  pub held : Held (a .head) es cs
+
+telling-same : {x : Read} {a b : Answered} {es cs es′ cs′ : List ℕ} → (a ≡ b) × (es ≡ es′) × (cs ≡ cs′) → Telling x b es′ cs′ → Telling x a es cs
+telling-same {x} {a} {b} {es} {cs} {es′} {cs′} (p, q, r) t = rw (p, q, r) t
+
+no-records : (es cs : List ℕ) → Held noHead es cs
+no-records es cs = record { few = omega arith; epochs-long = omega arith; counts-long = omega arith }
+
+module _ (src es cs es₀ cs₀ : List ℕ) (a : Answered) (short : length src ≤ most) (room : (length es₀ ≡ places) × (length cs₀ ≡ places)) where
+  telling-read : (x : Read) → read src ≡ x → shown a es cs ≡ after (answer x) es₀ cs₀ → Telling x a es cs
+  telling-read noFlags q e =
+      telling-same (shown-only a (record { outcome = Absent; head = noHead }) es cs es₀ cs₀ _ (e ∙ after-absent es₀ cs₀) refl)
+      (record { text = refl; held = no-records es₀ cs₀ })
+  telling-read (refusedAt r place) q e =
+      telling-same (shown-only a (record { outcome = Refused r; head = noHead }) es cs es₀ cs₀ _ (e ∙ after-refused (number r) es₀ cs₀) refl)
+      (record { text = refl; held = no-records es₀ cs₀ })
+  telling-read (someFlags f) q e =
+      let n = flags-few src f short q in
+      telling-same
+      (shown-only a (record { outcome = Present; head = headOf f }) es cs (over (epochsOf (f .records)) es₀) (over (countsOf (f .records)) cs₀) _
+      (e ∙ after-placed f es₀ cs₀ (omega (arith, room .0)) (omega (arith, room .1)))
+      refl)
+      (record { text = placed-text f es₀ cs₀; held = placed-held f es₀ cs₀ n })
+
+  -- so the functions on answers list what was read
+  pub telling : shown a es cs ≡ deserialized src es₀ cs₀ → Telling (read src) a es cs
+  telling = telling-read (read src) refl

@@ -1,0 +1,32 @@
+-- `listing::lines::put_line` meets its contract: its parts are written one after another. Assumes nothing.
+use mathlib.Core.Path.{refl}
+use native.Mathlib.Omega.{arith}
+use borrow.Author.Needs.{needs}
+use Rattle.fields.proofs.Parts.{parts-start, parts-put, parts-last}
+use Rattle.listing.proofs.Lengths.{length-line}
+use Rattle.listing.proofs.lines.put_line.Statement.{statement}
+use Rattle.listing.proofs.lines.put_line.Tie as tie
+
+put-text-requires : tie.Need-put-text-requires
+put-text-requires c κs = let a = c .before .before .before .args in omega (arith, length-line (a .word .now) (a .n))
+
+put-decimal-requires : tie.Need-put-decimal-requires
+put-decimal-requires c κs = let a = c .before .before .before .before .before .before .before .args in omega (arith, length-line (a .word .now) (a .n))
+
+put-text-requires-2 : tie.Need-put-text-requires-2
+put-text-requires-2 c κs = let a = c .before .before .before .before .before .before .before .before .before .before .before .before .args in omega (arith, length-line (a .word .now) (a .n))
+
+returns : tie.Need-returns
+returns c =
+    parts-last (parts-put (parts-put (parts-start _ _ _) refl (c .before .before .before .before .before .before .before .before .before .before .before .put-text .ensures)) refl (c .before .before .before .before .before .before .before .put-decimal .ensures)) (c .before .before .put-text2 .ensures)
+
+pub put-line-spec : {M : Type 1} → statement M
+put-line-spec =
+    tie.close
+    (tie.spec
+    put-text-requires
+    put-decimal-requires
+    (λ c. search needs)
+    put-text-requires-2
+    (λ c. search needs)
+    returns)

@@ -1,0 +1,52 @@
+-- `listing::list_flags` meets its contract: what was read tells the text, which is written where it has room. Assumes nothing.
+use mathlib.Core.Path.{_≡_, sym, _∙_}
+use native.Mathlib.Omega.{arith}
+use borrow.Author.Needs.{needs}
+use Rattle.codec.specs.Reading.{read}
+use Rattle.listing.specs.Heads.{outcomeText}
+use Rattle.listing.specs.Listed.{listed}
+use Rattle.records.proofs.Answers.{writing-short}
+use Rattle.codec.proofs.Writings.{put-written}
+use Rattle.listing.proofs.Bounds.{listed-read}
+use Rattle.listing.proofs.Shown.{Telling, telling}
+use Rattle.listing.proofs.list_flags.Statement.{statement}
+use Rattle.listing.proofs.list_flags.Tie as tie
+
+told : (c : tie.After-deserialize)
+    → let d = c .deserialize in
+    Telling (read (c .before .before .before .before .before .before .before .args .src .now)) (d .result) (d .last .1 .0) (d .last .1 .1 .0)
+told c =
+    let s = c .before .before .before .before .before .before .before in
+    telling (s .args .src .now) _ _ (s .args .epochs .now) (s .args .counts .now) _ (s .pre .0) (s .pre .1) (c .deserialize .ensures)
+
+-- the text is that of the definition
+text : (c : tie.After-deserialize)
+    → let d = c .deserialize in
+    listed (c .before .before .before .before .before .before .before .args .src .now) ≡ outcomeText (d .result .outcome) (d .result .head) (d .last .1 .0) (d .last .1 .1 .0)
+text c = listed-read (c .before .before .before .before .before .before .before .args .src .now) (c .before .before .before .before .before .before .before .pre .0) ∙ sym (told c .text)
+
+returns : tie.Need-returns
+returns c =
+    rw (text (c .before .before .before .before .before .before .before .before)) (sym (writing-short _ _ (rw (c .before .answer-len .ensures) at (c .if1 .taken))))
+
+put-answer-requires : tie.Need-put-answer-requires
+put-answer-requires c κs = (told (c .before .before .before .before .before .before .before .before .before .before .before) .held, omega (arith, c .before .before .before .before .answer-len .ensures, c .before .before .before .if1 .left))
+
+returns-2 : tie.Need-returns-2
+returns-2 c =
+    rw (text (c .before .before .before .before .before .before .before .before .before .before .before .before .before .before)) (put-written _ _ _ _ (c .before .before .put-answer .ensures) (omega (arith, c .before .before .before .before .before .before .before .answer-len .ensures, c .before .before .before .before .before .before .if1 .left)))
+
+pub list-flags-spec : {M : Type 1} → statement M
+list-flags-spec =
+    tie.close
+    (tie.spec
+    (λ c κs. search needs)
+    (λ c κs. told (c .before .before .before .before .before .before) .held)
+    (λ c. search needs)
+    (λ c. search needs)
+    returns
+    put-answer-requires
+    (λ c. search needs)
+    (λ c. search needs)
+    (λ c. search needs)
+    returns-2)

@@ -1,0 +1,43 @@
+// Flags as lines of text.
+mod digits;
+mod flags;
+mod lines;
+
+ghost use mathlib.Core.Path.{_≡_};
+ghost use Prim.Native.Nat.{_≤_};
+ghost use lib.ListN.{length};
+ghost use Rattle.records.specs.Answers.{wrote, writing};
+ghost use Rattle.listing.specs.Listed.{most, places, listed};
+use crate::flags::answer_len;
+use crate::flags::put_answer;
+use crate::lines::put_text;
+use records::Counted;
+use records::Refusal;
+
+// Lists bytes that are not too many, by way of two tables that have room for the records of so many bytes.
+fn list_flags(src: &[u8], epochs: &mut [u16], counts: &mut [u32], out: &mut [u8]) -> Counted
+    requires { ⌜ length (now src) ≤ most ⌝ }
+    requires { ⌜ (length (now epochs) ≡ places) × (length (now counts) ≡ places) ⌝ }
+    ensures { λ r. ⌜ wrote r (now (out .exit)) ≡ writing (listed (now (src .entry))) (now (out .entry)) ⌝ }
+{
+    let answered = codec::deserialize(src, epochs, counts);
+    if out.len() < answer_len(answered, epochs, counts) {
+        return Counted::Refused(Refusal::NoRoom);
+    }
+    Counted::Count(put_answer(out, answered, epochs, counts))
+}
+
+// Lists flag bytes at the start of `out`; answers the text's length.
+pub fn list(src: &[u8], out: &mut [u8]) -> Counted
+    ensures { λ r. ⌜ wrote r (now (out .exit)) ≡ writing (listed (now (src .entry))) (now (out .entry)) ⌝ }
+{
+    if 7203 < src.len() {
+        if out.len() < 9 {
+            return Counted::Refused(Refusal::NoRoom);
+        }
+        return Counted::Count(put_text(out, 0, b"too long\n"));
+    }
+    let mut epochs = [0u16; 2400];
+    let mut counts = [0u32; 2400];
+    list_flags(src, &mut epochs, &mut counts, out)
+}

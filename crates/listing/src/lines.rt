@@ -1,0 +1,121 @@
+// The lines of the text.
+ghost use mathlib.Core.Path.{_≡_};
+ghost use mathlib.Core.List.{_++_};
+ghost use Prim.Native.Nat.{_+_, _*_, _≤_};
+ghost use lib.ListN.{length};
+ghost use Rattle.fields.specs.Writing.{Put};
+ghost use Rattle.records.specs.Tables.{recordsOf, _⦂_};
+ghost use Rattle.records.specs.Flags.{ownerOf};
+ghost use Rattle.listing.specs.Sizes.{Sized};
+ghost use Rattle.listing.specs.Text.{ascii, decimal, ownerLine, recordLine, recordLines};
+ghost use Rattle.listing.specs.Listed.{places};
+use crate::digits::decimal_len;
+use crate::digits::put_decimal;
+use crate::digits::put_hex;
+use records::Head;
+
+// Writes a text at `at`; answers the place behind it.
+pub fn put_text(out: &mut [u8], at: usize, text: &[u8]) -> usize
+    requires { ⌜ at + length (now text) ≤ length (now out) ⌝ }
+    ensures { λ r. ⌜ Put (now (text .entry)) at r (now (out .entry)) (now (out .exit)) ⌝ }
+{
+    let mut i = at;
+    let mut k: usize = 0;
+    while k < text.len() {
+        out[i] = text[k];
+        i += 1;
+        k += 1;
+    }
+    i
+}
+
+// The length of a line of a word and a number.
+pub fn line_len(word: &[u8], n: u64) -> usize
+    ensures { λ r. ⌜ Sized (now (word .entry) ++ (decimal n ++ ascii "\n")) (length (now (word .entry)) + 21) r ⌝ }
+{
+    word.len() + decimal_len(n) + 1
+}
+
+// Writes a line of a word and a number at `at`; answers the place behind it.
+pub fn put_line(out: &mut [u8], at: usize, word: &[u8], n: u64) -> usize
+    requires { ⌜ at + length (now word ++ (decimal n ++ ascii "\n")) ≤ length (now out) ⌝ }
+    ensures { λ r. ⌜ Put (now (word .entry) ++ (decimal n ++ ascii "\n")) at r (now (out .entry)) (now (out .exit)) ⌝ }
+{
+    let number = put_text(out, at, word);
+    let end = put_decimal(out, number, n);
+    put_text(out, end, b"\n")
+}
+
+// The length of the owner's line, if there is an owner.
+pub fn owner_len(head: Head) -> usize
+    ensures { λ r. ⌜ Sized (ownerLine (ownerOf head)) 71 r ⌝ }
+{
+    let kind = head.kind;
+    if kind.is_owned() {
+        let owner = head.owner;
+        let bytes: &[u8] = &owner;
+        return 7 + 2 * bytes.len();
+    }
+    0
+}
+
+// Writes the owner's line at `at`, if there is an owner; answers the place behind it.
+pub fn put_owner(out: &mut [u8], at: usize, head: Head) -> usize
+    requires { ⌜ at + length (ownerLine (ownerOf head)) ≤ length (now out) ⌝ }
+    ensures { λ r. ⌜ Put (ownerLine (ownerOf head)) at r (now (out .entry)) (now (out .exit)) ⌝ }
+{
+    let kind = head.kind;
+    if kind.is_owned() {
+        let owner = head.owner;
+        let digits = put_text(out, at, b"owner ");
+        let end = put_hex(out, digits, &owner);
+        return put_text(out, end, b"\n");
+    }
+    at
+}
+
+// The length of a record's line.
+pub fn record_len(epoch: u16, count: u32) -> usize
+    ensures { λ r. ⌜ Sized (recordLine (epoch ⦂ count)) 54 r ⌝ }
+{
+    6 + decimal_len(epoch as u64) + line_len(b" bytes ", count as u64)
+}
+
+// Writes a record's line at `at`; answers the place behind it.
+pub fn put_record(out: &mut [u8], at: usize, epoch: u16, count: u32) -> usize
+    requires { ⌜ at + length (recordLine (epoch ⦂ count)) ≤ length (now out) ⌝ }
+    ensures { λ r. ⌜ Put (recordLine (epoch ⦂ count)) at r (now (out .entry)) (now (out .exit)) ⌝ }
+{
+    let number = put_text(out, at, b"epoch ");
+    let end = put_decimal(out, number, epoch as u64);
+    put_line(out, end, b" bytes ", count as u64)
+}
+
+// The length of all records' lines.
+pub fn records_len(epochs: &[u16], counts: &[u32]) -> usize
+    requires { ⌜ (length (now epochs) ≡ length (now counts)) × (length (now epochs) ≤ places) ⌝ }
+    ensures { λ r. ⌜ Sized (recordLines (recordsOf (now (epochs .entry)) (now (counts .entry)))) (54 * places) r ⌝ }
+{
+    let mut size: usize = 0;
+    let mut k: usize = 0;
+    while k < epochs.len() {
+        size += record_len(epochs[k], counts[k]);
+        k += 1;
+    }
+    size
+}
+
+// Writes all records' lines at `at`; answers the place behind them.
+pub fn put_records(out: &mut [u8], at: usize, epochs: &[u16], counts: &[u32]) -> usize
+    requires { ⌜ length (now epochs) ≡ length (now counts) ⌝ }
+    requires { ⌜ at + length (recordLines (recordsOf (now epochs) (now counts))) ≤ length (now out) ⌝ }
+    ensures { λ r. ⌜ Put (recordLines (recordsOf (now (epochs .entry)) (now (counts .entry)))) at r (now (out .entry)) (now (out .exit)) ⌝ }
+{
+    let mut i = at;
+    let mut k: usize = 0;
+    while k < epochs.len() {
+        i = put_record(out, i, epochs[k], counts[k]);
+        k += 1;
+    }
+    i
+}
