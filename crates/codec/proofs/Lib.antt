@@ -6,3 +6,7 @@ pub mod Fills
 pub mod Settling
 pub mod Sizing
 pub mod Writings
+pub mod RoundTrip
+pub mod Canonical
+pub mod Calls
+pub mod Marked

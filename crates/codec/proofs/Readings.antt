@@ -9,7 +9,7 @@ use mathlib.Core.List.{List, [], _∷_}
 use borrow.Author.Tests.{le-leb, lt-leb, eq-eqb, ne-eqb}
 use lib.ListN.{length, getD}
 use Rattle.records.specs.Tables.{At}
-use Rattle.records.specs.Flags.{flags, multi, agrees, kindOfByte}
+use Rattle.records.specs.Flags.{flags, owned, multi, agrees, kindOfByte}
 use Rattle.records.specs.declared.refusal.Refusal.{Refusal}
 use Rattle.records.specs.declared.refusal.Refusal.the-variants.{WrongSize}
 use Rattle.records.specs.declared.head.Kind.{Kind}
@@ -20,6 +20,14 @@ use Rattle.codec.specs.declared.judging.Scan.{Scan}
 use Rattle.codec.specs.declared.judging.Scan.the-variants.{Faulty, Records}
 use Rattle.codec.proofs.Parsing.{rest}
 use Rattle.codec.proofs.Turns.{scan-some}
+
+-- ---- the head's size
+
+pub owned-size : (k : Kind) (n : ℕ) → owned k ≡ true → headSize k ≤ n → 35 ≤ n
+owned-size k n e h = rw e at h
+
+pub unowned-size : (k : Kind) (n : ℕ) → owned k ≡ false → headSize k ≤ n → 3 ≤ n
+unowned-size k n e h = rw e at h
 
 -- ---- flags of a kind
 

@@ -10,7 +10,7 @@ use mathlib.Core.List.{List, [], _∷_}
 use lib.ListN.{length}
 use Rattle.records.specs.Tables.{At, epochsOf, countsOf, Placed}
 use Rattle.records.specs.Refusals.{number}
-use Rattle.records.specs.Flags.{Flags, flags, multi, headOf, noHead}
+use Rattle.records.specs.Flags.{Flags, flags, multi, agrees, headOf, noHead}
 use Rattle.records.specs.Answers.{ok, refused, After, shown, after}
 use Rattle.records.specs.declared.refusal.Refusal.{Refusal}
 use Rattle.records.specs.declared.refusal.Refusal.the-variants.{WrongSize, NoRoom}
@@ -27,7 +27,7 @@ use Rattle.codec.specs.declared.judging.Judgement.{Judgement}
 use Rattle.codec.specs.declared.judging.Verdict.{Verdict}
 use Rattle.codec.specs.declared.judging.Verdict.the-variants.{Absent as IsAbsent, Present as IsPresent, Refused as IsRefused}
 use Rattle.codec.proofs.Parsing.{rest-end}
-use Rattle.codec.proofs.Readings.{multi-short, multi-long, single-right, single-wrong}
+use Rattle.codec.proofs.Readings.{multi-short, multi-long, single-right, single-wrong, agrees-multi, agrees-single}
 
 -- ---- what a judgement says of the bytes
 
@@ -50,16 +50,23 @@ judged-present (refusedAt r p) e = let z : _≡_ {A = ℕ} 0 1 = cc in absurd (o
 
 pub record Whole (k : Kind) (xs : List ℕ) (f : Flags) : Type 0 where
   pub complete : Complete k xs (length (recordsIn k xs .records))
+  pub agrees-kind : agrees k (length (recordsIn k xs .records)) ≡ true
   pub in-bytes : f ≡ flagsIn k xs
 
-no-refusal : (r : Refusal) (p : ℕ) (f : Flags) → refusedAt r p ≡ someFlags f → ⊥
+pub no-refusal : (r : Refusal) (p : ℕ) (f : Flags) → refusedAt r p ≡ someFlags f → ⊥
 no-refusal r p f e = let z : _≡_ {A = ℕ} 0 1 = cc in omega arith
 
+-- what flags with records say of these
+record With (base : ℕ) (owner : Option (List ℕ)) (ft : Option Fault) (rs : List At) (f : Flags) : Type 0 where
+  pub no-fault : ft ≡ none
+  pub some-records : 1 ≤ length rs
+  pub are-flags : f ≡ flags base owner rs
+
 with-flags : (end base : ℕ) (owner : Option (List ℕ)) (ft : Option Fault) (rs : List At) (f : Flags) → withRecords end base owner ft rs ≡ someFlags f
-    → (ft ≡ none) × (f ≡ flags base owner rs)
+    → With base owner ft rs f
 with-flags end base owner (some x) rs f e = absurd (no-refusal _ _ f e)
 with-flags end base owner none [] f e = absurd (no-refusal _ _ f e)
-with-flags end base owner none (r ∷ rs) f e = (refl, cc)
+with-flags end base owner none (r ∷ rs) f e = record { no-fault = refl; some-records = omega arith; are-flags = cc }
 
 pub read-whole : (k : Kind) (xs : List ℕ) (f : Flags) → readAs k xs ≡ someFlags f → Whole k xs f
 read-whole k xs f e = by (multi k) refl
@@ -70,7 +77,7 @@ read-whole k xs f e = by (multi k) refl
           | yes h ↦ absurd (no-refusal _ _ f (sym (multi-short k xs m h) ∙ e))
           | no h ↦
               let w = with-flags (length xs) (baseIn k xs) (ownerIn k xs) (recordsIn k xs .fault) (recordsIn k xs .records) f (sym (multi-long k xs m (omega arith)) ∙ e) in
-              record { complete = record { head-inside = omega arith; no-fault = w .0; all-there = refl }; in-bytes = w .1 }
+              record { complete = record { head-inside = omega arith; no-fault = w .no-fault; all-there = refl }; agrees-kind = agrees-multi k _ m (w .some-records); in-bytes = w .are-flags }
         ]
     by false m =
         elim (ℕ-discrete (length xs) (headSize k)) [
@@ -80,6 +87,7 @@ read-whole k xs f e = by (multi k) refl
               let i : flags (baseIn k xs) (ownerIn k xs) [] ≡ f = cc in
               record {
                 complete = record { head-inside = omega arith; no-fault = ap (λ (p : Parsed). p .fault) z; all-there = refl };
+                agrees-kind = ap (λ (p : Parsed). agrees k (length (p .records))) z ∙ agrees-single k m;
                 in-bytes = sym i ∙ ap (λ (p : Parsed). flags (baseIn k xs) (ownerIn k xs) (p .records)) (sym z);
               }
           | no h ↦ absurd (no-refusal _ _ f (sym (single-wrong k xs m h) ∙ e))

@@ -2,7 +2,7 @@
 -- buffer lent. Assumes nothing.
 use mathlib.Core.Path.{_≡_, refl, sym, ap, ap₂, _∙_}
 use mathlib.Core.List.{List, [], _∷_, _++_}
-use Prim.Native.Nat.{ℕ, suc, _+_, _≤_}
+use Prim.Native.Nat.{ℕ, suc, _+_, _≤_, _<_}
 use native.Mathlib.Nat.{add-zero}
 use native.Mathlib.Numerals.{add-one}
 use native.Mathlib.Omega.{arith}
@@ -55,6 +55,10 @@ module _ {all : List ℕ} {at : ℕ} {old left : List ℕ} {i : ℕ} {new : List
   -- what is left has room where all has
   pub parts-room : at + length all ≤ length old → i + length left ≤ length new
   parts-room r = omega (arith, p .reached, p .long)
+
+  -- and so has its first byte
+  pub parts-inside : 1 ≤ length left → at + length all ≤ length old → i < length new
+  parts-inside n r = omega (arith, parts-room r)
 
 -- what was written is as long as it was
 pub put-long : {xs : List ℕ} {at n : ℕ} {old new : List ℕ} → Put xs at n old new → length new ≡ length old

@@ -14,7 +14,7 @@ use lib.ListN.{length, getD, take, drop, drop-of-length-le, length-drop, length-
 use lib.Seq.{drop-cons, getD-drop}
 use Rattle.fields.specs.Varint.{largest, varint, high, value, Found, incomplete, notCanonical, whole, canonical, found, isWhole, judgedAt, readAt, endAt, Passed}
 use Rattle.fields.specs.declared.varint.Judged.{Judged}
-use Rattle.fields.specs.declared.varint.Judged.the-variants.{Ends}
+use Rattle.fields.specs.declared.varint.Judged.the-variants.{Incomplete, Ends}
 use Rattle.fields.specs.declared.varint.Reading.the-variants.{Whole}
 use Rattle.fields.proofs.Varints.{length-last, length-more, length-pos, length-five}
 
@@ -213,6 +213,14 @@ module _ (d : List ℕ) (at k : ℕ) (p : Passed d at k) where
   passed-small h =
       let b : value (take (suc k) (drop at d)) < 128 ^ 4 = value-below 4 (take (suc k) (drop at d)) (simp length-take (omega arith)) in
       omega arith
+
+  -- as judging answers them: the bytes end, or the last of two to four is here
+  pub judged-cut : length d ≤ at + k → Incomplete at ≡ judgedAt at (found (drop at d))
+  judged-cut h = ap (judgedAt at) (sym (passed-cut h))
+
+  pub judged-small : (next : ℕ) → 1 ≤ k → k < 4 → at + k < length d → getD d (at + k) 0 < 128 → next ≡ at + suc k
+      → endAt (getD d (at + k) 0) at next ≡ judgedAt at (found (drop at d))
+  judged-small next some four inside low e = passed-judged inside low (omega arith) next some e (passed-small four)
 
   -- a whole varint goes on while its bytes have the top bit set
   pub whole-inside : isWhole (found (drop at d)) ≡ true → at + k < length d

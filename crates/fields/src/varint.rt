@@ -2,8 +2,8 @@
 ghost use mathlib.Core.Path.{_≡_};
 ghost use mathlib.Core.Bool.{true};
 ghost use Prim.Native.Nat.{_+_, _≤_};
-ghost use lib.ListN.{length, drop};
-ghost use Rattle.fields.specs.Varint.{varint, found, isWhole, judgedAt, readAt, endAt, Passed};
+ghost use lib.ListN.{length, take, drop};
+ghost use Rattle.fields.specs.Varint.{varint, value, found, isWhole, judgedAt, readAt, endAt, Passed};
 ghost use Rattle.fields.specs.Writing.{Put};
 
 // The length of a varint, by the number of significant bits 0 to 32 of what it says.
@@ -132,40 +132,12 @@ fn judge_long(src: &[u8], at: usize) -> Judged
     Judged::Incomplete(at)
 }
 
-// Judges the varint at `at`. Unrolled, and without what it says: five bytes hold 32 bits where the fifth is below 16.
-pub fn judge_varint(src: &[u8], at: usize) -> Judged
+// Judges the varint at `at`, of which four bytes are passed: five hold 32 bits where the fifth is below 16.
+fn judge_fifth(src: &[u8], at: usize) -> Judged
+    requires { ⌜ Passed (now src) at 4 × (at + 4 ≤ length (now src)) ⌝ }
     ensures { λ r. ⌜ r ≡ judgedAt at (found (drop at (now (src .entry)))) ⌝ }
 {
-    let n = src.len();
-    if n <= at {
-        return Judged::Incomplete(at);
-    }
-    if src[at] < 128 {
-        return Judged::Ends(at + 1);
-    }
-    let left = n - at;
-    if left < 2 {
-        return Judged::Incomplete(at);
-    }
-    let second = src[at + 1];
-    if second < 128 {
-        return end_at(second, at, at + 2);
-    }
-    if left < 3 {
-        return Judged::Incomplete(at);
-    }
-    let third = src[at + 2];
-    if third < 128 {
-        return end_at(third, at, at + 3);
-    }
-    if left < 4 {
-        return Judged::Incomplete(at);
-    }
-    let fourth = src[at + 3];
-    if fourth < 128 {
-        return end_at(fourth, at, at + 4);
-    }
-    if left < 5 {
+    if src.len() - at < 5 {
         return Judged::Incomplete(at);
     }
     let fifth = src[at + 4];
@@ -178,10 +150,81 @@ pub fn judge_varint(src: &[u8], at: usize) -> Judged
     judge_long(src, at)
 }
 
+// Judges the varint at `at`, of which two bytes are passed.
+fn judge_third(src: &[u8], at: usize) -> Judged
+    requires { ⌜ Passed (now src) at 2 × (at + 2 ≤ length (now src)) ⌝ }
+    ensures { λ r. ⌜ r ≡ judgedAt at (found (drop at (now (src .entry)))) ⌝ }
+{
+    if src.len() - at < 3 {
+        return Judged::Incomplete(at);
+    }
+    let third = src[at + 2];
+    if third < 128 {
+        return end_at(third, at, at + 3);
+    }
+    if src.len() - at < 4 {
+        return Judged::Incomplete(at);
+    }
+    let fourth = src[at + 3];
+    if fourth < 128 {
+        return end_at(fourth, at, at + 4);
+    }
+    judge_fifth(src, at)
+}
+
+// Judges the varint at `at`, byte by byte and without what it says.
+pub fn judge_varint(src: &[u8], at: usize) -> Judged
+    ensures { λ r. ⌜ r ≡ judgedAt at (found (drop at (now (src .entry)))) ⌝ }
+{
+    if src.len() <= at {
+        return Judged::Incomplete(at);
+    }
+    if src[at] < 128 {
+        return Judged::Ends(at + 1);
+    }
+    if src.len() - at < 2 {
+        return Judged::Incomplete(at);
+    }
+    let second = src[at + 1];
+    if second < 128 {
+        return end_at(second, at, at + 2);
+    }
+    judge_third(src, at)
+}
+
 fn wide(byte: u8) -> u32
     ensures { λ r. ⌜ r ≡ byte ⌝ }
 {
     byte as u32
+}
+
+// What the whole varint at `at` says, of which two bytes are passed, that say `two`.
+fn varint_third(src: &[u8], at: usize, two: u32) -> Varint
+    requires { ⌜ isWhole (found (drop at (now src))) ≡ true ⌝ }
+    requires { ⌜ Passed (now src) at 2 × (two ≡ value (take 2 (drop at (now src)))) ⌝ }
+    ensures { λ r. ⌜ Reading.Whole r ≡ readAt at (found (drop at (now (src .entry)))) ⌝ }
+{
+    let third = src[at + 2];
+    let three = two + wide(third % 128) * 16384;
+    if third < 128 {
+        return Varint {
+            count: three,
+            next: at + 3,
+        };
+    }
+    let fourth = src[at + 3];
+    let four = three + wide(fourth % 128) * 2097152;
+    if fourth < 128 {
+        return Varint {
+            count: four,
+            next: at + 4,
+        };
+    }
+    let fifth = src[at + 4];
+    Varint {
+        count: four + wide(fifth % 16) * 268435456,
+        next: at + 5,
+    }
 }
 
 // What the varint at `at` says, where judging found a whole one.
@@ -204,27 +247,7 @@ pub fn varint_at(src: &[u8], at: usize) -> Varint
             next: at + 2,
         };
     }
-    let third = src[at + 2];
-    let three = two + wide(third % 128) * 16384;
-    if third < 128 {
-        return Varint {
-            count: three,
-            next: at + 3,
-        };
-    }
-    let fourth = src[at + 3];
-    let four = three + wide(fourth % 128) * 2097152;
-    if fourth < 128 {
-        return Varint {
-            count: four,
-            next: at + 4,
-        };
-    }
-    let fifth = src[at + 4];
-    Varint {
-        count: four + wide(fifth % 16) * 268435456,
-        next: at + 5,
-    }
+    varint_third(src, at, two)
 }
 
 // Reads the varint at `at`.

@@ -70,10 +70,6 @@ records-on es cs k p q = rw (add-one, drop-cons es k 0, drop-cons cs k 0)
 pub over-sets : (xs old : List ℕ) → length xs ≤ length old → sets old 0 xs ≡ over xs old
 over-sets xs old h = sets-eq xs old 0 (omega arith) ∙ rw (zero-add (length xs))
 
-pub placed-none : (at : ℕ) (es cs : List ℕ) → Placed [] at at es cs es cs
-unfolding epochsOf countsOf
-placed-none at es cs = record { behind = omega arith; epochs-set = refl; counts-set = refl }
-
 -- the place k is reached, and what is left to write there makes of the tables what all makes of the tables lent
 pub record Filling (all left : List At) (at k : ℕ) (es₀ cs₀ es cs : List ℕ) : Type 0 where
   pub reached : k + length left ≡ at + length all

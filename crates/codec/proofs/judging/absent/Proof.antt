@@ -2,15 +2,10 @@
 use borrow.Author.Needs.{needs}
 use Rattle.codec.proofs.judging.absent.Statement.{statement}
 use Rattle.codec.proofs.judging.absent.Tie as tie
-use Rattle.codec.proofs.judging.absent.Reads as reads
-use Rattle.codec.proofs.judging.absent.Lts as lts
-use Rattle.records.proofs.no_head.Reads as no-head-reads
 
--- src/judging.rt:138:9
 no-head-requires : tie.Need-no-head-requires
 no-head-requires c κs = search needs
 
--- src/judging.rt:135:1
 returns : tie.Need-returns
 returns c = rw (c .no-head .ensures)
 

@@ -12,49 +12,12 @@ use Rattle.codec.proofs.Readings.{multi-short, agrees-multi, scan-fault
 use borrow.Author.Needs.{needs}
 use Rattle.codec.proofs.judging.judge_multi.Statement.{statement}
 use Rattle.codec.proofs.judging.judge_multi.Tie as tie
-use Rattle.codec.proofs.judging.judge_multi.Reads as reads
-use Rattle.codec.proofs.judging.judge_multi.Lts as lts
-use Rattle.codec.proofs.judging.base_in.Reads as base-in-reads
-use Rattle.codec.proofs.judging.head_size.Reads as head-size-reads
-use Rattle.codec.proofs.judging.judge_records.Reads as judge-records-reads
-use Rattle.codec.proofs.judging.present.Reads as present-reads
-use Rattle.codec.proofs.judging.refused_at.Reads as refused-at-reads
 
--- src/judging.rt:179:9
-head-size-requires : tie.Need-head-size-requires
-head-size-requires c κs = search needs
-
--- src/judging.rt:181:9
-refused-at-requires : tie.Need-refused-at-requires
-refused-at-requires c κs = search needs
-
--- src/judging.rt:181:9
 returns : tie.Need-returns
 returns c =
     let a = c .before .before .before .before .args in
     c .refused-at .ensures ∙ ap judgement (sym (multi-short (a .kind) (a .src .now) (c .before .before .before .before .pre) (omega (arith, c .before .before .head-size .ensures))))
 
--- src/judging.rt:183:9
-base-in-requires : tie.Need-base-in-requires
-base-in-requires c κs = search needs
-
--- src/judging.rt:184:11
-judge-records-requires : tie.Need-judge-records-requires
-judge-records-requires c κs = search needs
-
--- src/judging.rt:185:22
-enum-known-refusal : tie.Need-enum-known-refusal
-enum-known-refusal c = search needs
-
--- src/judging.rt:185:41
-refused-at-requires-2 : tie.Need-refused-at-requires-2
-refused-at-requires-2 c κs = search needs
-
--- src/judging.rt:186:23
-enum-known-n : tie.Need-enum-known-n
-enum-known-n c = search needs
-
--- src/judging.rt:186:29
 present-requires : tie.Need-present-requires
 present-requires c κs =
     let a = c .before .before .before .before .before .before .before .before .args in
@@ -62,7 +25,6 @@ present-requires c κs =
     let s = scan-records (a .kind) (a .src .now) (c .before .before .before .before .before .before .head-size .result) (c .before .before .before .before .base-in .result) (c .before .before .before .judge-records .result) (c .before .before .before .before .before .before .head-size .ensures) (c .before .before .before .before .base-in .ensures) (c .before .before .before .judge-records .ensures) (c .before .before .before .before .before .before .before .before .pre) (c .before .before .before .before .before .if1 .left) (g .0 .0) (g .1) in
     (omega (arith, c .before .before .before .before .before .before .head-size .ensures), agrees-multi (a .kind) (g .0 .0) (c .before .before .before .before .before .before .before .before .pre) (s .some-records))
 
--- src/judging.rt:175:1
 returns-2 : tie.Need-returns-2
 returns-2 c =
     let a = c .before .before .before .before .before .before .before .before .before .args in
@@ -70,7 +32,6 @@ returns-2 c =
     c .refused-at2 .ensures
     ∙ ap judgement (sym (scan-faulty (a .kind) (a .src .now) (c .before .before .before .before .before .before .before .head-size .result) (c .before .before .before .before .before .base-in .result) (c .before .before .before .before .judge-records .result) (c .before .before .before .before .before .before .before .head-size .ensures) (c .before .before .before .before .before .base-in .ensures) (c .before .before .before .before .judge-records .ensures) (c .before .before .before .before .before .before .before .before .before .pre) (c .before .before .before .before .before .before .if1 .left) (g .0 .0) (g .0 .1 .0) (g .1)))
 
--- src/judging.rt:175:1
 returns-3 : tie.Need-returns-3
 returns-3 c =
     let a = c .before .before .before .before .before .before .before .before .before .args in
@@ -84,14 +45,14 @@ pub judge-multi-spec : {M : Type 1} → statement M
 judge-multi-spec =
     tie.close
     (tie.spec
-    head-size-requires
-    refused-at-requires
+    (λ c κs. search needs)
+    (λ c κs. search needs)
     returns
-    base-in-requires
-    judge-records-requires
-    enum-known-refusal
-    refused-at-requires-2
-    enum-known-n
+    (λ c κs. search needs)
+    (λ c κs. search needs)
+    (λ c. search needs)
+    (λ c κs. search needs)
+    (λ c. search needs)
     present-requires
     returns-2
     returns-3)

@@ -12,46 +12,12 @@ use Rattle.codec.proofs.Parsing.{next-short, next-at, counted-low, coun
 use borrow.Author.Needs.{needs}
 use Rattle.codec.proofs.judging.judge_record.Statement.{statement}
 use Rattle.codec.proofs.judging.judge_record.Tie as tie
-use Rattle.codec.proofs.judging.judge_record.Reads as reads
-use Rattle.codec.proofs.judging.judge_record.Lts as lts
-use Rattle.fields.proofs.be16_at.Reads as be16-at-reads
-use Rattle.fields.proofs.judge_varint.Reads as judge-varint-reads
 
--- src/judging.rt:47:8
-sub-if1 : tie.Need-sub-if1
-sub-if1 c = search needs
-
--- src/judging.rt:48:9
 returns : tie.Need-returns
 returns c =
     let a = c .before .before .args in
     sym (ap (stepOf (a .at)) (next-short (a .prev) (drop (a .at) (a .src .now)) (rw length-drop (c .if1 .taken))))
 
--- src/judging.rt:50:9
-be16-at-requires : tie.Need-be16-at-requires
-be16-at-requires c κs = search needs
-
--- src/judging.rt:51:37
-add-judge-varint : tie.Need-add-judge-varint
-add-judge-varint c = search needs
-
--- src/judging.rt:51:11
-judge-varint-requires : tie.Need-judge-varint-requires
-judge-varint-requires c κs = search needs
-
--- src/judging.rt:52:44
-enum-told : tie.Need-enum-told
-enum-told c = search needs
-
--- src/judging.rt:53:46
-enum-told-2 : tie.Need-enum-told-2
-enum-told-2 c = search needs
-
--- src/judging.rt:54:22
-enum-known-next : tie.Need-enum-known-next
-enum-known-next c = search needs
-
--- src/judging.rt:56:17
 returns-2 : tie.Need-returns-2
 returns-2 c =
     let a = c .before .before .before .before .before .before .before .before .args in
@@ -60,7 +26,6 @@ returns-2 c =
     sym (ap (stepOf (a .at)) (next-at d (a .at) (a .prev) _ _ (c .before .before .before .before .before .before .if1 .left) (c .before .before .before .before .before .be16-at .ensures) (t .is-whole)
     ∙ counted-low (a .prev) (c .before .before .before .before .before .be16-at .result) (t .count) (t .used) (c .if2 .taken)))
 
--- src/judging.rt:43:1
 returns-3 : tie.Need-returns-3
 returns-3 c =
     let a = c .before .before .before .before .before .before .args in
@@ -68,7 +33,6 @@ returns-3 c =
     let t = told-incomplete (a .at + 2) _ (found (drop (a .at + 2) d)) (sym (c .before .before .judge-varint .ensures) ∙ c .enum-told .given .1) in
     sym (ap (stepOf (a .at)) (next-at d (a .at) (a .prev) _ _ (c .before .before .before .before .if1 .left) (c .before .before .before .be16-at .ensures) (t .0)))
 
--- src/judging.rt:43:1
 returns-4 : tie.Need-returns-4
 returns-4 c =
     let a = c .before .before .before .before .before .before .args in
@@ -76,7 +40,6 @@ returns-4 c =
     let t = told-strange (a .at + 2) _ (found (drop (a .at + 2) d)) (sym (c .before .before .judge-varint .ensures) ∙ c .enum-told2 .given .1) in
     sym (ap (stepOf (a .at)) (next-at d (a .at) (a .prev) _ _ (c .before .before .before .before .if1 .left) (c .before .before .before .be16-at .ensures) (t .0)))
 
--- src/judging.rt:43:1
 returns-5 : tie.Need-returns-5
 returns-5 c =
     let a = c .before .before .before .before .before .before .before .before .args in
@@ -92,14 +55,14 @@ pub judge-record-spec : {M : Type 1} → statement M
 judge-record-spec =
     tie.close
     (tie.spec
-    sub-if1
+    (λ c. search needs)
     returns
-    be16-at-requires
-    add-judge-varint
-    judge-varint-requires
-    enum-told
-    enum-told-2
-    enum-known-next
+    (λ c κs. search needs)
+    (λ c. search needs)
+    (λ c κs. search needs)
+    (λ c. search needs)
+    (λ c. search needs)
+    (λ c. search needs)
     returns-2
     returns-3
     returns-4

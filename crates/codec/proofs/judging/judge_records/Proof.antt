@@ -12,9 +12,6 @@ use Rattle.codec.proofs.Parsing.{rest, rest-end}
 use Rattle.codec.proofs.Turns.{judged-bad, judged-good, Further, scan-none, scan-some}
 use Rattle.codec.proofs.judging.judge_records.Statement.{statement}
 use Rattle.codec.proofs.judging.judge_records.Tie as tie
-use Rattle.codec.proofs.judging.judge_records.Reads as reads
-use Rattle.codec.proofs.judging.judge_records.Lts as lts
-use Rattle.codec.proofs.judging.judge_record.Reads as judge-record-reads
 
 abbrev Inv-loop : tie.InvT-loop
 Inv-loop src start base at₀ prev₀ n₀ at prev n = (at ≤ length src) × (n ≤ at) × (rest src at prev .fault ≡ rest src start base .fault) × (n + length (rest src at prev .records) ≡ length (rest src start base .records))
@@ -22,19 +19,9 @@ Inv-loop src start base at₀ prev₀ n₀ at prev n = (at ≤ length src) × (n
 abbrev μ-loop : tie.MeasureT-loop
 μ-loop src start base at₀ prev₀ n₀ at prev n = length src - at
 
--- src/judging.rt:71:5
 loop-holds : tie.Need-loop-holds Inv-loop μ-loop
 loop-holds c = (omega arith, omega arith, refl, omega arith)
 
--- src/judging.rt:72:15
-judge-record-requires : tie.Need-judge-record-requires Inv-loop μ-loop
-judge-record-requires c κs = search needs
-
--- src/judging.rt:73:23
-enum-known-refusal : tie.Need-enum-known-refusal Inv-loop μ-loop
-enum-known-refusal c = search needs
-
--- src/judging.rt:74:17
 returns : tie.Need-returns Inv-loop μ-loop
 returns c =
     let a = c .before .before .before .before .before .before .before .args in
@@ -42,10 +29,6 @@ returns c =
     let g = c .before .refusal .given in
     let q = judged-bad (a .src .now) (l .at) (l .prev) (c .before .before .before .before .loop-test .taken) (g .0 .0) (sym (c .before .before .before .judge-record .ensures) ∙ g .1) in
     ap (λ (f : Option Fault). scanOf (length (a .src .now)) f (length (rest (a .src .now) (a .start) (a .base) .records))) (sym q ∙ l .inv .2)
-
--- src/judging.rt:76:26
-enum-known-epoch : tie.Need-enum-known-epoch Inv-loop μ-loop
-enum-known-epoch c = search needs
 
 -- one record further
 further : (c : tie.After-known-told2 Inv-loop μ-loop)
@@ -57,22 +40,18 @@ further c =
     let g = c .before .epoch .given in
     judged-good (a .src .now) (l .at) (l .prev) (c .before .before .before .before .loop-test .taken) (g .0 .0) (g .0 .1 .0) (sym (c .before .before .before .judge-record .ensures) ∙ g .1)
 
--- src/judging.rt:79:17
 add-n : tie.Need-add-n Inv-loop μ-loop
 add-n c = let f = further c in omega (arith, f .gains, f .within)
 
--- src/judging.rt:71:5
 loop-less : tie.Need-loop-less Inv-loop μ-loop
 loop-less c = let f = further c in omega (arith, f .gains, f .within)
 
--- src/judging.rt:71:5
 loop-again : tie.Need-loop-again Inv-loop μ-loop
 loop-again c =
     let l = c .before .before .before .before .before .loop in
     let f = further c in
     (f .within, omega (arith, f .gains), sym (f .fault-on) ∙ l .inv .2, omega (arith, f .records-on))
 
--- src/judging.rt:84:9
 returns-2 : tie.Need-returns-2 Inv-loop μ-loop
 returns-2 c =
     let a = c .before .before .before .before .args in
@@ -80,7 +59,6 @@ returns-2 c =
     let e = rest-end (a .src .now) (l .at) (l .prev) (c .before .loop-test .left) in
     scan-none (length (a .src .now)) _ _ (sym (l .inv .2) ∙ ap (λ (p : Parsed). p .fault) e) (omega (arith, ap (λ (p : Parsed). length (p .records)) e))
 
--- src/judging.rt:64:1
 returns-3 : tie.Need-returns-3 Inv-loop μ-loop
 returns-3 c =
     let a = c .before .before .before .before .args in
@@ -95,10 +73,10 @@ judge-records-spec =
     Inv-loop
     μ-loop
     loop-holds
-    judge-record-requires
-    enum-known-refusal
+    (λ c κs. search needs)
+    (λ c. search needs)
     returns
-    enum-known-epoch
+    (λ c. search needs)
     add-n
     loop-less
     loop-again

@@ -6,31 +6,21 @@ use Rattle.codec.proofs.Readings.{single-right, single-wrong, agrees-si
 use borrow.Author.Needs.{needs}
 use Rattle.codec.proofs.judging.judge_single.Statement.{statement}
 use Rattle.codec.proofs.judging.judge_single.Tie as tie
-use Rattle.codec.proofs.judging.judge_single.Reads as reads
-use Rattle.codec.proofs.judging.judge_single.Lts as lts
-use Rattle.codec.proofs.judging.head_size.Reads as head-size-reads
-use Rattle.codec.proofs.judging.present.Reads as present-reads
-use Rattle.codec.proofs.judging.refused_at.Reads as refused-at-reads
 
--- src/judging.rt:195:21
 head-size-requires : tie.Need-head-size-requires
 head-size-requires c κs = search needs
 
--- src/judging.rt:196:9
 present-requires : tie.Need-present-requires
 present-requires c κs = (omega (arith, c .before .head-size .ensures), agrees-single (c .before .before .before .args .kind) (c .before .before .before .pre))
 
--- src/judging.rt:196:9
 returns : tie.Need-returns
 returns c =
     let a = c .before .before .before .before .args in
     c .present .ensures ∙ ap judgement (sym (single-right (a .kind) (a .src .now) (c .before .before .before .before .pre) (c .before .if1 .taken ∙ c .before .before .head-size .ensures)))
 
--- src/judging.rt:198:5
 refused-at-requires : tie.Need-refused-at-requires
 refused-at-requires c κs = search needs
 
--- src/judging.rt:191:1
 returns-2 : tie.Need-returns-2
 returns-2 c =
     let a = c .before .before .before .before .args in

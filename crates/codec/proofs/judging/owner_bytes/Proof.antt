@@ -10,8 +10,6 @@ use lib.Seq.{getD-drop, getD-take}
 use Rattle.codec.proofs.Copying.{Copied, copy-start, copy-more, copy-done, copy-all}
 use Rattle.codec.proofs.judging.owner_bytes.Statement.{statement}
 use Rattle.codec.proofs.judging.owner_bytes.Tie as tie
-use Rattle.codec.proofs.judging.owner_bytes.Reads as reads
-use Rattle.codec.proofs.judging.owner_bytes.Lts as lts
 
 abbrev Inv-loop : tie.InvT-loop
 Inv-loop src owner₀ k₀ owner k = (k ≤ 32) × (length owner ≡ 32) × Copied (take 32 (drop 1 src)) 0 owner₀ k owner
@@ -19,31 +17,9 @@ Inv-loop src owner₀ k₀ owner k = (k ≤ 32) × (length owner ≡ 32) × Copi
 abbrev μ-loop : tie.MeasureT-loop
 μ-loop src owner₀ k₀ owner k = 32 - k
 
--- src/judging.rt:117:5
 loop-holds : tie.Need-loop-holds Inv-loop μ-loop
 loop-holds c = (omega arith, refl, copy-start (take 32 (drop 1 (c .args .src .now))) 0 _)
 
--- src/judging.rt:118:24
-add-owner : tie.Need-add-owner Inv-loop μ-loop
-add-owner c = search needs
-
--- src/judging.rt:118:20
-shared-slice-read-owner : tie.Need-shared-slice-read-owner Inv-loop μ-loop
-shared-slice-read-owner c = search needs
-
--- src/judging.rt:118:9
-array-write-owner : tie.Need-array-write-owner Inv-loop μ-loop
-array-write-owner c = search needs
-
--- src/judging.rt:119:9
-add-k : tie.Need-add-k Inv-loop μ-loop
-add-k c = search needs
-
--- src/judging.rt:117:5
-loop-less : tie.Need-loop-less Inv-loop μ-loop
-loop-less c = search needs
-
--- src/judging.rt:117:5
 loop-again : tie.Need-loop-again Inv-loop μ-loop
 loop-again c =
     let d = c .before .before .before .args .src .now in
@@ -54,7 +30,6 @@ loop-again c =
     ap (λ (i : ℕ). getD d i 0) (add-comm (l .k) 1) ∙ sym (getD-drop 1 d (l .k) 0) ∙ sym (getD-take 32 (drop 1 d) (l .k) 0 (c .before .loop-test .taken)) in
     (omega arith, simp length-set (l .inv .1), rw (zero-add (l .k)) at (copy-more (l .inv .2) x (omega arith) e))
 
--- src/judging.rt:111:1
 returns : tie.Need-returns Inv-loop μ-loop
 returns c =
     let d = c .before .before .args .src .now in
@@ -69,10 +44,10 @@ owner-bytes-spec =
     Inv-loop
     μ-loop
     loop-holds
-    add-owner
-    shared-slice-read-owner
-    array-write-owner
-    add-k
-    loop-less
+    (λ c. search needs)
+    (λ c. search needs)
+    (λ c. search needs)
+    (λ c. search needs)
+    (λ c. search needs)
     loop-again
     returns)

@@ -6,20 +6,13 @@ use Rattle.codec.specs.declared.judging.Verdict.the-variants.{Present}
 use borrow.Author.Needs.{needs}
 use Rattle.codec.proofs.judging.present.Statement.{statement}
 use Rattle.codec.proofs.judging.present.Tie as tie
-use Rattle.codec.proofs.judging.present.Reads as reads
-use Rattle.codec.proofs.judging.present.Lts as lts
-use Rattle.codec.proofs.judging.base_in.Reads as base-in-reads
-use Rattle.codec.proofs.judging.owner_in.Reads as owner-in-reads
 
--- src/judging.rt:161:9
 base-in-requires : tie.Need-base-in-requires
 base-in-requires c κs = c .before .pre .0
 
--- src/judging.rt:162:9
 owner-in-requires : tie.Need-owner-in-requires
 owner-in-requires c κs = c .before .before .pre .0
 
--- src/judging.rt:156:1
 returns : tie.Need-returns
 returns c =
     let a = c .before .before .before .args in

@@ -2,15 +2,10 @@
 use borrow.Author.Needs.{needs}
 use Rattle.codec.proofs.judging.refused_at.Statement.{statement}
 use Rattle.codec.proofs.judging.refused_at.Tie as tie
-use Rattle.codec.proofs.judging.refused_at.Reads as reads
-use Rattle.codec.proofs.judging.refused_at.Lts as lts
-use Rattle.records.proofs.no_head.Reads as no-head-reads
 
--- src/judging.rt:148:9
 no-head-requires : tie.Need-no-head-requires
 no-head-requires c κs = search needs
 
--- src/judging.rt:145:1
 returns : tie.Need-returns
 returns c = rw (c .no-head .ensures)
 

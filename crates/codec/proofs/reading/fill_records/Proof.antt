@@ -12,11 +12,6 @@ use Rattle.codec.specs.Calls.{Complete}
 use Rattle.codec.proofs.Fills.{Ahead, Going, going-start, going-ahead, going-room, going-more, going-done, ahead-inside, ahead-whole}
 use Rattle.codec.proofs.reading.fill_records.Statement.{statement}
 use Rattle.codec.proofs.reading.fill_records.Tie as tie
-use Rattle.codec.proofs.reading.fill_records.Reads as reads
-use Rattle.codec.proofs.reading.fill_records.Lts as lts
-use Rattle.codec.proofs.judging.head_size.Reads as head-size-reads
-use Rattle.fields.proofs.be16_at.Reads as be16-at-reads
-use Rattle.fields.proofs.varint_at.Reads as varint-at-reads
 
 abbrev Inv-loop : tie.InvT-loop
 Inv-loop src n epochs₀ counts₀ at₀ k₀ epochs counts at k = (kind : Kind) → at₀ ≡ headSize kind → Complete kind src n → Going (recordsIn kind src .records) src epochs₀ counts₀ epochs counts at k
@@ -24,11 +19,6 @@ Inv-loop src n epochs₀ counts₀ at₀ k₀ epochs counts at k = (kind : Kind)
 abbrev μ-loop : tie.MeasureT-loop
 μ-loop src n epochs₀ counts₀ at₀ k₀ epochs counts at k = n - k
 
--- src/reading.rt:26:9
-head-size-requires : tie.Need-head-size-requires Inv-loop μ-loop
-head-size-requires c κs = search needs
-
--- src/reading.rt:28:5
 loop-holds : tie.Need-loop-holds Inv-loop μ-loop
 loop-holds c = λ kind e h. let a = c .before .before .before .before .args in going-start kind (a .src .now) (a .epochs .now) (a .counts .now) (a .n) _ e h
 
@@ -48,55 +38,36 @@ room c =
     let p = c .before .before .before .before .before .before .pre in
     going-room (going (c .before)) (more c) (omega (arith, p .0 .all-there, p .1)) (omega (arith, p .0 .all-there, p .1))
 
--- src/reading.rt:29:13
 be16-at-requires : tie.Need-be16-at-requires Inv-loop μ-loop
 be16-at-requires c κs = ahead-inside _ _ _ (step c)
 
--- src/reading.rt:30:45
 add-varint-at : tie.Need-add-varint-at Inv-loop μ-loop
 add-varint-at c = omega (arith, ahead-inside _ _ _ (step (c .before)))
 
--- src/reading.rt:30:13
 varint-at-requires : tie.Need-varint-at-requires Inv-loop μ-loop
 varint-at-requires c κs = ahead-whole _ _ _ (step (c .before))
 
--- src/reading.rt:31:9
 mul-epochs : tie.Need-mul-epochs Inv-loop μ-loop
 mul-epochs c = omega (arith, c .before .before .before .before .before .before .before .before .good, c .before .before .before .before .before .before .before .before .pre .1, c .before .before .loop-test .taken)
 
--- src/reading.rt:31:9
 slice-write-epochs : tie.Need-slice-write-epochs Inv-loop μ-loop
 slice-write-epochs c = room (c .before .before) .0
 
--- src/reading.rt:32:9
 mul-counts : tie.Need-mul-counts Inv-loop μ-loop
 mul-counts c = omega (arith, c .before .before .before .before .before .before .before .before .good, c .before .before .before .before .before .before .before .before .pre .1, c .before .before .loop-test .taken)
 
--- src/reading.rt:32:9
 slice-write-counts : tie.Need-slice-write-counts Inv-loop μ-loop
 slice-write-counts c = room (c .before .before) .1
 
--- src/reading.rt:34:9
-add-k : tie.Need-add-k Inv-loop μ-loop
-add-k c = search needs
-
--- src/reading.rt:28:5
-loop-less : tie.Need-loop-less Inv-loop μ-loop
-loop-less c = search needs
-
--- src/reading.rt:28:5
 loop-again : tie.Need-loop-again Inv-loop μ-loop
 loop-again c = λ kind e h. going-more (c .before .before .before .loop .inv kind e h) (omega (arith, h .all-there, c .before .before .loop-test .taken)) _ (c .varint-at .result) (c .before .be16-at .ensures) (c .varint-at .ensures)
 
--- src/reading.rt:21:1
 same-length : tie.Need-same-length Inv-loop μ-loop
 same-length c = going (c .before) .filling .epochs-long
 
--- src/reading.rt:21:1
 same-length-2 : tie.Need-same-length-2 Inv-loop μ-loop
 same-length-2 c = going (c .before) .filling .counts-long
 
--- src/reading.rt:21:1
 returns : tie.Need-returns Inv-loop μ-loop
 returns c = going-done (going (c .before)) (omega (arith, c .before .before .before .before .before .before .pre .0 .all-there, c .loop-test .left))
 
@@ -106,7 +77,7 @@ fill-records-spec =
     (tie.spec
     Inv-loop
     μ-loop
-    head-size-requires
+    (λ c κs. search needs)
     loop-holds
     be16-at-requires
     add-varint-at
@@ -115,8 +86,8 @@ fill-records-spec =
     slice-write-epochs
     mul-counts
     slice-write-counts
-    add-k
-    loop-less
+    (λ c. search needs)
+    (λ c. search needs)
     loop-again
     same-length
     same-length-2

@@ -9,36 +9,20 @@ use Rattle.codec.proofs.Settling.{read-whole, left-no-epochs, left-no-c
 use borrow.Author.Needs.{needs}
 use Rattle.codec.proofs.reading.settle.Statement.{statement}
 use Rattle.codec.proofs.reading.settle.Tie as tie
-use Rattle.codec.proofs.reading.settle.Reads as reads
-use Rattle.codec.proofs.reading.settle.Lts as lts
-use Rattle.codec.proofs.reading.fill_records.Reads as fill-records-reads
-use Rattle.records.proofs.present.Reads as present-reads
-use Rattle.records.proofs.refused.Reads as refused-reads
 
 count : (c : tie.Start) → let a = c .args in a .head .records ≡ length (recordsIn (a .kind) (a .src .now) .records)
 count c = ap (λ (h : Head). h .records) (c .pre .1)
 
--- src/reading.rt:47:9
-refused-requires : tie.Need-refused-requires
-refused-requires c κs = search needs
-
--- src/reading.rt:47:9
 returns : tie.Need-returns
 returns c =
     let a = c .before .before .before .before .before .args in
     left-no-epochs (a .kind) (a .src .now) (a .epochs .now) (a .counts .now) (c .before .before .before .before .before .pre .0) (c .refused .result) (c .refused .ensures) (omega (arith, count (c .before .before .before .before .before), c .before .if1 .taken))
 
--- src/reading.rt:50:9
-refused-requires-2 : tie.Need-refused-requires-2
-refused-requires-2 c κs = search needs
-
--- src/reading.rt:50:9
 returns-2 : tie.Need-returns-2
 returns-2 c =
     let a = c .before .before .before .before .before .before .args in
     left-no-counts (a .kind) (a .src .now) (a .epochs .now) (a .counts .now) (c .before .before .before .before .before .before .pre .0) (c .refused2 .result) (c .refused2 .ensures) (omega (arith, count (c .before .before .before .before .before .before), c .before .if2 .taken))
 
--- src/reading.rt:52:5
 fill-records-requires : tie.Need-fill-records-requires
 fill-records-requires c κs =
     let a = c .before .before .before .before .before .before .before .args in
@@ -46,19 +30,6 @@ fill-records-requires c κs =
     let n = count (c .before .before .before .before .before .before .before) in
     (record { head-inside = w .head-inside; no-fault = w .no-fault; all-there = sym n }, (omega (arith, c .before .before .before .if1 .left), omega (arith, c .before .before .if2 .left)))
 
--- src/reading.rt:53:5
-present-requires : tie.Need-present-requires
-present-requires c κs = search needs
-
--- src/reading.rt:40:1
-same-length : tie.Need-same-length
-same-length c = search needs
-
--- src/reading.rt:40:1
-same-length-2 : tie.Need-same-length-2
-same-length-2 c = search needs
-
--- src/reading.rt:40:1
 returns-3 : tie.Need-returns-3
 returns-3 c =
     let a = c .before .before .before .before .before .before .before .before .before .before .before .before .before .args in
@@ -70,12 +41,12 @@ pub settle-spec : {M : Type 1} → statement M
 settle-spec =
     tie.close
     (tie.spec
-    refused-requires
+    (λ c κs. search needs)
     returns
-    refused-requires-2
+    (λ c κs. search needs)
     returns-2
     fill-records-requires
-    present-requires
-    same-length
-    same-length-2
+    (λ c κs. search needs)
+    (λ c. search needs)
+    (λ c. search needs)
     returns-3)

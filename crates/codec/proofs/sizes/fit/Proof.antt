@@ -9,30 +9,22 @@ use Rattle.codec.proofs.Sizing.{counts-most, leb-left}
 use borrow.Author.Needs.{needs}
 use Rattle.codec.proofs.sizes.fit.Statement.{statement}
 use Rattle.codec.proofs.sizes.fit.Tie as tie
-use Rattle.codec.proofs.sizes.fit.Reads as reads
-use Rattle.codec.proofs.sizes.fit.Lts as lts
-use Rattle.codec.proofs.sizes.records_size.Reads as records-size-reads
 
--- src/sizes.rt:75:9
 returns : tie.Need-returns
 returns c = let a = c .before .before .args in sym (lt-leb (a .size + countsSize (a .counts .now)) (a .room) (omega arith))
 
--- src/sizes.rt:78:8
 mul-if2 : tie.Need-mul-if2
 mul-if2 c = search needs
 
--- src/sizes.rt:79:9
 returns-2 : tie.Need-returns-2
 returns-2 c =
     let a = c .before .before .before .args in
     let m = counts-most (a .counts .now) (λ i. omega (arith, c .before .before .shared-slice-known .given i)) in
     sym (le-leb (a .size + countsSize (a .counts .now)) (a .room) (omega arith))
 
--- src/sizes.rt:81:5
 records-size-requires : tie.Need-records-size-requires
 records-size-requires c κs = search needs
 
--- src/sizes.rt:71:1
 returns-3 : tie.Need-returns-3
 returns-3 c =
     let a = c .before .before .before .before .args in

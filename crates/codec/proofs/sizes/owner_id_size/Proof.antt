@@ -6,19 +6,13 @@ use Rattle.records.specs.Flags.{owned}
 use borrow.Author.Needs.{needs}
 use Rattle.codec.proofs.sizes.owner_id_size.Statement.{statement}
 use Rattle.codec.proofs.sizes.owner_id_size.Tie as tie
-use Rattle.codec.proofs.sizes.owner_id_size.Reads as reads
-use Rattle.codec.proofs.sizes.owner_id_size.Lts as lts
-use Rattle.records.proofs.head.Kind.is_owned.Reads as is-owned-reads
 
--- src/sizes.rt:61:8
 is-owned-requires : tie.Need-is-owned-requires
 is-owned-requires c κs = search needs
 
--- src/sizes.rt:62:9
 returns : tie.Need-returns
 returns c = let e : owned (c .before .before .args .kind) ≡ true = sym (c .before .is-owned .ensures) ∙ c .if1 .taken in rw e (omega (arith, c .before .before .good), omega arith)
 
--- src/sizes.rt:58:1
 returns-2 : tie.Need-returns-2
 returns-2 c = let e : owned (c .before .before .args .kind) ≡ false = sym (c .before .is-owned .ensures) ∙ c .if1 .left in rw e (omega arith, omega arith)
 

@@ -14,40 +14,20 @@ use Rattle.codec.proofs.Writings.{size-proper, size-improper}
 use borrow.Author.Needs.{needs}
 use Rattle.codec.proofs.sizes.serialized_size.Statement.{statement}
 use Rattle.codec.proofs.sizes.serialized_size.Tie as tie
-use Rattle.codec.proofs.sizes.serialized_size.Reads as reads
-use Rattle.codec.proofs.sizes.serialized_size.Lts as lts
-use Rattle.codec.proofs.sizes.head_bytes_size.Reads as head-bytes-size-reads
-use Rattle.codec.proofs.sizes.records_size.Reads as records-size-reads
-use Rattle.records.proofs.is_proper.Reads as is-proper-reads
 
 -- the flags are proper
 right : (c : tie.Then1) → let a = c .before .before .before .before .args in IsProper (a .head) (a .epochs .now) (a .counts .now)
 right c = let a = c .before .before .before .before .args in proper-inv (a .head) (a .epochs .now) (a .counts .now) (sym (c .before .is-proper .ensures) ∙ c .if1 .taken)
 
--- src/sizes.rt:88:8
-is-proper-requires : tie.Need-is-proper-requires
-is-proper-requires c κs = search needs
-
--- src/sizes.rt:90:31
-head-bytes-size-requires : tie.Need-head-bytes-size-requires
-head-bytes-size-requires c κs = search needs
-
--- src/sizes.rt:90:68
 slice-aggregate-records-size : tie.Need-slice-aggregate-records-size
 slice-aggregate-records-size c = let a = c .before .before .before .before .before .before .args in sym (held-counts (a .head) (a .epochs .now) (a .counts .now) (right (c .before .before)))
 
--- src/sizes.rt:90:55
-records-size-requires : tie.Need-records-size-requires
-records-size-requires c κs = search needs
-
--- src/sizes.rt:90:31
 add-t10 : tie.Need-add-t10
 add-t10 c =
     let a = c .before .before .before .before .before .before .before .args in
     let p = right (c .before .before .before) in
     omega (arith, c .before .before .head-bytes-size .ensures .1, c .records-size .ensures .1, held-counts (a .head) (a .epochs .now) (a .counts .now) p, p .counts-long, c .before .before .before .before .before .before .before .good)
 
--- src/sizes.rt:90:9
 returns : tie.Need-returns
 returns c =
     let a = c .before .before .before .before .before .before .before .args in
@@ -56,7 +36,6 @@ returns c =
     omega (arith, n, c .before .before .head-bytes-size .ensures .0, c .records-size .ensures .0) in
     ap ok e ∙ sym (size-proper (a .head) (a .epochs .now) (a .counts .now) (sym (c .before .before .before .before .is-proper .ensures) ∙ c .before .before .before .if1 .taken))
 
--- src/sizes.rt:85:1
 returns-2 : tie.Need-returns-2
 returns-2 c =
     let a = c .before .before .before .before .args in
@@ -66,10 +45,10 @@ pub serialized-size-spec : {M : Type 1} → statement M
 serialized-size-spec =
     tie.close
     (tie.spec
-    is-proper-requires
-    head-bytes-size-requires
+    (λ c κs. search needs)
+    (λ c κs. search needs)
     slice-aggregate-records-size
-    records-size-requires
+    (λ c κs. search needs)
     add-t10
     returns
     returns-2)

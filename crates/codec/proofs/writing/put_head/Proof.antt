@@ -19,24 +19,9 @@ use Rattle.fields.proofs.Parts.{Parts, parts-put, parts-last, parts-room}
 use borrow.Author.Needs.{needs}
 use Rattle.codec.proofs.writing.put_head.Statement.{statement}
 use Rattle.codec.proofs.writing.put_head.Tie as tie
-use Rattle.codec.proofs.writing.put_head.Reads as reads
-use Rattle.codec.proofs.writing.put_head.Lts as lts
-use Rattle.codec.proofs.writing.put_owner.Reads as put-owner-reads
-use Rattle.fields.proofs.put_be16.Reads as put-be16-reads
-use Rattle.records.proofs.head.Kind.is_owned.Reads as is-owned-reads
-use Rattle.records.proofs.head.Kind.type_byte.Reads as type-byte-reads
 
--- src/writing.rt:38:14
-type-byte-requires : tie.Need-type-byte-requires
-type-byte-requires c κs = search needs
-
--- src/writing.rt:38:5
 slice-write-out : tie.Need-slice-write-out
 slice-write-out c = omega (arith, c .before .before .pre)
-
--- src/writing.rt:39:8
-is-owned-requires : tie.Need-is-owned-requires
-is-owned-requires c κs = search needs
 
 -- the kind and the owner are written; the base epoch is left
 owned-part : (c : tie.After-put-owner) → let a = c .before .before .before .before .before .before .before .args in
@@ -57,37 +42,30 @@ unowned-put c =
     let e : owned (c .before .before .before .before .before .before .before .before .args .head .kind) ≡ false = sym (c .before .before .before .before .before .is-owned .ensures) ∙ c .before .before .before .before .if1 .left in
     rw e (parts-last (head-part (a .head .kind) none (a .head .base) (c .before .before .before .before .before .before .type-byte .result) (a .out .now) (c .before .before .before .before .before .before .type-byte .ensures)) (c .before .before .put-be162 .ensures))
 
--- src/writing.rt:41:13
 put-owner-requires : tie.Need-put-owner-requires
 put-owner-requires c κs =
     let e : owned (c .before .before .before .before .before .before .args .head .kind) ≡ true = sym (c .before .before .before .is-owned .ensures) ∙ c .before .before .if1 .taken in
     let h : 3 + length (c .before .before .before .before .before .before .args .head .owner) ≤ length (c .before .before .before .before .before .before .args .out .now) = rw e at (c .before .before .before .before .before .before .pre) in
     simp length-set (omega arith)
 
--- src/writing.rt:42:9
 put-be16-requires : tie.Need-put-be16-requires
 put-be16-requires c κs =
     let a = c .before .before .before .before .before .before .before .before .before .before .args in
     let h = length-head (a .head .kind) (ownerOf (a .head)) (a .head .base) in
     omega (arith, length-big 2 (a .head .base), parts-room (owned-part (c .before .before .before)) (omega (arith, c .before .before .before .before .before .before .before .before .before .before .pre, h)))
 
--- src/writing.rt:42:9
 same-length : tie.Need-same-length
 same-length c = put-long (owned-put c)
 
--- src/writing.rt:42:9
 returns : tie.Need-returns
 returns c = owned-put c
 
--- src/writing.rt:44:5
 put-be16-requires-2 : tie.Need-put-be16-requires-2
 put-be16-requires-2 c κs = simp length-set (omega (arith, c .before .before .before .before .before .pre))
 
--- src/writing.rt:33:1
 same-length-2 : tie.Need-same-length-2
 same-length-2 c = put-long (unowned-put c)
 
--- src/writing.rt:33:1
 returns-2 : tie.Need-returns-2
 returns-2 c = unowned-put c
 
@@ -95,9 +73,9 @@ pub put-head-spec : {M : Type 1} → statement M
 put-head-spec =
     tie.close
     (tie.spec
-    type-byte-requires
+    (λ c κs. search needs)
     slice-write-out
-    is-owned-requires
+    (λ c κs. search needs)
     put-owner-requires
     put-be16-requires
     same-length

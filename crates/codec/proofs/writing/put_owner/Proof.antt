@@ -7,8 +7,6 @@ use lib.ListN.{length, length-set}
 use Rattle.codec.proofs.Copying.{Copied, copy-start, copy-more, copy-done}
 use Rattle.codec.proofs.writing.put_owner.Statement.{statement}
 use Rattle.codec.proofs.writing.put_owner.Tie as tie
-use Rattle.codec.proofs.writing.put_owner.Reads as reads
-use Rattle.codec.proofs.writing.put_owner.Lts as lts
 
 abbrev Inv-loop : tie.InvT-loop
 Inv-loop out₀ at owner k₀ out k = (k ≤ 32) × (length owner ≡ 32) × Copied owner at out₀ k out
@@ -16,45 +14,23 @@ Inv-loop out₀ at owner k₀ out k = (k ≤ 32) × (length owner ≡ 32) × Cop
 abbrev μ-loop : tie.MeasureT-loop
 μ-loop out₀ at owner k₀ out k = 32 - k
 
--- src/writing.rt:25:5
 loop-holds : tie.Need-loop-holds Inv-loop μ-loop
 loop-holds c = (omega arith, omega arith, copy-start (c .args .t3) (c .args .at) (c .args .out .now))
 
--- src/writing.rt:26:23
-array-read-out : tie.Need-array-read-out Inv-loop μ-loop
-array-read-out c = search needs
-
--- src/writing.rt:26:13
 add-out : tie.Need-add-out Inv-loop μ-loop
 add-out c = let l = c .before .loop in omega (arith, l .inv .2 .reached)
 
--- src/writing.rt:26:9
 slice-write-out : tie.Need-slice-write-out Inv-loop μ-loop
 slice-write-out c = let l = c .before .loop in omega (arith, l .inv .2 .long)
 
--- src/writing.rt:27:9
-add-k : tie.Need-add-k Inv-loop μ-loop
-add-k c = search needs
-
--- src/writing.rt:25:5
-loop-less : tie.Need-loop-less Inv-loop μ-loop
-loop-less c = search needs
-
--- src/writing.rt:25:5
 loop-again : tie.Need-loop-again Inv-loop μ-loop
 loop-again c =
     let l = c .before .loop in
     (omega arith, l .inv .1, copy-more (l .inv .2) _ (omega arith) refl)
 
--- src/writing.rt:29:5
-add-result : tie.Need-add-result Inv-loop μ-loop
-add-result c = search needs
-
--- src/writing.rt:20:1
 same-length : tie.Need-same-length Inv-loop μ-loop
 same-length c = c .before .loop .inv .2 .long
 
--- src/writing.rt:20:1
 returns : tie.Need-returns Inv-loop μ-loop
 returns c =
     let l = c .before .loop in
@@ -68,12 +44,12 @@ put-owner-spec =
     Inv-loop
     μ-loop
     loop-holds
-    array-read-out
+    (λ c. search needs)
     add-out
     slice-write-out
-    add-k
-    loop-less
+    (λ c. search needs)
+    (λ c. search needs)
     loop-again
-    add-result
+    (λ c. search needs)
     same-length
     returns)

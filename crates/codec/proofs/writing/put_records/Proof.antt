@@ -13,10 +13,6 @@ use Rattle.fields.proofs.Parts.{Parts, parts-start, parts-put, parts-done, part
 use Rattle.codec.proofs.Writings.{bytesFrom, bytes-on, bytes-end, bytes-size}
 use Rattle.codec.proofs.writing.put_records.Statement.{statement}
 use Rattle.codec.proofs.writing.put_records.Tie as tie
-use Rattle.codec.proofs.writing.put_records.Reads as reads
-use Rattle.codec.proofs.writing.put_records.Lts as lts
-use Rattle.fields.proofs.put_be16.Reads as put-be16-reads
-use Rattle.fields.proofs.put_varint.Reads as put-varint-reads
 
 abbrev Inv-loop : tie.InvT-loop
 Inv-loop out₀ at epochs counts i₀ k₀ out i k = (k ≤ length epochs) × Parts (bytesFrom epochs counts 0) at out₀ (bytesFrom epochs counts k) i out
@@ -24,17 +20,8 @@ Inv-loop out₀ at epochs counts i₀ k₀ out i k = (k ≤ length epochs) × Pa
 abbrev μ-loop : tie.MeasureT-loop
 μ-loop out₀ at epochs counts i₀ k₀ out i k = length epochs - k
 
--- src/writing.rt:55:5
 loop-holds : tie.Need-loop-holds Inv-loop μ-loop
 loop-holds c = (omega arith, parts-start _ _ _)
-
--- src/writing.rt:56:47
-mul-put-be16 : tie.Need-mul-put-be16 Inv-loop μ-loop
-mul-put-be16 c = search needs
-
--- src/writing.rt:56:47
-shared-slice-read-put-be16 : tie.Need-shared-slice-read-put-be16 Inv-loop μ-loop
-shared-slice-read-put-be16 c = search needs
 
 -- all records have room
 all-room : (c : tie.Start Inv-loop μ-loop) → let a = c .args in a .at + length (bytesFrom (a .epochs .now) (a .counts .now) 0) ≤ length (a .out .now)
@@ -55,7 +42,6 @@ epoch-put : (c : tie.After-put-be16 Inv-loop μ-loop) → let a = c .before .bef
     (c .put-be16 .result) (c .put-be16 .last .0)
 epoch-put c = parts-put (c .before .before .before .before .loop .inv .1) (left-at (c .before .before .before)) (c .put-be16 .ensures)
 
--- src/writing.rt:56:13
 put-be16-requires : tie.Need-put-be16-requires Inv-loop μ-loop
 put-be16-requires c κs =
     let a = c .before .before .before .before .before .before .before .args in
@@ -63,38 +49,30 @@ put-be16-requires c κs =
     let v : List ℕ = varint (getD (a .counts .now) (l .k) 0) ++ bytesFrom (a .epochs .now) (a .counts .now) (l .k + 1) in
     omega (arith, room (c .before .before), ap length (left-at (c .before .before)), length-append (big 2 (getD (a .epochs .now) (l .k) 0)) v, length-big 2 (getD (a .epochs .now) (l .k) 0))
 
--- src/writing.rt:57:45
 mul-put-varint : tie.Need-mul-put-varint Inv-loop μ-loop
 mul-put-varint c = omega (arith, c .before .before .before .before .before .before .before .before .before .before .before .good, c .before .before .before .before .before .before .before .before .before .before .before .pre .0, c .before .before .before .before .before .before .loop-test .taken)
 
--- src/writing.rt:57:45
 shared-slice-read-put-varint : tie.Need-shared-slice-read-put-varint Inv-loop μ-loop
 shared-slice-read-put-varint c = omega (arith, c .before .before .before .before .before .before .before .before .before .before .before .before .pre .0, c .before .before .before .before .before .before .before .loop-test .taken)
 
--- src/writing.rt:57:9
 put-varint-requires : tie.Need-put-varint-requires Inv-loop μ-loop
 put-varint-requires c κs =
     let a = c .before .before .before .before .before .before .before .before .before .before .before .before .args in
     let l = c .before .before .before .before .before .before .before .before .loop in
     omega (arith, parts-room (epoch-put (c .before .before .before .before)) (all-room (c .before .before .before .before .before .before .before .before .before .before .before .before)), length-append (varint (getD (a .counts .now) (l .k) 0)) (bytesFrom (a .epochs .now) (a .counts .now) (l .k + 1)))
 
--- src/writing.rt:58:9
 add-k : tie.Need-add-k Inv-loop μ-loop
 add-k c = omega (arith, c .before .before .before .before .before .before .before .before .before .before .before .before .before .before .before .good, c .before .before .before .before .before .before .before .before .before .before .loop-test .taken)
 
--- src/writing.rt:55:5
 loop-less : tie.Need-loop-less Inv-loop μ-loop
 loop-less c = omega (arith, c .before .before .before .before .before .before .before .before .before .before .loop-test .taken)
 
--- src/writing.rt:55:5
 loop-again : tie.Need-loop-again Inv-loop μ-loop
 loop-again c = (omega (arith, c .before .before .before .before .before .before .before .before .before .before .loop-test .taken), parts-put (epoch-put (c .before .before .before .before .before .before .before)) refl (c .before .before .put-varint .ensures))
 
--- src/writing.rt:48:1
 same-length : tie.Need-same-length Inv-loop μ-loop
 same-length c = c .before .loop .inv .1 .long
 
--- src/writing.rt:48:1
 returns : tie.Need-returns Inv-loop μ-loop
 returns c =
     let a = c .before .before .before .before .before .args in
@@ -107,8 +85,8 @@ put-records-spec =
     Inv-loop
     μ-loop
     loop-holds
-    mul-put-be16
-    shared-slice-read-put-be16
+    (λ c. search needs)
+    (λ c. search needs)
     put-be16-requires
     mul-put-varint
     shared-slice-read-put-varint

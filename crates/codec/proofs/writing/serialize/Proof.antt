@@ -19,13 +19,6 @@ use Rattle.codec.proofs.Writings.{serialized-proper, serialized-imprope
 use borrow.Author.Needs.{needs}
 use Rattle.codec.proofs.writing.serialize.Statement.{statement}
 use Rattle.codec.proofs.writing.serialize.Tie as tie
-use Rattle.codec.proofs.writing.serialize.Reads as reads
-use Rattle.codec.proofs.writing.serialize.Lts as lts
-use Rattle.codec.proofs.sizes.fit.Reads as fit-reads
-use Rattle.codec.proofs.sizes.head_bytes_size.Reads as head-bytes-size-reads
-use Rattle.codec.proofs.writing.put_head.Reads as put-head-reads
-use Rattle.codec.proofs.writing.put_records.Reads as put-records-reads
-use Rattle.records.proofs.is_proper.Reads as is-proper-reads
 
 -- the flags are proper
 right : (c : tie.Then1) → let a = c .before .before .before .before .before .args in IsProper (a .head) (a .epochs .now) (a .counts .now)
@@ -46,48 +39,30 @@ put c =
     rw (bytes-proper (a .head) (a .epochs .now) (a .counts .now) (right (c .before .before .before .before .before .before .before .before .before .before .before .before .before .before)))
     (parts-last (parts-put (parts-start _ 0 (a .out .now)) refl (c .before .before .before .before .before .before .before .before .put-head .ensures)) (c .before .before .put-records .ensures))
 
--- src/writing.rt:67:8
-is-proper-requires : tie.Need-is-proper-requires
-is-proper-requires c κs = search needs
-
--- src/writing.rt:69:16
-head-bytes-size-requires : tie.Need-head-bytes-size-requires
-head-bytes-size-requires c κs = search needs
-
--- src/writing.rt:69:39
 slice-aggregate-fit : tie.Need-slice-aggregate-fit
 slice-aggregate-fit c = let a = c .before .before .before .before .before .before .before .args in sym (held-counts (a .head) (a .epochs .now) (a .counts .now) (right (c .before .before)))
 
--- src/writing.rt:69:12
-fit-requires : tie.Need-fit-requires
-fit-requires c κs = search needs
-
--- src/writing.rt:70:17
 put-head-requires : tie.Need-put-head-requires
 put-head-requires c κs = omega (arith, fits (c .before))
 
--- src/writing.rt:71:56
 slice-aggregate-put-records : tie.Need-slice-aggregate-put-records
 slice-aggregate-put-records c = let a = c .before .before .before .before .before .before .before .before .before .before .before .before .before .before .before .args in sym (held-epochs (a .head) (a .epochs .now) (a .counts .now) (right (c .before .before .before .before .before .before .before .before .before .before)))
 
--- src/writing.rt:71:70
 slice-aggregate-put-records-2 : tie.Need-slice-aggregate-put-records-2
 slice-aggregate-put-records-2 c = let a = c .before .before .before .before .before .before .before .before .before .before .before .before .before .before .before .before .args in sym (held-counts (a .head) (a .epochs .now) (a .counts .now) (right (c .before .before .before .before .before .before .before .before .before .before .before)))
 
--- src/writing.rt:71:35
 put-records-requires : tie.Need-put-records-requires
 put-records-requires c κs =
     let a = c .before .before .before .before .before .before .before .before .before .before .before .before .before .before .before .before .args in
     let r = right (c .before .before .before .before .before .before .before .before .before .before .before) in
-    let p = c .before .before .before .before .before .put-head .ensures in
-    (held-epochs (a .head) (a .epochs .now) (a .counts .now) r ∙ sym (held-counts (a .head) (a .epochs .now) (a .counts .now) r),
-    omega (arith, fits (c .before .before .before .before .before .before .before), p .behind, length-head (a .head .kind) (ownerOf (a .head)) (a .head .base), put-long p))
+    let p = c .before .before .before .before .before .put-head .ensures in (
+      held-epochs (a .head) (a .epochs .now) (a .counts .now) r ∙ sym (held-counts (a .head) (a .epochs .now) (a .counts .now) r),
+      omega (arith, fits (c .before .before .before .before .before .before .before), p .behind, length-head (a .head .kind) (ownerOf (a .head)) (a .head .base), put-long p),
+    )
 
--- src/writing.rt:71:13
 same-length : tie.Need-same-length
 same-length c = put-long (put c)
 
--- src/writing.rt:71:13
 returns : tie.Need-returns
 returns c =
     let a = c .before .before .before .before .before .before .before .before .before .before .before .before .before .before .before .before .before .before .before .args in
@@ -95,7 +70,6 @@ returns c =
     put-written (bytesOf (flagsOf (a .head) (a .epochs .now) (a .counts .now))) (a .out .now) _ _ (put c) (omega (arith, n, fits (c .before .before .before .before .before .before .before .before .before .before)))
     ∙ sym (serialized-proper (a .head) (a .epochs .now) (a .counts .now) (a .out .now) (sym (c .before .before .before .before .before .before .before .before .before .before .before .before .before .before .before .is-proper .ensures) ∙ c .before .before .before .before .before .before .before .before .before .before .before .before .before .before .if1 .taken))
 
--- src/writing.rt:73:9
 returns-2 : tie.Need-returns-2
 returns-2 c =
     let a = c .before .before .before .before .before .before .before .before .before .args in
@@ -104,7 +78,6 @@ returns-2 c =
     sym (serialized-proper (a .head) (a .epochs .now) (a .counts .now) (a .out .now) (sym (c .before .before .before .before .before .is-proper .ensures) ∙ c .before .before .before .before .if1 .taken)
     ∙ writing-short (bytesOf (flagsOf (a .head) (a .epochs .now) (a .counts .now))) (a .out .now) (omega (arith, n, m, c .before .before .before .head-bytes-size .ensures .0)))
 
--- src/writing.rt:64:1
 returns-3 : tie.Need-returns-3
 returns-3 c =
     let a = c .before .before .before .before .before .args in
@@ -114,10 +87,10 @@ pub serialize-spec : {M : Type 1} → statement M
 serialize-spec =
     tie.close
     (tie.spec
-    is-proper-requires
-    head-bytes-size-requires
+    (λ c κs. search needs)
+    (λ c κs. search needs)
     slice-aggregate-fit
-    fit-requires
+    (λ c κs. search needs)
     put-head-requires
     slice-aggregate-put-records
     slice-aggregate-put-records-2

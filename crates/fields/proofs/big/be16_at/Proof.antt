@@ -5,38 +5,19 @@ use Rattle.fields.proofs.Bigs.{two-at}
 use borrow.Author.Needs.{needs}
 use Rattle.fields.proofs.big.be16_at.Statement.{statement}
 use Rattle.fields.proofs.big.be16_at.Tie as tie
-use Rattle.fields.proofs.big.be16_at.Reads as reads
-use Rattle.fields.proofs.big.be16_at.Lts as lts
 
--- src/big.rt:13:6
-shared-slice-read-result : tie.Need-shared-slice-read-result
-shared-slice-read-result c = search needs
-
--- src/big.rt:13:6
 cast-result : tie.Need-cast-result
 cast-result c = omega (arith, c .shared-slice-known .given (c .before .args .at))
 
--- src/big.rt:13:5
 mul-result : tie.Need-mul-result
 mul-result c = omega (arith, c .shared-slice-known .given (c .before .args .at))
 
--- src/big.rt:13:34
-add-result : tie.Need-add-result
-add-result c = search needs
-
--- src/big.rt:13:30
-shared-slice-read-result-2 : tie.Need-shared-slice-read-result-2
-shared-slice-read-result-2 c = search needs
-
--- src/big.rt:13:30
 cast-result-2 : tie.Need-cast-result-2
 cast-result-2 c = omega (arith, c .shared-slice-known2 .given (c .before .before .args .at + 1))
 
--- src/big.rt:13:5
 add-result-2 : tie.Need-add-result-2
 add-result-2 c = omega (arith, c .shared-slice-known2 .given (c .before .before .args .at), c .shared-slice-known2 .given (c .before .before .args .at + 1))
 
--- src/big.rt:9:1
 returns : tie.Need-returns
 returns c = let a = c .before .before .args in two-at (a .src .now) (a .at) (omega arith)
 
@@ -44,11 +25,11 @@ pub be16-at-spec : {M : Type 1} → statement M
 be16-at-spec =
     tie.close
     (tie.spec
-    shared-slice-read-result
+    (λ c. search needs)
     cast-result
     mul-result
-    add-result
-    shared-slice-read-result-2
+    (λ c. search needs)
+    (λ c. search needs)
     cast-result-2
     add-result-2
     returns)

@@ -2,14 +2,10 @@
 use borrow.Author.Tests.{eq-eqb, ne-eqb}
 use Rattle.fields.proofs.varint.end_at.Statement.{statement}
 use Rattle.fields.proofs.varint.end_at.Tie as tie
-use Rattle.fields.proofs.varint.end_at.Reads as reads
-use Rattle.fields.proofs.varint.end_at.Lts as lts
 
--- src/varint.rt:79:9
 returns : tie.Need-returns
 returns c = simp (eq-eqb (c .before .args .last) 0 (c .if1 .taken))
 
--- src/varint.rt:75:1
 returns-2 : tie.Need-returns-2
 returns-2 c = simp (ne-eqb (c .before .args .last) 0 (c .if1 .left))
 

@@ -6,11 +6,9 @@ use native.Mathlib.Omega.{arith}
 use borrow.Author.Needs.{needs}
 use lib.ListN.{length}
 use Rattle.fields.specs.Varint.{Passed, judgedAt}
-use Rattle.fields.proofs.Places.{passed-cut, passed-ten, passed-more, passed-long}
+use Rattle.fields.proofs.Places.{judged-cut, passed-ten, passed-more, passed-long}
 use Rattle.fields.proofs.varint.judge_long.Statement.{statement}
 use Rattle.fields.proofs.varint.judge_long.Tie as tie
-use Rattle.fields.proofs.varint.judge_long.Reads as reads
-use Rattle.fields.proofs.varint.judge_long.Lts as lts
 
 abbrev Inv-loop : tie.InvT-loop
 Inv-loop src at k₀ k = (5 ≤ k) × (k ≤ 10) × (at + k ≤ length src) × Passed src at k
@@ -18,48 +16,30 @@ Inv-loop src at k₀ k = (5 ≤ k) × (k ≤ 10) × (at + k ≤ length src) × P
 abbrev μ-loop : tie.MeasureT-loop
 μ-loop src at k₀ k = 10 - k
 
--- src/varint.rt:90:5
 loop-holds : tie.Need-loop-holds Inv-loop μ-loop
 loop-holds c = (omega arith, omega arith, omega arith, c .pre .0)
 
--- src/varint.rt:91:17
 add-i : tie.Need-add-i Inv-loop μ-loop
 add-i c = omega arith
 
--- src/varint.rt:93:13
 returns : tie.Need-returns Inv-loop μ-loop
 returns c =
     let a = c .before .before .before .args in
     let l = c .before .before .loop in
-    ap (judgedAt (a .at)) (sym (passed-cut (a .src .now) (a .at) (l .k) (l .inv .3) (c .if1 .taken)))
+    judged-cut (a .src .now) (a .at) (l .k) (l .inv .3) (c .if1 .taken)
 
--- src/varint.rt:95:12
-shared-slice-read-if2 : tie.Need-shared-slice-read-if2 Inv-loop μ-loop
-shared-slice-read-if2 c = search needs
-
--- src/varint.rt:96:13
 returns-2 : tie.Need-returns-2 Inv-loop μ-loop
 returns-2 c =
     let a = c .before .before .before .before .before .args in
     let l = c .before .before .before .before .loop in
     ap (judgedAt (a .at)) (sym (passed-long (a .src .now) (a .at) (l .k) (l .inv .3) (c .before .before .if1 .left) (c .if2 .taken) (c .before .before .before .loop-test .taken) (l .inv .0)))
 
--- src/varint.rt:98:9
-add-k : tie.Need-add-k Inv-loop μ-loop
-add-k c = search needs
-
--- src/varint.rt:90:5
-loop-less : tie.Need-loop-less Inv-loop μ-loop
-loop-less c = search needs
-
--- src/varint.rt:90:5
 loop-again : tie.Need-loop-again Inv-loop μ-loop
 loop-again c =
     let a = c .before .before .before .before .before .args in
     let l = c .before .before .before .before .loop in
     (omega arith, omega arith, omega arith, passed-more (a .src .now) (a .at) (l .k) (l .inv .3) (c .before .before .if1 .left) (l .k + 1) refl (c .if2 .left))
 
--- src/varint.rt:85:1
 returns-3 : tie.Need-returns-3 Inv-loop μ-loop
 returns-3 c =
     let a = c .before .before .args in
@@ -75,9 +55,9 @@ judge-long-spec =
     loop-holds
     add-i
     returns
-    shared-slice-read-if2
+    (λ c. search needs)
     returns-2
-    add-k
-    loop-less
+    (λ c. search needs)
+    (λ c. search needs)
     loop-again
     returns-3)
