@@ -1,6 +1,7 @@
 -- `listing::list_flags` meets its contract: what was read tells the text, which is written where it has room. Assumes nothing.
-use mathlib.Core.Path.{_≡_, sym, _∙_}
+use mathlib.Core.Path.{_≡_, sym, ap, _∙_}
 use native.Mathlib.Omega.{arith}
+use lib.ListN.{length}
 use borrow.Author.Needs.{needs}
 use Rattle.codec.specs.Reading.{read}
 use Rattle.listing.specs.Heads.{outcomeText}
@@ -27,7 +28,8 @@ text c = listed-read (c .before .before .before .before .before .before .before 
 
 returns : tie.Need-returns
 returns c =
-    rw (text (c .before .before .before .before .before .before .before .before)) (sym (writing-short _ _ (rw (c .before .answer-len .ensures) at (c .if1 .taken))))
+    let a = c .before .before .before .before .before .before .before .before .before .before .before .before .before .before .before .args in
+    sym (writing-short (listed (a .src .now)) (a .out .now) (omega (arith, ap length (text (c .before .before .before .before .before .before .before .before)), c .before .answer-len .ensures)))
 
 put-answer-requires : tie.Need-put-answer-requires
 put-answer-requires c κs = (told (c .before .before .before .before .before .before .before .before .before .before .before) .held, omega (arith, c .before .before .before .before .answer-len .ensures, c .before .before .before .if1 .left))
