@@ -132,6 +132,7 @@ fn owner_in(kind: Kind, src: &[u8]) -> OwnerId
     [0u8; 32]
 }
 
+// No flags.
 fn absent() -> Judgement
     ensures { λ r. ⌜ r ≡ judgement noFlags ⌝ }
 {
@@ -142,6 +143,7 @@ fn absent() -> Judgement
     }
 }
 
+// A refusal, with the place of its fault.
 fn refused_at(refusal: Refusal, place: usize) -> Judgement
     ensures { λ r. ⌜ r ≡ judgement (refusedAt refusal place) ⌝ }
 {

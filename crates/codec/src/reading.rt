@@ -69,18 +69,21 @@ fn read_as(kind: Kind, src: &[u8], epochs: &mut [u16], counts: &mut [u32]) -> An
     }
 }
 
+// Reads flags of kind 0, whatever byte 0 says.
 pub fn deserialize_single_epoch(src: &[u8], epochs: &mut [u16], counts: &mut [u32]) -> Answered
     ensures { λ r. ⌜ shown r (now (epochs .exit)) (now (counts .exit)) ≡ deserializedAs SingleEpoch (now (src .entry)) (now (epochs .entry)) (now (counts .entry)) ⌝ }
 {
     read_as(Kind::SingleEpoch, src, epochs, counts)
 }
 
+// Reads flags of kind 1, whatever byte 0 says.
 pub fn deserialize_multi_epoch(src: &[u8], epochs: &mut [u16], counts: &mut [u32]) -> Answered
     ensures { λ r. ⌜ shown r (now (epochs .exit)) (now (counts .exit)) ≡ deserializedAs MultiEpoch (now (src .entry)) (now (epochs .entry)) (now (counts .entry)) ⌝ }
 {
     read_as(Kind::MultiEpoch, src, epochs, counts)
 }
 
+// Reads flags of kind 2, whatever byte 0 says.
 pub fn deserialize_single_epoch_owned(
     src: &[u8],
     epochs: &mut [u16],
@@ -91,6 +94,7 @@ pub fn deserialize_single_epoch_owned(
     read_as(Kind::SingleEpochOwned, src, epochs, counts)
 }
 
+// Reads flags of kind 3, whatever byte 0 says.
 pub fn deserialize_multi_epoch_owned(src: &[u8], epochs: &mut [u16], counts: &mut [u32]) -> Answered
     ensures { λ r. ⌜ shown r (now (epochs .exit)) (now (counts .exit)) ≡ deserializedAs MultiEpochOwned (now (src .entry)) (now (epochs .entry)) (now (counts .entry)) ⌝ }
 {

@@ -192,6 +192,7 @@ pub fn judge_varint(src: &[u8], at: usize) -> Judged
     judge_third(src, at)
 }
 
+// The same number in 32 bits.
 fn wide(byte: u8) -> u32
     ensures { λ r. ⌜ r ≡ byte ⌝ }
 {

@@ -36,6 +36,7 @@ pub fn no_head() -> Head
     }
 }
 
+// The answer that there are no flags.
 pub fn absent() -> Answered
     ensures { λ r. ⌜ r ≡ record { outcome = Outcome.Absent; head = noHead } ⌝ }
 {
@@ -46,6 +47,7 @@ pub fn absent() -> Answered
     }
 }
 
+// The answer of a refused call.
 pub fn refused(refusal: Refusal) -> Answered
     ensures { λ r. ⌜ r ≡ record { outcome = Outcome.Refused refusal; head = noHead } ⌝ }
 {
@@ -56,6 +58,7 @@ pub fn refused(refusal: Refusal) -> Answered
     }
 }
 
+// The answer that there are flags, with this head.
 pub fn present(head: Head) -> Answered
     ensures { λ r. ⌜ r ≡ record { outcome = Outcome.Present; head = head } ⌝ }
 {

@@ -2,6 +2,7 @@
 ghost use mathlib.Core.Path.{_≡_};
 ghost use Rattle.records.specs.Flags.{owned, multi, typeByte, kindOfByte, ownerIf, ownerOf, maybeOwner, headFor, withOwner};
 
+// Who paid.
 pub type OwnerId = [u8; 32];
 
 // The four kinds, in the order of their bytes.
@@ -33,6 +34,7 @@ pub struct Head {
 }
 
 impl Kind {
+    // Whether flags of this kind have an owner.
     pub fn is_owned(self) -> bool
         ensures { λ r. ⌜ r ≡ owned self ⌝ }
     {
@@ -44,6 +46,7 @@ impl Kind {
         }
     }
 
+    // Whether flags of this kind have records.
     pub fn is_multi(self) -> bool
         ensures { λ r. ⌜ r ≡ multi self ⌝ }
     {
@@ -55,6 +58,7 @@ impl Kind {
         }
     }
 
+    // The kind's byte, 0 to 3.
     pub fn type_byte(self) -> u8
         ensures { λ r. ⌜ r ≡ typeByte self ⌝ }
     {
@@ -120,6 +124,7 @@ impl Head {
         self
     }
 
+    // The epoch of the bytes that no record counts.
     pub fn base_epoch(self) -> u16
         ensures { λ r. ⌜ r ≡ self .base ⌝ }
     {
@@ -141,6 +146,7 @@ impl Head {
         }
     }
 
+    // Byte 0 of the flags.
     pub fn type_byte(self) -> u8
         ensures { λ r. ⌜ r ≡ typeByte (self .kind) ⌝ }
     {

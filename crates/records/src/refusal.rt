@@ -2,6 +2,7 @@
 ghost use mathlib.Core.Path.{_≡_};
 ghost use Rattle.records.specs.Refusals.{number};
 
+// Document 01's refusals, in the order of their numbers.
 pub enum Refusal {
     UnknownType,
     WrongSize,
