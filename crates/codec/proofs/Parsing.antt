@@ -16,7 +16,7 @@ use Rattle.fields.proofs.RoundTrip.{found-inv}
 use Rattle.records.specs.Tables.{At, _⦂_}
 use Rattle.records.specs.declared.refusal.Refusal.{Refusal}
 use Rattle.records.specs.declared.refusal.Refusal.the-variants.{WrongSize, NonCanonical}
-use Rattle.codec.specs.Reading.{Next, bad, good, counted, next, Fault, Parsed, after, parse}
+use Rattle.codec.specs.Reading.{Next, bad, good, withCount, next, Fault, Parsed, following, parse}
 
 -- ---- one record
 
@@ -24,22 +24,22 @@ pub next-short : (prev : ℕ) (xs : List ℕ) → length xs < 2 → next prev xs
 unfolding next
 next-short prev xs h = rw (lt-ltb (length xs) 2 h)
 
-pub next-long : (prev : ℕ) (xs : List ℕ) → 2 ≤ length xs → next prev xs ≡ counted prev (said (take 2 xs)) (found (drop 2 xs))
+pub next-long : (prev : ℕ) (xs : List ℕ) → 2 ≤ length xs → next prev xs ≡ withCount prev (said (take 2 xs)) (found (drop 2 xs))
 unfolding next
 next-long prev xs h = rw (le-ltb (length xs) 2 h)
 
-pub counted-low : (prev e n used : ℕ) → e ≤ prev → counted prev e (whole n used) ≡ bad NonCanonical
-counted-low prev e n used h = rw (le-leb e prev h)
+pub withCount-low : (prev e n used : ℕ) → e ≤ prev → withCount prev e (whole n used) ≡ bad NonCanonical
+withCount-low prev e n used h = rw (le-leb e prev h)
 
-pub counted-above : (prev e n used : ℕ) → prev < e → counted prev e (whole n used) ≡ good (e ⦂ n) (2 + used)
-counted-above prev e n used h = rw (lt-leb e prev h)
+pub withCount-above : (prev e n used : ℕ) → prev < e → withCount prev e (whole n used) ≡ good (e ⦂ n) (2 + used)
+withCount-above prev e n used h = rw (lt-leb e prev h)
 
 -- the record at a place of the input, whose epoch and varint are known
 pub next-at : (d : List ℕ) (at prev e : ℕ) (f : Found) → 2 ≤ length d - at → e ≡ said (take 2 (drop at d)) → found (drop (at + 2) d) ≡ f
-    → next prev (drop at d) ≡ counted prev e f
+    → next prev (drop at d) ≡ withCount prev e f
 next-at d at prev e f h ee ef =
     next-long prev (drop at d) (rw length-drop h)
-    ∙ ap₂ (counted prev) (sym ee) (ap found (drop-drop 2 at d) ∙ ef)
+    ∙ ap₂ (withCount prev) (sym ee) (ap found (drop-drop 2 at d) ∙ ef)
 
 -- what a record that was read is
 pub record Good (prev : ℕ) (xs : List ℕ) (r : At) (u : ℕ) : Type 0 where
@@ -51,19 +51,19 @@ pub record Good (prev : ℕ) (xs : List ℕ) (r : At) (u : ℕ) : Type 0 where
   pub count-is : found (drop 2 xs) ≡ whole (r .bytes) used
   pub above : prev < r .epoch
 
-counted-inv : (prev e : ℕ) (f : Found) (r : At) (u : ℕ) → counted prev e f ≡ good r u
+withCount-inv : (prev e : ℕ) (f : Found) (r : At) (u : ℕ) → withCount prev e f ≡ good r u
     → (used : ℕ) × (u ≡ 2 + used) × (f ≡ whole (r .bytes) used) × (r .epoch ≡ e) × (prev < r .epoch)
-counted-inv prev e incomplete r u q = let z : _≡_ {A = ℕ} 0 1 = cc in absurd (omega arith)
-counted-inv prev e notCanonical r u q = let z : _≡_ {A = ℕ} 0 1 = cc in absurd (omega arith)
-counted-inv prev e (whole n v) r u q =
+withCount-inv prev e incomplete r u q = let z : _≡_ {A = ℕ} 0 1 = cc in absurd (omega arith)
+withCount-inv prev e notCanonical r u q = let z : _≡_ {A = ℕ} 0 1 = cc in absurd (omega arith)
+withCount-inv prev e (whole n v) r u q =
     elim (decLt prev e) [
       | yes h ↦
-          let g : good (e ⦂ n) (2 + v) ≡ good r u = sym (counted-above prev e n v h) ∙ q in
+          let g : good (e ⦂ n) (2 + v) ≡ good r u = sym (withCount-above prev e n v h) ∙ q in
           let re : e ⦂ n ≡ r = cc in
           let ee : e ≡ r .epoch = ap (λ (x : At). x .epoch) re in
           (v, cc, ap (λ (x : At). whole (x .bytes) v) re, sym ee, omega arith)
       | no h ↦
-          let g : bad NonCanonical ≡ good r u = sym (counted-low prev e n v (omega arith)) ∙ q in
+          let g : bad NonCanonical ≡ good r u = sym (withCount-low prev e n v (omega arith)) ∙ q in
           let z : _≡_ {A = ℕ} 0 1 = cc in
           absurd (omega arith)
     ]
@@ -76,7 +76,7 @@ next-good prev xs r u q =
           let z : _≡_ {A = ℕ} 0 1 = cc in
           absurd (omega arith)
       | no h ↦
-          let c = counted-inv prev (said (take 2 xs)) (found (drop 2 xs)) r u (sym (next-long prev xs (omega arith)) ∙ q) in
+          let c = withCount-inv prev (said (take 2 xs)) (found (drop 2 xs)) r u (sym (next-long prev xs (omega arith)) ∙ q) in
           let a = found-inv (drop 2 xs) (r .bytes) (c .0) (c .2) in
           let l = length-drop 2 xs in
           record {
@@ -109,7 +109,7 @@ pub parse-bad : (at prev : ℕ) (xs : List ℕ) (r : Refusal) → 1 ≤ length x
     → parse at 0 prev xs ≡ record { fault = some (record { refusal = r; place = at }); records = [] }
 unfolding parse
 parse-bad at prev [] r h q = absurd (omega arith)
-parse-bad at prev (x ∷ xs) r h q = ap (λ (n : Next). after n at (λ r used. parse (suc at) (pred used) (r .epoch) xs)) q
+parse-bad at prev (x ∷ xs) r h q = ap (λ (n : Next). following n at (λ r used. parse (suc at) (pred used) (r .epoch) xs)) q
 
 -- what a record and those behind it make
 abbrev pub before : At → Parsed → Parsed
@@ -122,7 +122,7 @@ parse-good at prev [] r u h hu q = absurd (omega arith)
 parse-good at prev (x ∷ xs) r zero h hu q = absurd (omega arith)
 parse-good at prev (x ∷ xs) r (suc u) h hu q =
     let e : suc at + u ≡ at + suc u = omega arith in
-    ap (λ (n : Next). after n at (λ r used. parse (suc at) (pred used) (r .epoch) xs)) q
+    ap (λ (n : Next). following n at (λ r used. parse (suc at) (pred used) (r .epoch) xs)) q
     ∙ ap (before r) (parse-skip (suc at) u (r .epoch) xs ∙ ap (λ (i : ℕ). parse i 0 (r .epoch) (drop u xs)) e)
 
 -- ---- at a place of the input

@@ -17,8 +17,8 @@ use Rattle.records.specs.Tables.{At, _⦂_}
 use Rattle.records.specs.Flags.{Flags, flags, owned, multi, typeByte, kindOf}
 use Rattle.records.specs.declared.head.Kind.{Kind}
 use Rattle.codec.specs.Bytes.{recordBytes, recordsBytes, ownerBytes, headBytes, headSize, bytesOf}
-use Rattle.codec.specs.Reading.{Next, bad, good, next, Fault, Parsed, parse, counted, baseIn, ownerIn, recordsIn, flagsIn, readAs, read, someFlags}
-use Rattle.codec.proofs.Parsing.{next-long, counted-above, Good, next-good, parse-nil, parse-bad, parse-good, before}
+use Rattle.codec.specs.Reading.{Next, bad, good, next, Fault, Parsed, parse, withCount, baseIn, ownerIn, recordsIn, flagsIn, readAs, read, someFlags}
+use Rattle.codec.proofs.Parsing.{next-long, withCount-above, Good, next-good, parse-nil, parse-bad, parse-good, before}
 
 -- ---- records
 
@@ -38,7 +38,7 @@ next-back prev r ys h he hc =
     let e : said (take 2 xs) ≡ r .epoch = ap (λ (l : List ℕ). said (take 2 l)) a ∙ ap said (take-at (big 2 (r .epoch)) (varint (r .bytes) ++ ys) 2 two) ∙ said-big 2 (r .epoch) he in
     let v : found (drop 2 xs) ≡ whole (r .bytes) (length (varint (r .bytes))) =
     ap (λ (l : List ℕ). found (drop 2 l)) a ∙ ap found (drop-at (big 2 (r .epoch)) (varint (r .bytes) ++ ys) 2 two) ∙ found-back (r .bytes) ys hc in
-    next-long prev xs l ∙ ap₂ (counted prev) e v ∙ counted-above prev (r .epoch) (r .bytes) (length (varint (r .bytes))) h
+    next-long prev xs l ∙ ap₂ (withCount prev) e v ∙ withCount-above prev (r .epoch) (r .bytes) (length (varint (r .bytes))) h
 
 pub records-back : (at prev : ℕ) (rs : List At) → Canonical prev rs → parse at 0 prev (recordsBytes rs) ≡ record { fault = none; records = rs }
 unfolding recordsBytes

@@ -15,10 +15,12 @@ use Rattle.records.specs.declared.head.Kind.{Kind}
 abbrev pub recordBytes : At → List ℕ
 recordBytes r = big 2 (r .epoch) ++ varint (r .bytes)
 
+-- the bytes of records, one after another
 unfoldable pub recordsBytes : List At → List ℕ
 recordsBytes [] = []
 recordsBytes (r ∷ rs) = recordBytes r ++ recordsBytes rs
 
+-- the owner if owned
 abbrev pub ownerBytes : Option (List ℕ) → List ℕ
 ownerBytes none = []
 ownerBytes (some o) = o
@@ -31,9 +33,10 @@ headBytes k owner base = typeByte k ∷ (ownerBytes owner ++ big 2 base)
 unfoldable pub bytesOf : Flags → List ℕ
 bytesOf f = headBytes (kindOf (f .owner) (length (f .records))) (f .owner) (f .base) ++ recordsBytes (f .records)
 
--- where the base epoch stands, and the number of bytes before the records
+-- where the base epoch stands
 abbrev pub basePlace : Kind → ℕ
 basePlace k = cond (owned k) 33 1
 
+-- the number of bytes before the records
 abbrev pub headSize : Kind → ℕ
 headSize k = cond (owned k) 35 3

@@ -25,17 +25,18 @@ pub data Next : Type 0 where
   good : At → ℕ → Next
 
 -- the epoch e is complete; then the varint decides, then whether e is above the epoch before
-abbrev pub counted : ℕ → ℕ → Found → Next
-counted prev e incomplete = bad WrongSize
-counted prev e notCanonical = bad NonCanonical
-counted prev e (whole n used) = cond (leb e prev) (bad NonCanonical) (good (e ⦂ n) (2 + used))
+abbrev pub withCount : ℕ → ℕ → Found → Next
+withCount prev e incomplete = bad WrongSize
+withCount prev e notCanonical = bad NonCanonical
+withCount prev e (whole n used) = cond (leb e prev) (bad NonCanonical) (good (e ⦂ n) (2 + used))
 
 -- the record at the start of xs, after one at the epoch prev
 unfoldable pub next : ℕ → List ℕ → Next
-next prev xs = cond (ltb (length xs) 2) (bad WrongSize) (counted prev (said (take 2 xs)) (found (drop 2 xs)))
+next prev xs = cond (ltb (length xs) 2) (bad WrongSize) (withCount prev (said (take 2 xs)) (found (drop 2 xs)))
 
 -- ---- records one after another, the first fault decides
 
+-- why bytes are refused, and where
 pub record Fault : Type 0 where
   pub refusal : Refusal
   pub place : ℕ
@@ -45,15 +46,16 @@ pub record Parsed : Type 0 where
   pub fault : Option Fault
   pub records : List At
 
-abbrev pub after : Next → ℕ → (At → ℕ → Parsed) → Parsed
-after (bad r) at go = record { fault = some (record { refusal = r; place = at }); records = [] }
-after (good r used) at go = record { fault = go r used .fault; records = r ∷ go r used .records }
+-- a fault at the place at ends it; a record stands before those that go finds behind it
+abbrev pub following : Next → ℕ → (At → ℕ → Parsed) → Parsed
+following (bad r) at go = record { fault = some (record { refusal = r; place = at }); records = [] }
+following (good r used) at go = record { fault = go r used .fault; records = r ∷ go r used .records }
 
 -- of the bytes from the place at on, of which the first k belong to the record before, at the epoch prev
 unfoldable pub parse : ℕ → ℕ → ℕ → List ℕ → Parsed
 parse at k prev [] = record { fault = none; records = [] }
 parse at (suc k) prev (x ∷ xs) = parse (suc at) k prev xs
-parse at zero prev (x ∷ xs) = after (next prev (x ∷ xs)) at (λ r used. parse (suc at) (pred used) (r .epoch) xs)
+parse at zero prev (x ∷ xs) = following (next prev (x ∷ xs)) at (λ r used. parse (suc at) (pred used) (r .epoch) xs)
 
 -- ---- flags
 
@@ -69,9 +71,11 @@ withRecords end base owner (some f) rs = refusedAt (f .refusal) (f .place)
 withRecords end base owner none [] = refusedAt WrongSize end
 withRecords end base owner none (r ∷ rs) = someFlags (flags base owner (r ∷ rs))
 
+-- the base epoch of flags of a kind
 abbrev pub baseIn : Kind → List ℕ → ℕ
 baseIn k xs = said (take 2 (drop (basePlace k) xs))
 
+-- their owner, if the kind has one
 abbrev pub ownerIn : Kind → List ℕ → Option (List ℕ)
 ownerIn k xs = ownerIf (owned k) (take 32 (drop 1 xs))
 
@@ -79,6 +83,7 @@ ownerIn k xs = ownerIf (owned k) (take 32 (drop 1 xs))
 abbrev pub recordsIn : Kind → List ℕ → Parsed
 recordsIn k xs = parse (headSize k) 0 (baseIn k xs) (drop (headSize k) xs)
 
+-- the flags that the bytes hold where nothing is refused
 abbrev pub flagsIn : Kind → List ℕ → Flags
 flagsIn k xs = flags (baseIn k xs) (ownerIn k xs) (recordsIn k xs .records)
 
@@ -91,6 +96,7 @@ readAs k xs =
     (refusedAt WrongSize (length xs)))
     (cond (eqb (length xs) (headSize k)) (someFlags (flags (baseIn k xs) (ownerIn k xs) [])) (refusedAt WrongSize (length xs)))
 
+-- flags of the kind that a byte names, if it names one
 abbrev pub readByte : KindByte → List ℕ → Read
 readByte (Known k) xs = readAs k xs
 readByte Unknown xs = refusedAt UnknownType 0

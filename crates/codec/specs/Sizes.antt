@@ -12,6 +12,7 @@ unfoldable pub countsSize : List ℕ → ℕ
 countsSize [] = 0
 countsSize (c ∷ cs) = 2 + length (varint c) + countsSize cs
 
+-- the part of the changes, 0 if they are not given
 abbrev pub changesSize : Changes → ℕ
 changesSize NotGiven = 0
 changesSize (Given count size) = count * (2 + size)

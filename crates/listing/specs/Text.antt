@@ -44,13 +44,16 @@ hex (b ∷ bs) = hexDigit (b / 16) ∷ hexDigit (b % 16) ∷ hex bs
 abbrev pub line : String → ℕ → List ℕ
 line word n = ascii word ++ (decimal n ++ ascii "\n")
 
+-- the owner's line, if there is one
 abbrev pub ownerLine : Option (List ℕ) → List ℕ
 ownerLine none = []
 ownerLine (some o) = ascii "owner " ++ (hex o ++ ascii "\n")
 
+-- a record's line
 abbrev pub recordLine : At → List ℕ
 recordLine r = ascii "epoch " ++ (decimal (r .epoch) ++ (ascii " bytes " ++ (decimal (r .bytes) ++ ascii "\n")))
 
+-- a line for each record
 unfoldable pub recordLines : List At → List ℕ
 recordLines [] = []
 recordLines (r ∷ rs) = recordLine r ++ recordLines rs

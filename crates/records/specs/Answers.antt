@@ -32,11 +32,13 @@ pub record After : Type 0 where
   pub epochs : List ℕ
   pub counts : List ℕ
 
+-- a refusal's number, or 0
 abbrev pub refusalOf : Outcome → ℕ
 refusalOf Absent = 0
 refusalOf Present = 0
 refusalOf (Refused r) = number r
 
+-- whether there are flags
 abbrev pub presentIn : Outcome → Bool
 presentIn Absent = false
 presentIn Present = true
@@ -63,6 +65,7 @@ after (ok (some f)) es cs =
 
 -- ---- calls that answer a number
 
+-- what the code answered
 abbrev pub counted : Counted → Answer ℕ
 counted (Count n) = ok n
 counted (NotCounted r) = refused (number r)
@@ -72,6 +75,7 @@ pub record Written : Type 0 where
   pub answer : Answer ℕ
   pub out : List ℕ
 
+-- what the code answered and left
 abbrev pub wrote : Counted → List ℕ → Written
 wrote c out = record { answer = counted c; out = out }
 

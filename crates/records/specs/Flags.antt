@@ -20,6 +20,7 @@ pub record Flags : Type 0 where
   pub owner : Option (List ℕ)
   pub records : List At
 
+-- flags of these three
 abbrev pub flags : ℕ → Option (List ℕ) → List At → Flags
 flags base owner records = record { base = base; owner = owner; records = records }
 
@@ -88,6 +89,7 @@ ownerOf h = ownerIf (owned (h .kind)) (h .owner)
 abbrev pub headFor : ℕ → Option (List ℕ) → ℕ → Head
 headFor base owner n = record { kind = kindOf owner n; base = base; owner = idOf owner; records = n }
 
+-- the head of flags
 abbrev pub headOf : Flags → Head
 headOf f = headFor (f .base) (f .owner) (length (f .records))
 

@@ -24,11 +24,12 @@ recordsOf [] cs = []
 recordsOf (e ∷ es) [] = []
 recordsOf (e ∷ es) (c ∷ cs) = e ⦂ c ∷ recordsOf es cs
 
--- the records' epochs, and their counts
+-- the records' epochs
 unfoldable pub epochsOf : List At → List ℕ
 epochsOf [] = []
 epochsOf (r ∷ rs) = r .epoch ∷ epochsOf rs
 
+-- the records' counts
 unfoldable pub countsOf : List At → List ℕ
 countsOf [] = []
 countsOf (r ∷ rs) = r .bytes ∷ countsOf rs

@@ -8,7 +8,7 @@ use Rattle.fields.specs.Varint.{found}
 use Rattle.fields.proofs.Told.{told-incomplete, told-strange, told-ends}
 use Rattle.codec.specs.Calls.{stepOf}
 use Rattle.codec.specs.declared.judging.Step.the-variants.{Good}
-use Rattle.codec.proofs.Parsing.{next-short, next-at, counted-low, counted-above}
+use Rattle.codec.proofs.Parsing.{next-short, next-at, withCount-low, withCount-above}
 use borrow.Author.Needs.{needs}
 use Rattle.codec.proofs.judging.judge_record.Statement.{statement}
 use Rattle.codec.proofs.judging.judge_record.Tie as tie
@@ -24,7 +24,7 @@ returns-2 c =
     let d = a .src .now in
     let t = told-ends (a .at + 2) _ (found (drop (a .at + 2) d)) (sym (c .before .before .before .before .judge-varint .ensures) ∙ c .before .before .next .given .1) in
     sym (ap (stepOf (a .at)) (next-at d (a .at) (a .prev) _ _ (c .before .before .before .before .before .before .if1 .left) (c .before .before .before .before .before .be16-at .ensures) (t .is-whole)
-    ∙ counted-low (a .prev) (c .before .before .before .before .before .be16-at .result) (t .count) (t .used) (c .if2 .taken)))
+    ∙ withCount-low (a .prev) (c .before .before .before .before .before .be16-at .result) (t .count) (t .used) (c .if2 .taken)))
 
 returns-3 : tie.Need-returns-3
 returns-3 c =
@@ -49,7 +49,7 @@ returns-5 c =
     let n : c .before .before .next .given .0 .0 ≡ a .at + (2 + t .used) = omega (arith, t .is-behind) in
     ap (Good e) n
     ∙ sym (ap (stepOf (a .at)) (next-at d (a .at) (a .prev) e _ (c .before .before .before .before .before .before .if1 .left) (c .before .before .before .before .before .be16-at .ensures) (t .is-whole)
-    ∙ counted-above (a .prev) e (t .count) (t .used) (c .if2 .left)))
+    ∙ withCount-above (a .prev) e (t .count) (t .used) (c .if2 .left)))
 
 pub judge-record-spec : {M : Type 1} → statement M
 judge-record-spec =
