@@ -9,7 +9,7 @@ ghost use Rattle.records.specs.Flags.{agrees, proper};
 use crate::head::Head;
 use crate::head::Kind;
 
-// Whether the epochs ascend strictly and are all above the base. No early exit, so that the loop becomes vector code.
+// Whether the epochs ascend strictly and are all above the base. No early exit: a loop of this shape can become vector code.
 pub fn ascend(base: u16, epochs: &[u16]) -> bool
     ensures { λ r. ⌜ r ≡ ascending base (now (epochs .entry)) ⌝ }
 {
