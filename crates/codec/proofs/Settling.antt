@@ -8,7 +8,7 @@ use mathlib.Core.Bool.{Bool, true, false}
 use mathlib.Core.Option.{Option, none, some}
 use mathlib.Core.List.{List, [], _∷_}
 use lib.ListN.{length}
-use Rattle.records.specs.Tables.{At, epochsOf, countsOf, Placed}
+use Rattle.records.specs.Tables.{At, Placed}
 use Rattle.records.specs.Refusals.{number}
 use Rattle.records.specs.Flags.{Flags, flags, multi, agrees, headOf, noHead}
 use Rattle.records.specs.Answers.{ok, refused, After, shown, after}
@@ -18,8 +18,7 @@ use Rattle.records.specs.declared.head.Kind.{Kind}
 use Rattle.records.specs.declared.head.Head.{Head}
 use Rattle.records.specs.declared.answer.Answered.{Answered}
 use Rattle.records.specs.declared.answer.Outcome.the-variants.{Absent, Present, Refused}
-use Rattle.records.proofs.Tables.{length-epochsOf, length-countsOf, over-sets}
-use Rattle.records.proofs.Answers.{after-refused, after-absent, after-placed, after-no-epochs, after-no-counts}
+use Rattle.records.proofs.Answers.{after-refused, after-absent, after-no-epochs, after-no-counts, placed-left}
 use Rattle.codec.specs.Bytes.{headSize}
 use Rattle.codec.specs.Reading.{Fault, Parsed, Read, noFlags, someFlags, refusedAt, withRecords, baseIn, ownerIn, recordsIn, flagsIn, readAs}
 use Rattle.codec.specs.Calls.{Complete, judgement, answer, deserializedAs}
@@ -120,9 +119,4 @@ module _ (k : Kind) (src es cs : List ℕ) where
         → Placed (recordsIn k src .records) 0 n es cs es′ cs′ → length (recordsIn k src .records) ≤ length es → length (recordsIn k src .records) ≤ length cs
         → shown a es′ cs′ ≡ deserializedAs k src es cs
     left-placed head n es′ cs′ ea eh p he hc =
-        let rs : List At = recordsIn k src .records in
-        let ee = p .epochs-set ∙ over-sets (epochsOf rs) es (omega (arith, length-epochsOf rs)) in
-        let ec = p .counts-set ∙ over-sets (countsOf rs) cs (omega (arith, length-countsOf rs)) in
-        ap (λ (x : Answered). shown x es′ cs′) ea
-        ∙ (λ i. record { refusal = 0; present = true; head = eh i; epochs = ee i; counts = ec i })
-        ∙ sym (left-flags ∙ after-placed (flagsIn k src) es cs he hc)
+        placed-left a es′ cs′ (flagsIn k src) head n es cs ea eh p he hc ∙ sym left-flags

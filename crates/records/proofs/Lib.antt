@@ -6,3 +6,7 @@ pub mod Dropping
 pub mod Proper
 pub mod Answers
 pub mod Only
+pub mod Owners
+pub mod Held
+pub mod Around
+pub mod Merged

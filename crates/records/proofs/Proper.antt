@@ -1,18 +1,23 @@
--- What proper flags are, read back from `proper`: its tests one by one, and that their kind is the one that owner and records tell.
+-- What proper flags are, read back from `proper`: its tests one by one, their tables, that their kind is the one that owner and records
+-- tell, and that a head's owner is that of its flags.
 -- Assumes nothing.
-use mathlib.Core.Path.{_≡_}
-use mathlib.Core.Bool.{true, false, _&&_, and-eq-true-iff}
+use mathlib.Core.Path.{_≡_, refl, sym, _∙_}
+use mathlib.Core.Bool.{Bool, true, false, _&&_, and-eq-true-iff}
+use mathlib.Core.Option.{Option, none, some}
 use mathlib.Core.List.{List}
 use Prim.Native.Nat.{ℕ, _≤_}
 use native.Mathlib.Omega.{arith}
 use lib.Dec.{leb, eqb}
 use lib.ListN.{length, take}
+use lib.Seq.{length-take-le}
 use borrow.Author.Tests.{leb-true, ne-eqb}
-use Rattle.records.specs.Tables.{ascending}
-use Rattle.records.specs.Flags.{owned, ownerIf, ownerOf, kindOf, agrees, proper}
+use Rattle.records.specs.Tables.{recordsOf, ascending, Table, Above}
+use Rattle.records.specs.Flags.{Flags, owned, ownerIf, idOf, ownerOf, kindOf, headOf, agrees, proper}
 use Rattle.records.specs.declared.head.Head.{Head}
 use Rattle.records.specs.declared.head.Kind.{Kind}
 use Rattle.records.specs.declared.head.Kind.the-variants.{SingleEpoch, MultiEpoch, SingleEpochOwned, MultiEpochOwned}
+use Rattle.records.proofs.Tables.{length-recordsOf}
+use Rattle.records.proofs.Unions.{above-table}
 
 pub record IsProper (h : Head) (es cs : List ℕ) : Type 0 where
   pub agrees-kind : agrees (h .kind) (h .records) ≡ true
@@ -35,6 +40,21 @@ proper-inv h es cs p =
       ascends = z .1;
     }
 
+-- the records of proper flags, as tables that a union takes
+module _ {h : Head} {es cs : List ℕ} (p : IsProper h es cs) where
+  pub proper-above : Above (h .base) (take (h .records) es) (take (h .records) cs)
+  proper-above =
+      record {
+        even = length-take-le (h .records) es (p .epochs-long) ∙ sym (length-take-le (h .records) cs (p .counts-long));
+        ascends = p .ascends;
+      }
+
+  pub proper-table : Table (take (h .records) es) (take (h .records) cs)
+  proper-table = above-table proper-above
+
+  pub proper-long : length (recordsOf (take (h .records) es) (take (h .records) cs)) ≡ h .records
+  proper-long = length-recordsOf _ _ (proper-above .even) ∙ length-take-le (h .records) es (p .epochs-long)
+
 some-records : (n : ℕ) → leb 1 n ≡ true → eqb n 0 ≡ false
 some-records n h = let p = leb-true 1 n h in ne-eqb n 0 (λ e. omega arith)
 
@@ -46,3 +66,13 @@ kind-told MultiEpochOwned n o h = rw (some-records n h)
 
 pub kind-agrees : (h : Head) → agrees (h .kind) (h .records) ≡ true → kindOf (ownerOf h) (h .records) ≡ h .kind
 kind-agrees h = kind-told (h .kind) (h .records) (h .owner)
+
+-- the owner of flags' head is theirs
+pub owner-head : (f : Flags) → ownerOf (headOf f) ≡ f .owner
+owner-head f = by (f .owner) (eqb (length (f .records)) 0) refl
+  where
+    by : (o : Option (List ℕ)) (b : Bool) → eqb (length (f .records)) 0 ≡ b → ownerIf (owned (kindOf o (length (f .records)))) (idOf o) ≡ o
+    by none true e = rw e
+    by none false e = rw e
+    by (some o) true e = rw e
+    by (some o) false e = rw e

@@ -6,11 +6,25 @@ use mathlib.Core.Bool.{true, _&&_, and-eq-true-iff}
 use Prim.Native.Nat.{ℕ, zero, suc, _+_, _≤_, _<_}
 use native.Mathlib.Numerals.{add-one}
 use native.Mathlib.Omega.{arith}
+use native.Mathlib.Decide.{decLt, ℕ-discrete}
 use lib.Dec.{ltb}
 use lib.ListN.{length, drop, getD, drop-of-length-le}
 use lib.Seq.{drop-cons}
 use borrow.Author.Tests.{ltb-true, lt-ltb, le-ltb}
 use Rattle.records.specs.Tables.{ascending, rising, placeOf}
+
+-- an epoch is below another, at it or above it
+pub data Side (x e : ℕ) : Type 0 where
+  lower : x < e → Side x e
+  equal : x ≡ e → Side x e
+  higher : e < x → Side x e
+
+pub side : (x e : ℕ) → Side x e
+side x e =
+    elim (decLt x e) [
+      | yes p ↦ lower p
+      | no p ↦ elim (ℕ-discrete x e) [ yes q ↦ equal q | no q ↦ higher (omega arith) ]
+    ]
 
 pub asc-none : (b : ℕ) → ascending b [] ≡ true
 unfolding ascending

@@ -6,8 +6,8 @@ use Prim.Native.Nat.{ℕ, zero, suc, _+_, _≤_, _<_}
 use native.Mathlib.Nat.{add-zero, zero-add}
 use native.Mathlib.Numerals.{add-one}
 use native.Mathlib.Omega.{arith}
-use lib.ListN.{length, drop, getD, set, length-set}
-use lib.Seq.{drop-cons, sets, sets-eq}
+use lib.ListN.{length, take, drop, getD, set, length-set, length-append, drop-of-length-le}
+use lib.Seq.{length-take-le, drop-cons, getD-take, sets, sets-eq}
 use Rattle.records.specs.Tables.{At, _⦂_, recordsOf, epochsOf, countsOf, over, Placed}
 
 -- ---- records, and their epochs and counts
@@ -65,6 +65,26 @@ pub records-on : (es cs : List ℕ) (k : ℕ) → k < length es → k < length c
 unfolding recordsOf
 records-on es cs k p q = rw (add-one, drop-cons es k 0, drop-cons cs k 0)
 
+-- ---- the first n
+
+pub take-records : (n : ℕ) (es cs : List ℕ) → take n (recordsOf es cs) ≡ recordsOf (take n es) (take n cs)
+unfolding recordsOf
+take-records zero es cs = refl
+take-records (suc n) [] cs = refl
+take-records (suc n) (e ∷ es) [] = refl
+take-records (suc n) (e ∷ es) (c ∷ cs) = rw (take-records n es cs)
+
+module _ (es cs : List ℕ) (n i : ℕ) (he : n ≤ length es) (hc : n ≤ length cs) where
+  pub first-on : i < n → drop i (take n (recordsOf es cs)) ≡ getD es i 0 ⦂ getD cs i 0 ∷ drop (i + 1) (take n (recordsOf es cs))
+  first-on p =
+      let a : i < length (take n es) = rw (length-take-le n es he) p in
+      let b : i < length (take n cs) = rw (length-take-le n cs hc) p in
+      simp (take-records, drop-records) (records-on (take n es) (take n cs) i a b ∙ rw (getD-take n es i 0 p, getD-take n cs i 0 p))
+
+  pub first-end : n ≤ i → drop i (take n (recordsOf es cs)) ≡ []
+  unfolding recordsOf
+  first-end p = simp (take-records, drop-records) (rw (drop-of-length-le (take n es) {i = i} (omega (arith, length-take-le n es he))))
+
 -- ---- written one after another
 
 pub over-sets : (xs old : List ℕ) → length xs ≤ length old → sets old 0 xs ≡ over xs old
@@ -110,3 +130,36 @@ module _ {all left : List At} {at k : ℕ} {es₀ cs₀ es cs : List ℕ} (f : F
         epochs-set = rw h at (f .epochs-to-set);
         counts-set = rw h at (f .counts-to-set);
       }
+
+-- ---- one run of records after another
+
+sets-then : (l : List ℕ) (i : ℕ) (xs ys : List ℕ) → sets (sets l i xs) (i + length xs) ys ≡ sets l i (xs ++ ys)
+sets-then l i [] ys = rw (add-zero i)
+sets-then l i (x ∷ xs) ys =
+    let e : i + suc (length xs) ≡ suc i + length xs = omega arith in
+    rw e (sets-then (set l i x) (suc i) xs ys)
+
+pub epochs-append : (rs ss : List At) → epochsOf (rs ++ ss) ≡ epochsOf rs ++ epochsOf ss
+unfolding epochsOf
+epochs-append [] ss = refl
+epochs-append (r ∷ rs) ss = rw (epochs-append rs ss)
+
+pub counts-append : (rs ss : List At) → countsOf (rs ++ ss) ≡ countsOf rs ++ countsOf ss
+unfolding countsOf
+counts-append [] ss = refl
+counts-append (r ∷ rs) ss = rw (counts-append rs ss)
+
+pub placed-one : (e c k : ℕ) (es cs : List ℕ) → Placed (e ⦂ c ∷ []) k (k + 1) es cs (set es k e) (set cs k c)
+unfolding epochsOf countsOf
+placed-one e c k es cs = record { behind = refl; epochs-set = refl; counts-set = refl }
+
+pub placed-then : {rs ss : List At} {at k n : ℕ} {es cs es′ cs′ es″ cs″ : List ℕ} → Placed rs at k es cs es′ cs′ → Placed ss k n es′ cs′ es″ cs″
+    → Placed (rs ++ ss) at n es cs es″ cs″
+placed-then {rs} {ss} {at} {k} {n} {es} {cs} p q =
+    let ke : k ≡ at + length (epochsOf rs) = p .behind ∙ rw (length-epochsOf rs) in
+    let kc : k ≡ at + length (countsOf rs) = p .behind ∙ rw (length-countsOf rs) in
+    record {
+      behind = omega (arith, p .behind, q .behind, length-append rs ss);
+      epochs-set = q .epochs-set ∙ rw (p .epochs-set, ke, epochs-append rs ss) (sets-then es at (epochsOf rs) (epochsOf ss));
+      counts-set = q .counts-set ∙ rw (p .counts-set, kc, counts-append rs ss) (sets-then cs at (countsOf rs) (countsOf ss));
+    }

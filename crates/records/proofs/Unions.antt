@@ -9,11 +9,11 @@ use native.Mathlib.Omega.{arith}
 use lib.Dec.{ltb, eqb}
 use lib.ListN.{length, drop, getD, length-drop, drop-of-length-le}
 use borrow.Author.Tests.{ltb-true, ltb-false, lt-ltb, le-ltb, eqb-true, eqb-false, eq-eqb, ne-eqb}
-use Rattle.records.specs.Tables.{At, _⦂_, recordsOf, epochsOf, ascending, put, union, Table}
+use Rattle.records.specs.Tables.{At, _⦂_, recordsOf, epochsOf, ascending, put, union, Table, Above}
 use Rattle.records.specs.Unions.{Within, Stepped}
 use Rattle.records.specs.declared.table.Next.{Next}
 use Rattle.records.proofs.Tables.{length-recordsOf, epochs-records, drop-records, records-on}
-use Rattle.records.proofs.Rising.{asc-none, asc-head, asc-tail, asc-cons, asc-lower, asc-behind}
+use Rattle.records.proofs.Rising.{asc-none, asc-head, asc-tail, asc-cons, asc-lower, asc-rises, asc-behind}
 
 -- the records' epochs ascend strictly and are above b
 abbrev above : ℕ → List At → Type 0
@@ -35,23 +35,29 @@ pub put-at : (r s : At) (ss : List At) → r .epoch ≡ s .epoch → put r (s �
 unfolding put
 put-at r s ss p = simp (le-ltb (r .epoch) (s .epoch) (omega arith), eq-eqb (r .epoch) (s .epoch) p)
 
+-- by the tests of `put`
+pub put-cases : (P : List At → Type 0) (r s : At) (ss : List At)
+    → (r .epoch < s .epoch → P (r ∷ s ∷ ss)) → (r .epoch ≡ s .epoch → P (r ∷ ss)) → (s .epoch < r .epoch → P (s ∷ put r ss)) → P (put r (s ∷ ss))
+unfolding put
+put-cases P r s ss front same past = go (ltb (r .epoch) (s .epoch)) refl (eqb (r .epoch) (s .epoch)) refl
+  where
+    go : (x : Bool) → ltb (r .epoch) (s .epoch) ≡ x → (y : Bool) → eqb (r .epoch) (s .epoch) ≡ y → P (put r (s ∷ ss))
+    go true e y f = rw e (front (ltb-true _ _ e))
+    go false e true f = rw (e, f) (same (eqb-true _ _ f))
+    go false e false f =
+        let q : s .epoch ≤ r .epoch = ltb-false _ _ e in
+        let d : r .epoch ≡ s .epoch → ⊥ = eqb-false _ _ f in
+        rw (e, f) (past (omega arith))
+
 pub put-above : (b : ℕ) (r : At) (rs : List At) → b < r .epoch → above b rs → above b (put r rs)
 unfolding put epochsOf
 put-above b r [] p h = asc-cons b (r .epoch) [] p (asc-none (r .epoch))
-put-above b r (s ∷ ss) p h = go (ltb (r .epoch) (s .epoch)) refl (eqb (r .epoch) (s .epoch)) refl (put-above (s .epoch) r ss)
-  where
-    behind : above (s .epoch) ss
-    behind = asc-tail b (s .epoch) (epochsOf ss) h
-
-    go : (x : Bool) → ltb (r .epoch) (s .epoch) ≡ x → (y : Bool) → eqb (r .epoch) (s .epoch) ≡ y
-        → (s .epoch < r .epoch → above (s .epoch) ss → above (s .epoch) (put r ss)) → above b (put r (s ∷ ss))
-    go true e y f ih =
-        rw e (asc-cons b (r .epoch) _ p (asc-cons (r .epoch) (s .epoch) (epochsOf ss) (ltb-true _ _ e) behind))
-    go false e true f ih = rw (e, f) (asc-cons b (r .epoch) (epochsOf ss) p (rw (eqb-true (r .epoch) (s .epoch) f) behind))
-    go false e false f ih =
-        let q : s .epoch ≤ r .epoch = ltb-false _ _ e in
-        let d : r .epoch ≡ s .epoch → ⊥ = eqb-false _ _ f in
-        rw (e, f) (asc-cons b (s .epoch) (epochsOf (put r ss)) (asc-head b (s .epoch) (epochsOf ss) h) (ih (omega arith) behind))
+put-above b r (s ∷ ss) p h =
+    let behind : above (s .epoch) ss = asc-tail b (s .epoch) (epochsOf ss) h in
+    put-cases (above b) r s ss
+    (λ q. asc-cons b (r .epoch) _ p (asc-cons (r .epoch) (s .epoch) (epochsOf ss) q behind))
+    (λ q. asc-cons b (r .epoch) (epochsOf ss) p (rw q behind))
+    (λ q. asc-cons b (s .epoch) (epochsOf (put r ss)) (asc-head b (s .epoch) (epochsOf ss) h) (put-above (s .epoch) r ss q behind))
 
 -- ---- the next record of a union
 
@@ -91,6 +97,9 @@ module _ {es cs : List ℕ} (t : Table es cs) (k : ℕ) where
 
   pub record-on : k < length es → drop k (recordsOf es cs) ≡ getD es k 0 ⦂ getD cs k 0 ∷ drop (k + 1) (recordsOf es cs)
   record-on p = simp drop-records (records-on es cs k p (rw (← t .even) p))
+
+pub above-table : {e : ℕ} {es cs : List ℕ} → Above e es cs → Table es cs
+above-table {e} {es} {cs} a = record { even = a .even; rises = asc-rises e es (a .ascends) }
 
 -- ---- one step
 

@@ -56,12 +56,21 @@ kept n es cs = record { refusal = n; present = false; head = noHead; epochs = es
 abbrev pub placed : Flags → List ℕ → List ℕ → After
 placed f es cs = record { refusal = 0; present = true; head = headOf f; epochs = over (epochsOf (f .records)) es; counts = over (countsOf (f .records)) cs }
 
+-- whether n records have room in tables of these lengths
+abbrev pub roomFor : ℕ → ℕ → ℕ → Bool
+roomFor n epochs-long counts-long = leb n epochs-long && leb n counts-long
+
 -- no flags; flags, or 10 where a table lacks room for them; or a refusal
 unfoldable pub after : Answer (Option Flags) → List ℕ → List ℕ → After
 after (refused n) es cs = kept n es cs
 after (ok none) es cs = kept 0 es cs
 after (ok (some f)) es cs =
-    cond (leb (length (f .records)) (length es) && leb (length (f .records)) (length cs)) (placed f es cs) (kept 10 es cs)
+    cond (roomFor (length (f .records)) (length es) (length cs)) (placed f es cs) (kept 10 es cs)
+
+-- the same where the answer is flags or a refusal
+abbrev pub placing : Answer Flags → List ℕ → List ℕ → After
+placing (refused n) es cs = after (refused n) es cs
+placing (ok f) es cs = after (ok (some f)) es cs
 
 -- ---- calls that answer a number
 

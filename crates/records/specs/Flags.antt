@@ -3,7 +3,7 @@
 use Prim.Native.Nat.{ℕ}
 use mathlib.Core.Bool.{Bool, true, false, cond, _&&_}
 use mathlib.Core.Option.{Option, none, some}
-use mathlib.Core.List.{List}
+use mathlib.Core.List.{List, [], _∷_}
 use lib.Dec.{leb, eqb}
 use lib.ListN.{length, take, replicate}
 use Rattle.records.specs.Tables.{At, recordsOf, ascending}
@@ -73,6 +73,13 @@ ownerIf false o = none
 abbrev pub idOf : Option (List ℕ) → List ℕ
 idOf none = zeros
 idOf (some o) = o
+
+-- whether two owners are the same, byte for byte
+unfoldable pub same : List ℕ → List ℕ → Bool
+same [] [] = true
+same [] (y ∷ ys) = false
+same (x ∷ xs) [] = false
+same (x ∷ xs) (y ∷ ys) = eqb x y && same xs ys
 
 -- an owner or none, as the code has it
 abbrev pub maybeOwner : Option (List ℕ) → MaybeOwner

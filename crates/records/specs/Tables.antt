@@ -2,7 +2,7 @@
 -- Assumes nothing.
 use Prim.Native.Nat.{ℕ, suc, _+_}
 use mathlib.Core.Path.{_≡_}
-use mathlib.Core.Bool.{Bool, true, cond, _&&_}
+use mathlib.Core.Bool.{Bool, true, false, cond, _&&_}
 use mathlib.Core.List.{List, [], _∷_, _++_}
 use lib.Dec.{ltb, eqb}
 use lib.ListN.{length, take, drop}
@@ -59,6 +59,16 @@ unfoldable pub union : List At → List At → List At
 union ours [] = ours
 union ours (r ∷ theirs) = put r (union ours theirs)
 
+-- whether there is a record at an epoch
+unfoldable pub has : ℕ → List At → Bool
+has e [] = false
+has e (r ∷ rs) = cond (eqb e (r .epoch)) true (has e rs)
+
+-- the count of the record at an epoch; 0 where there is none
+unfoldable pub held : ℕ → List At → ℕ
+held e [] = 0
+held e (r ∷ rs) = cond (eqb e (r .epoch)) (r .bytes) (held e rs)
+
 -- a list without what stands at a place
 abbrev pub without : ℕ → List ℕ → List ℕ
 without k xs = take k xs ++ drop (suc k) xs
@@ -73,6 +83,11 @@ over xs old = xs ++ drop (length xs) old
 pub record Table (es cs : List ℕ) : Type 0 where
   pub even : length es ≡ length cs
   pub rises : rising es ≡ true
+
+-- two tables of one length, their epochs strictly ascending and above e
+pub record Above (e : ℕ) (es cs : List ℕ) : Type 0 where
+  pub even : length es ≡ length cs
+  pub ascends : ascending e es ≡ true
 
 -- records were put into two tables from the place at on, and all else stands; next is the place behind them
 pub record Placed (rs : List At) (at next : ℕ) (es cs es′ cs′ : List ℕ) : Type 0 where

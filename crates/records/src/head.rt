@@ -1,6 +1,6 @@
 // The head of flags, by value, and the calls on it alone.
 ghost use mathlib.Core.Path.{_≡_};
-ghost use Rattle.records.specs.Flags.{owned, multi, typeByte, kindOfByte, ownerIf, ownerOf, maybeOwner, headFor, withOwner};
+ghost use Rattle.records.specs.Flags.{owned, multi, typeByte, kindOfByte, ownerIf, same, ownerOf, maybeOwner, headFor, withOwner};
 
 // Who paid.
 pub type OwnerId = [u8; 32];
@@ -90,26 +90,63 @@ pub fn kind_of_byte(byte: u8) -> KindByte
     KindByte::Unknown
 }
 
+// Whether two owners are the same. No early exit: a loop of this shape can become vector code.
+pub fn same_owner(ours: OwnerId, theirs: OwnerId) -> bool
+    ensures { λ r. ⌜ r ≡ same ours theirs ⌝ }
+{
+    let mut good = true;
+    let mut i: usize = 0;
+    while i < 32 {
+        good = good & (ours[i] == theirs[i]);
+        i += 1;
+    }
+    good
+}
+
 impl Head {
+    // The head of flags with a number of records: the kind follows from having an owner and from having records.
+    pub fn new(base: u16, maybe_owner_id: MaybeOwner, records: usize) -> Self
+        ensures { λ r. ⌜ r ≡ headFor base (ownerIf («maybe_owner_id» .owned) («maybe_owner_id» .id)) records ⌝ }
+    {
+        if maybe_owner_id.owned {
+            let owner = maybe_owner_id.id;
+            if records == 0 {
+                return Head {
+                    kind: Kind::SingleEpochOwned,
+                    base,
+                    owner,
+                    records,
+                };
+            }
+            return Head {
+                kind: Kind::MultiEpochOwned,
+                base,
+                owner,
+                records,
+            };
+        }
+        let owner = [0u8; 32];
+        if records == 0 {
+            return Head {
+                kind: Kind::SingleEpoch,
+                base,
+                owner,
+                records,
+            };
+        }
+        Head {
+            kind: Kind::MultiEpoch,
+            base,
+            owner,
+            records,
+        }
+    }
+
     // Flags whose bytes were all paid in one epoch.
     pub fn new_single_epoch(epoch: u16, maybe_owner_id: MaybeOwner) -> Self
         ensures { λ r. ⌜ r ≡ headFor epoch (ownerIf («maybe_owner_id» .owned) («maybe_owner_id» .id)) 0 ⌝ }
     {
-        if maybe_owner_id.owned {
-            let owner = maybe_owner_id.id;
-            return Head {
-                kind: Kind::SingleEpochOwned,
-                base: epoch,
-                owner,
-                records: 0,
-            };
-        }
-        Head {
-            kind: Kind::SingleEpoch,
-            base: epoch,
-            owner: [0u8; 32],
-            records: 0,
-        }
+        Head::new(epoch, maybe_owner_id, 0)
     }
 
     // The head with another owner, where it is owned.

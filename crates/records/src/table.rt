@@ -4,7 +4,7 @@ ghost use mathlib.Core.Bool.{true};
 ghost use Prim.Native.Nat.{_+_, _≤_, _<_};
 ghost use lib.ListN.{length, take, drop};
 ghost use Rattle.records.specs.Tables.{recordsOf, ascending, rising, placeOf, union, without, over, Table, Placed};
-ghost use Rattle.records.specs.Unions.{Within, Stepped};
+ghost use Rattle.records.specs.Unions.{Within, Stepped, spotOf};
 ghost use Rattle.records.specs.Flags.{agrees, proper};
 use crate::head::Head;
 use crate::head::Kind;
@@ -66,6 +66,55 @@ pub fn find(epochs: &[u16], epoch: u16) -> usize
         i += 1;
     }
     i
+}
+
+// What stands around an epoch: how many records are below it, how many are at most there, and the count there, or 0.
+pub struct Spot {
+    pub below: usize,
+    pub upto: usize,
+    pub count: u32,
+}
+
+// Looks up an epoch.
+pub fn look_up(epochs: &[u16], counts: &[u32], epoch: u16) -> Spot
+    requires { ⌜ Table (now epochs) (now counts) ⌝ }
+    ensures { λ r. ⌜ r ≡ spotOf epoch (now (epochs .entry)) (now (counts .entry)) ⌝ }
+{
+    let below = find(epochs, epoch);
+    if below < epochs.len() {
+        if epochs[below] == epoch {
+            return Spot {
+                below,
+                upto: below + 1,
+                count: counts[below],
+            };
+        }
+    }
+    Spot {
+        below,
+        upto: below,
+        count: 0,
+    }
+}
+
+// Copies the first n records into the two tables lent for them.
+pub fn copy_records(
+    from_epochs: &[u16],
+    from_counts: &[u32],
+    n: usize,
+    epochs: &mut [u16],
+    counts: &mut [u32],
+)
+    requires { ⌜ (n ≤ length (now «from_epochs»)) × (n ≤ length (now «from_counts»)) ⌝ }
+    requires { ⌜ (n ≤ length (now epochs)) × (n ≤ length (now counts)) ⌝ }
+    ensures { λ _. ⌜ Placed (take n (recordsOf (now («from_epochs» .entry)) (now («from_counts» .entry)))) 0 n (now (epochs .entry)) (now (counts .entry)) (now (epochs .exit)) (now (counts .exit)) ⌝ }
+{
+    let mut i: usize = 0;
+    while i < n {
+        epochs[i] = from_epochs[i];
+        counts[i] = from_counts[i];
+        i += 1;
+    }
 }
 
 // The next record of a union, and the places behind it in the two tables.

@@ -1,0 +1,148 @@
+-- The owner rule as the code has it, of heads and of what was read; and the chosen owner as a part of the encoding that holds it.
+-- By cases on the owners and on what reading finds.
+-- Assumes nothing.
+use mathlib.Core.Path.{_≡_, refl, sym, ap, _∙_}
+use mathlib.Core.Bool.{Bool, true, false, true≢false}
+use mathlib.Core.Option.{Option, none, some}
+use mathlib.Core.List.{List, [], _∷_}
+use Prim.Native.Nat.{ℕ, _≤_}
+use native.Mathlib.Omega.{arith}
+use lib.ListN.{length, take, drop}
+use Rattle.records.specs.Flags.{Flags, owned, kindOfByte, ownerIf, same, maybeOwner, ownerOf}
+use Rattle.records.specs.Answers.{Answer, ok, refused}
+use Rattle.records.specs.declared.refusal.Refusal.{Refusal}
+use Rattle.records.specs.declared.head.Kind.{Kind}
+use Rattle.records.specs.declared.head.KindByte.{KindByte}
+use Rattle.records.specs.declared.head.KindByte.the-variants.{Known, Unknown}
+use Rattle.records.proofs.Proper.{owner-head}
+use Rattle.codec.specs.Reading.{Read, noFlags, someFlags, refusedAt, flagsIn, ownerIn, readAs, readByte, read}
+use Rattle.codec.specs.Calls.{judgement}
+use Rattle.codec.specs.declared.judging.Judgement.{Judgement}
+use Rattle.codec.specs.declared.judging.Verdict.the-variants.{Absent as IsAbsent, Present as IsPresent, Refused as IsRefused}
+use Rattle.codec.proofs.Readings.{owned-size}
+use Rattle.codec.proofs.Settling.{judged-absent, judged-refused, judged-present, Whole, read-whole}
+use Rattle.flags.specs.Owners.{choice, disputed, chosen, combinedOwner, chosenAs, ownerRead, unlessRefused, choiceRead}
+use Rattle.flags.specs.Parts.{Part, handed}
+use Rattle.flags.specs.declared.owners.MergingOwnersStrategy.{MergingOwnersStrategy}
+use Rattle.flags.specs.declared.owners.MergingOwnersStrategy.the-variants.{RaiseIssue, UseOurs, UseTheirs}
+use Rattle.flags.specs.declared.owners.Choice.{Choice}
+use Rattle.flags.specs.declared.owners.Choice.the-variants.{Ours, Theirs, Neither, Refused}
+use Rattle.flags.specs.declared.owners.ChosenOwner.{ChosenOwner}
+
+-- ---- the owner of a merge
+
+pub own-back : (o : Option (List ℕ)) → o ≡ ownerIf (maybeOwner o .owned) (maybeOwner o .id)
+own-back none = refl
+own-back (some o) = refl
+
+module _ (w : ChosenOwner) where
+  pub answered-owner : (x : Answer (Option (List ℕ))) → w ≡ chosenAs x → w .refused ≡ false → x ≡ ok (ownerIf (w .owner .owned) (w .owner .id))
+  answered-owner (ok o) e h = rw e (ap ok (own-back o))
+  answered-owner (refused n) e h = absurd (true≢false (sym (ap (λ (v : ChosenOwner). v .refused) e) ∙ h))
+
+  -- what is refused is refused with 5
+  pub refused-owner : (s : MergingOwnersStrategy) (o t : Option (List ℕ)) → w ≡ chosenAs (combinedOwner s o t) → w .refused ≡ true → combinedOwner s o t ≡ refused 5
+  refused-owner s o t e h = five s o t (sym (ap (λ (v : ChosenOwner). v .refused) e) ∙ h)
+    where
+      differ : (s : MergingOwnersStrategy) (o t : List ℕ) → chosenAs (chosen (disputed s) (some o) (some t)) .refused ≡ true → chosen (disputed s) (some o) (some t) ≡ refused 5
+      differ RaiseIssue o t h = refl
+      differ UseOurs o t h = absurd (true≢false (sym h))
+      differ UseTheirs o t h = absurd (true≢false (sym h))
+
+      both : (b : Bool) (s : MergingOwnersStrategy) (o t : List ℕ) → same o t ≡ b → chosenAs (combinedOwner s (some o) (some t)) .refused ≡ true → combinedOwner s (some o) (some t) ≡ refused 5
+      both true s o t e h = absurd (true≢false (sym (rw e at h)))
+      both false s o t e h = rw e (differ s o t (rw e at h))
+
+      five : (s : MergingOwnersStrategy) (o t : Option (List ℕ)) → chosenAs (combinedOwner s o t) .refused ≡ true → combinedOwner s o t ≡ refused 5
+      five s none none h = absurd (true≢false (sym h))
+      five s none (some t) h = absurd (true≢false (sym h))
+      five s (some o) none h = absurd (true≢false (sym h))
+      five s (some o) (some t) h = both (same o t) s o t refl h
+
+-- ---- what was read
+
+judged-owner : (x : Read) → ownerOf (judgement x .head) ≡ ownerRead x
+judged-owner noFlags = refl
+judged-owner (someFlags f) = owner-head f
+judged-owner (refusedAt r p) = refl
+
+module _ (x : Read) (j : Judgement) (e : j ≡ judgement x) (go : Option (List ℕ) → Choice) where
+  pub judged-out : (r : Refusal) (p : ℕ) → j .verdict ≡ IsRefused r p → Refused r ≡ unlessRefused x (go (ownerRead x))
+  judged-out r p v = sym (ap (λ (y : Read). unlessRefused y (go (ownerRead x))) (judged-refused x r p (sym (ap (λ (k : Judgement). k .verdict) e) ∙ v)))
+
+  judged-in : unlessRefused x (go (ownerRead x)) ≡ go (ownerRead x) → go (ownerOf (j .head)) ≡ unlessRefused x (go (ownerRead x))
+  judged-in u = ap (λ (k : Judgement). go (ownerOf (k .head))) e ∙ ap go (judged-owner x) ∙ sym u
+
+  pub judged-none : j .verdict ≡ IsAbsent → go (ownerOf (j .head)) ≡ unlessRefused x (go (ownerRead x))
+  judged-none v = judged-in (ap (λ (y : Read). unlessRefused y (go (ownerRead x))) (judged-absent x (sym (ap (λ (k : Judgement). k .verdict) e) ∙ v)))
+
+  pub judged-some : j .verdict ≡ IsPresent → go (ownerOf (j .head)) ≡ unlessRefused x (go (ownerRead x))
+  judged-some v =
+      let f = judged-present x (sym (ap (λ (k : Judgement). k .verdict) e) ∙ v) in
+      judged-in (ap (λ (y : Read). unlessRefused y (go (ownerRead x))) (f .1))
+
+-- ---- where the owner stands
+
+no-some : (a : List ℕ) → _≡_ {A = Option (List ℕ)} none (some a) → ⊥
+no-some a e = let z : _≡_ {A = ℕ} 0 1 = cc in omega arith
+
+-- an owner that was read is the 32 bytes behind the kind
+pub record Owned (xs a : List ℕ) : Type 0 where
+  pub long : 35 ≤ length xs
+  pub is-there : a ≡ take 32 (drop 1 xs)
+
+owned-as : (k : Kind) (xs a : List ℕ) (x : Read) → readAs k xs ≡ x → ownerRead x ≡ some a → Owned xs a
+owned-as k xs a noFlags e o = absurd (no-some a o)
+owned-as k xs a (refusedAt r p) e o = absurd (no-some a o)
+owned-as k xs a (someFlags f) e o = by (owned k) refl
+  where
+    w : Whole k xs f
+    w = read-whole k xs f e
+
+    by : (b : Bool) → owned k ≡ b → Owned xs a
+    by true h =
+        let i : some (take 32 (drop 1 xs)) ≡ some a = rw h at (sym (ap (λ (g : Flags). g .owner) (w .in-bytes)) ∙ o) in
+        record { long = owned-size k (length xs) h (w .complete .head-inside); is-there = cc }
+    by false h = absurd (no-some a (rw h at (sym (ap (λ (g : Flags). g .owner) (w .in-bytes)) ∙ o)))
+
+pub owner-place : (xs a : List ℕ) → ownerRead (read xs) ≡ some a → Owned xs a
+unfolding read
+owner-place [] a o = absurd (no-some a o)
+owner-place (b ∷ xs) a o = by (kindOfByte b) refl
+  where
+    by : (k : KindByte) → kindOfByte b ≡ k → Owned (b ∷ xs) a
+    by (Known k) e = owned-as k (b ∷ xs) a (readAs k (b ∷ xs)) refl (rw e at o)
+    by Unknown e = absurd (no-some a (rw e at o))
+
+-- ---- whose owner was chosen
+
+-- an owner that is chosen exists
+pub choice-ours : (s : MergingOwnersStrategy) (o t : Option (List ℕ)) → choice s o t ≡ Ours → (a : List ℕ) × (o ≡ some a)
+choice-ours s none none e = let z : _≡_ {A = ℕ} 0 1 = cc in absurd (omega arith)
+choice-ours s none (some t) e = let z : _≡_ {A = ℕ} 0 1 = cc in absurd (omega arith)
+choice-ours s (some o) t e = (o, refl)
+
+pub choice-theirs : (s : MergingOwnersStrategy) (o t : Option (List ℕ)) → choice s o t ≡ Theirs → (a : List ℕ) × (t ≡ some a)
+choice-theirs s none none e = let z : _≡_ {A = ℕ} 0 1 = cc in absurd (omega arith)
+choice-theirs s (some o) none e = let z : _≡_ {A = ℕ} 0 1 = cc in absurd (omega arith)
+choice-theirs s o (some t) e = (t, refl)
+
+-- what is no refusal is the rest
+unless-rest : (x : Read) (rest c : Choice) → ((r : Refusal) → Refused r ≡ c → ⊥) → unlessRefused x rest ≡ c → rest ≡ c
+unless-rest noFlags rest c d e = e
+unless-rest (someFlags f) rest c d e = e
+unless-rest (refusedAt r p) rest c d e = absurd (d r e)
+
+module _ (s : MergingOwnersStrategy) (xs ys : List ℕ) where
+  choice-rest : (c : Choice) → ((r : Refusal) → Refused r ≡ c → ⊥) → choiceRead s (read xs) (read ys) ≡ c → choice s (ownerRead (read xs)) (ownerRead (read ys)) ≡ c
+  choice-rest c d e = unless-rest (read ys) _ c d (unless-rest (read xs) _ c d e)
+
+  pub ours-owned : choiceRead s (read xs) (read ys) ≡ Ours → (a : List ℕ) × Owned xs a
+  ours-owned e =
+      let o = choice-ours s (ownerRead (read xs)) (ownerRead (read ys)) (choice-rest Ours (λ r f. let z : _≡_ {A = ℕ} 0 1 = cc in omega arith) e) in
+      (o .0, owner-place xs (o .0) (o .1))
+
+  pub theirs-owned : choiceRead s (read xs) (read ys) ≡ Theirs → (a : List ℕ) × Owned ys a
+  theirs-owned e =
+      let o = choice-theirs s (ownerRead (read xs)) (ownerRead (read ys)) (choice-rest Theirs (λ r f. let z : _≡_ {A = ℕ} 0 1 = cc in omega arith) e) in
+      (o .0, owner-place ys (o .0) (o .1))

@@ -1,0 +1,70 @@
+-- The adding merge by the tests of the code: the bases, the owner, the limit, and whether the flags are proper.
+-- Assumes nothing.
+use mathlib.Core.Path.{_≡_, sym, ap, _∙_}
+use mathlib.Core.Bool.{Bool, true, false, and-false}
+use mathlib.Core.Option.{Option, some}
+use mathlib.Core.List.{List, _∷_}
+use Prim.Native.Nat.{ℕ, _+_, _≤_, _<_}
+use native.Mathlib.Omega.{arith}
+use borrow.Author.Tests.{le-leb, lt-leb, lt-ltb, le-ltb, eq-eqb, ne-eqb}
+use Rattle.fields.specs.Varint.{largest}
+use Rattle.records.specs.Tables.{At, _⦂_, epochsOf, ascending, held, union}
+use Rattle.records.specs.Flags.{Flags, flags, flagsOf, proper}
+use Rattle.records.specs.Answers.{Answer, ok, refused, kept, placing}
+use Rattle.records.specs.declared.head.Head.{Head}
+use Rattle.records.proofs.Held.{held-beside}
+use Rattle.flags.specs.Owners.{combinedOwner}
+use Rattle.flags.specs.Merging.{owning, joined, raised, sameBase, higherBase, added}
+use Rattle.flags.specs.Calls.{handedOn, combinedAdded}
+use Rattle.flags.specs.declared.owners.MergingOwnersStrategy.{MergingOwnersStrategy}
+
+-- ---- by the bases
+
+module _ (s : MergingOwnersStrategy) (amount : ℕ) (ours theirs : Flags) where
+  pub added-lower : theirs .base < ours .base → added s amount ours theirs ≡ refused 4
+  unfolding added
+  added-lower p = rw (lt-ltb (theirs .base) (ours .base) p)
+
+  pub added-same : ours .base ≡ theirs .base → added s amount ours theirs ≡ sameBase s ours theirs
+  unfolding added
+  added-same e = simp (le-ltb (theirs .base) (ours .base) (omega arith), eq-eqb (ours .base) (theirs .base) e)
+
+  pub added-higher : ours .base ≤ theirs .base → (ours .base ≡ theirs .base → ⊥) → added s amount ours theirs ≡ higherBase s amount ours theirs
+  unfolding added
+  added-higher p d = simp (le-ltb (theirs .base) (ours .base) p, ne-eqb (ours .base) (theirs .base) d)
+
+-- ---- the amount at an epoch that theirs are above
+
+module _ (e amount base : ℕ) (owner : Option (List ℕ)) (os ts : List At) (h : ascending e (epochsOf ts) ≡ true) where
+  pub raised-over : largest < held e os + amount → raised e amount (flags base owner (union os ts)) ≡ refused 6
+  raised-over p = simp (held-beside e os ts h, lt-leb (held e os + amount) largest p)
+
+  pub raised-made : held e os + amount ≤ largest
+      → raised e amount (flags base owner (union os ts)) ≡ ok (flags base owner (union os (e ⦂ (held e os + amount) ∷ ts)))
+  unfolding union
+  raised-made p = simp (held-beside e os ts h, le-leb (held e os + amount) largest p)
+
+-- ---- whether the flags are proper
+
+module _ (ours : Head) (oes ocs : List ℕ) (theirs : Head) (tes tcs : List ℕ) (amount : ℕ) (s : MergingOwnersStrategy) (es cs : List ℕ) where
+  pub combined-proper : proper ours oes ocs ≡ true → proper theirs tes tcs ≡ true
+      → combinedAdded ours oes ocs theirs tes tcs amount s es cs ≡ placing (added s amount (flagsOf ours oes ocs) (flagsOf theirs tes tcs)) es cs
+  unfolding combinedAdded
+  combined-proper p q = simp (p, q)
+
+  pub combined-theirs-bad : proper theirs tes tcs ≡ false → combinedAdded ours oes ocs theirs tes tcs amount s es cs ≡ kept 11 es cs
+  unfolding combinedAdded
+  combined-theirs-bad q = simp (q, and-false)
+
+  pub combined-ours-bad : proper ours oes ocs ≡ false → combinedAdded ours oes ocs theirs tes tcs amount s es cs ≡ kept 11 es cs
+  unfolding combinedAdded
+  combined-ours-bad p = simp p
+
+module _ (h : Head) (fes fcs es cs : List ℕ) where
+  pub handed-proper : proper h fes fcs ≡ true → handedOn h fes fcs es cs ≡ placing (ok (flagsOf h fes fcs)) es cs
+  unfolding handedOn
+  handed-proper p = rw p
+
+  pub handed-bad : proper h fes fcs ≡ false → handedOn h fes fcs es cs ≡ kept 11 es cs
+  unfolding handedOn
+  handed-bad p = rw p

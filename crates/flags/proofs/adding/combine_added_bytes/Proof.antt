@@ -1,0 +1,31 @@
+-- `flags::adding::combine_added_bytes` meets its contract: both sides are proper, or one is not. Assumes nothing.
+use mathlib.Core.Path.{_≡_, sym, ap, _∙_}
+use borrow.Author.Needs.{needs}
+use Rattle.records.proofs.Answers.{refused-left}
+use Rattle.flags.proofs.Merging.{combined-proper, combined-theirs-bad, combined-ours-bad}
+use Rattle.flags.proofs.adding.combine_added_bytes.Statement.{statement}
+use Rattle.flags.proofs.adding.combine_added_bytes.Tie as tie
+
+returns : tie.Need-returns
+returns c = c .before .before .before .before .combine-proper .ensures ∙ sym (combined-proper _ _ _ _ _ _ _ _ _ _ (sym (c .before .before .before .before .before .before .before .before .before .before .is-proper .ensures) ∙ c .before .before .before .before .before .before .before .before .before .if1 .taken) (sym (c .before .before .before .before .before .before .before .before .is-proper2 .ensures) ∙ c .before .before .before .before .before .before .before .if2 .taken))
+
+returns-2 : tie.Need-returns-2
+returns-2 c = refused-left _ _ _ _ (c .refused .ensures) ∙ sym (combined-theirs-bad _ _ _ _ _ _ _ _ _ _ (sym (c .before .before .is-proper2 .ensures) ∙ c .before .if2 .left))
+
+returns-3 : tie.Need-returns-3
+returns-3 c = refused-left _ _ _ _ (c .refused2 .ensures) ∙ sym (combined-ours-bad _ _ _ _ _ _ _ _ _ _ (sym (c .before .before .is-proper .ensures) ∙ c .before .if1 .left))
+
+pub combine-added-bytes-spec : {M : Type 1} → statement M
+combine-added-bytes-spec =
+    tie.close
+    (tie.spec
+    (λ c κs. search needs)
+    (λ c κs. search needs)
+    (λ c κs. (sym (c .before .before .before .before .before .is-proper .ensures) ∙ c .before .before .before .before .if1 .taken, sym (c .before .before .before .is-proper2 .ensures) ∙ c .before .before .if2 .taken))
+    (λ c. search needs)
+    (λ c. search needs)
+    returns
+    (λ c κs. search needs)
+    returns-2
+    (λ c κs. search needs)
+    returns-3)

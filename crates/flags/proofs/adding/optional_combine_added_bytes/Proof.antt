@@ -1,0 +1,23 @@
+-- `flags::adding::optional_combine_added_bytes` meets its contract: ours is there, or absent. Assumes nothing.
+use borrow.Author.Needs.{needs}
+use Rattle.flags.proofs.adding.optional_combine_added_bytes.Statement.{statement}
+use Rattle.flags.proofs.adding.optional_combine_added_bytes.Tie as tie
+
+returns : tie.Need-returns
+returns c = rw (c .before .before .before .before .before .before .before .if1 .taken) (c .before .before .before .before .combine-added-bytes .ensures)
+
+returns-2 : tie.Need-returns-2
+returns-2 c = rw (c .before .before .before .before .before .before .before .if1 .left) (c .before .before .before .before .combine-absent .ensures)
+
+pub optional-combine-added-bytes-spec : {M : Type 1} → statement M
+optional-combine-added-bytes-spec =
+    tie.close
+    (tie.spec
+    (λ c κs. search needs)
+    (λ c. search needs)
+    (λ c. search needs)
+    returns
+    (λ c κs. search needs)
+    (λ c. search needs)
+    (λ c. search needs)
+    returns-2)

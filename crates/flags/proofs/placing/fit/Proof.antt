@@ -1,0 +1,13 @@
+-- `flags::placing::fit` meets its contract: its tests are those of `roomFor`. Assumes nothing.
+use borrow.Author.Tests.{le-leb, lt-leb}
+use Rattle.flags.proofs.placing.fit.Statement.{statement}
+use Rattle.flags.proofs.placing.fit.Tie as tie
+
+returns : tie.Need-returns
+returns c = rw (lt-leb _ _ (c .if1 .taken))
+
+returns-2 : tie.Need-returns-2
+returns-2 c = rw (le-leb _ _ (c .if1 .left))
+
+pub fit-spec : {M : Type 1} → statement M
+fit-spec = tie.close (tie.spec returns returns-2)

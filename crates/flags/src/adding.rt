@@ -1,0 +1,260 @@
+// The adding merge, with the Rust's names where it has them.
+ghost use mathlib.Core.Path.{_≡_};
+ghost use mathlib.Core.Bool.{true};
+ghost use Rattle.records.specs.Tables.{recordsOf, union, Table, Above};
+ghost use Rattle.records.specs.Flags.{flags, ownerIf, flagsOf, proper};
+ghost use Rattle.records.specs.Answers.{shown, placing};
+ghost use Rattle.flags.specs.Merging.{raised, sameBase, higherBase, added};
+ghost use Rattle.flags.specs.Calls.{handedOn, combinedAdded, optionalCombinedAdded};
+use crate::owners::MergingOwnersStrategy;
+use crate::owners::combine_owners;
+use crate::placing::hand_on;
+use crate::placing::place_around;
+use crate::placing::place_union;
+use records::Answered;
+use records::Head;
+use records::MaybeOwner;
+use records::Refusal;
+
+// Merges flags with equal bases: the union under the chosen owner.
+pub fn combine_same_base_epoch(
+    ours: Head,
+    our_epochs: &[u16],
+    our_counts: &[u32],
+    theirs: Head,
+    their_epochs: &[u16],
+    their_counts: &[u32],
+    strategy: MergingOwnersStrategy,
+    epochs: &mut [u16],
+    counts: &mut [u32],
+) -> Answered
+    requires { ⌜ proper ours (now «our_epochs») (now «our_counts») ≡ true ⌝ }
+    requires { ⌜ proper theirs (now «their_epochs») (now «their_counts») ≡ true ⌝ }
+    ensures { λ r. ⌜ shown r (now (epochs .exit)) (now (counts .exit)) ≡ placing (sameBase strategy (flagsOf ours (now («our_epochs» .entry)) (now («our_counts» .entry))) (flagsOf theirs (now («their_epochs» .entry)) (now («their_counts» .entry)))) (now (epochs .entry)) (now (counts .entry)) ⌝ }
+{
+    let chosen = combine_owners(ours, theirs, strategy);
+    if chosen.refused {
+        return records::refused(Refusal::DifferentOwners);
+    }
+    let owner = chosen.owner;
+    let n = ours.records;
+    let m = theirs.records;
+    place_union(
+        owner,
+        ours.base,
+        &our_epochs[..n],
+        &our_counts[..n],
+        &their_epochs[..m],
+        &their_counts[..m],
+        epochs,
+        counts,
+    )
+}
+
+// The union with an amount at the incoming base: it is added to our record there, or a record is made.
+fn raise(
+    owner: MaybeOwner,
+    base: u16,
+    our_epochs: &[u16],
+    our_counts: &[u32],
+    epoch: u16,
+    added_bytes: u32,
+    their_epochs: &[u16],
+    their_counts: &[u32],
+    epochs: &mut [u16],
+    counts: &mut [u32],
+) -> Answered
+    requires { ⌜ Table (now «our_epochs») (now «our_counts») ⌝ }
+    requires { ⌜ Above epoch (now «their_epochs») (now «their_counts») ⌝ }
+    ensures { λ r. ⌜ shown r (now (epochs .exit)) (now (counts .exit)) ≡ placing (raised epoch «added_bytes» (flags base (ownerIf (owner .owned) (owner .id)) (union (recordsOf (now («our_epochs» .entry)) (now («our_counts» .entry))) (recordsOf (now («their_epochs» .entry)) (now («their_counts» .entry)))))) (now (epochs .entry)) (now (counts .entry)) ⌝ }
+{
+    let spot = records::look_up(our_epochs, our_counts, epoch);
+    let held = spot.count;
+    if 4294967295 - added_bytes < held {
+        return records::refused(Refusal::Overflow);
+    }
+    place_around(
+        owner,
+        base,
+        our_epochs,
+        our_counts,
+        spot,
+        epoch,
+        held + added_bytes,
+        their_epochs,
+        their_counts,
+        epochs,
+        counts,
+    )
+}
+
+// Merges flags with a higher incoming base: the union under the chosen owner, with the amount at the incoming base.
+fn combine_with_higher_base_epoch(
+    ours: Head,
+    our_epochs: &[u16],
+    our_counts: &[u32],
+    theirs: Head,
+    their_epochs: &[u16],
+    their_counts: &[u32],
+    added_bytes: u32,
+    strategy: MergingOwnersStrategy,
+    epochs: &mut [u16],
+    counts: &mut [u32],
+) -> Answered
+    requires { ⌜ proper ours (now «our_epochs») (now «our_counts») ≡ true ⌝ }
+    requires { ⌜ proper theirs (now «their_epochs») (now «their_counts») ≡ true ⌝ }
+    ensures { λ r. ⌜ shown r (now (epochs .exit)) (now (counts .exit)) ≡ placing (higherBase strategy «added_bytes» (flagsOf ours (now («our_epochs» .entry)) (now («our_counts» .entry))) (flagsOf theirs (now («their_epochs» .entry)) (now («their_counts» .entry)))) (now (epochs .entry)) (now (counts .entry)) ⌝ }
+{
+    let chosen = combine_owners(ours, theirs, strategy);
+    if chosen.refused {
+        return records::refused(Refusal::DifferentOwners);
+    }
+    let owner = chosen.owner;
+    let n = ours.records;
+    let m = theirs.records;
+    raise(
+        owner,
+        ours.base,
+        &our_epochs[..n],
+        &our_counts[..n],
+        theirs.base,
+        added_bytes,
+        &their_epochs[..m],
+        &their_counts[..m],
+        epochs,
+        counts,
+    )
+}
+
+// Merges proper flags: the bases decide first.
+fn combine_proper(
+    ours: Head,
+    our_epochs: &[u16],
+    our_counts: &[u32],
+    theirs: Head,
+    their_epochs: &[u16],
+    their_counts: &[u32],
+    added_bytes: u32,
+    strategy: MergingOwnersStrategy,
+    epochs: &mut [u16],
+    counts: &mut [u32],
+) -> Answered
+    requires { ⌜ proper ours (now «our_epochs») (now «our_counts») ≡ true ⌝ }
+    requires { ⌜ proper theirs (now «their_epochs») (now «their_counts») ≡ true ⌝ }
+    ensures { λ r. ⌜ shown r (now (epochs .exit)) (now (counts .exit)) ≡ placing (added strategy «added_bytes» (flagsOf ours (now («our_epochs» .entry)) (now («our_counts» .entry))) (flagsOf theirs (now («their_epochs» .entry)) (now («their_counts» .entry)))) (now (epochs .entry)) (now (counts .entry)) ⌝ }
+{
+    let our_base = ours.base;
+    let their_base = theirs.base;
+    if their_base < our_base {
+        return records::refused(Refusal::DifferentBaseEpoch);
+    }
+    if our_base == their_base {
+        return combine_same_base_epoch(
+            ours,
+            our_epochs,
+            our_counts,
+            theirs,
+            their_epochs,
+            their_counts,
+            strategy,
+            epochs,
+            counts,
+        );
+    }
+    combine_with_higher_base_epoch(
+        ours,
+        our_epochs,
+        our_counts,
+        theirs,
+        their_epochs,
+        their_counts,
+        added_bytes,
+        strategy,
+        epochs,
+        counts,
+    )
+}
+
+// Merges ours with the incoming flags that came with added bytes.
+pub fn combine_added_bytes(
+    ours: Head,
+    our_epochs: &[u16],
+    our_counts: &[u32],
+    theirs: Head,
+    their_epochs: &[u16],
+    their_counts: &[u32],
+    added_bytes: u32,
+    strategy: MergingOwnersStrategy,
+    epochs: &mut [u16],
+    counts: &mut [u32],
+) -> Answered
+    ensures { λ r. ⌜ shown r (now (epochs .exit)) (now (counts .exit)) ≡ combinedAdded ours (now («our_epochs» .entry)) (now («our_counts» .entry)) theirs (now («their_epochs» .entry)) (now («their_counts» .entry)) «added_bytes» strategy (now (epochs .entry)) (now (counts .entry)) ⌝ }
+{
+    if records::is_proper(ours, our_epochs, our_counts) {
+        if records::is_proper(theirs, their_epochs, their_counts) {
+            return combine_proper(
+                ours,
+                our_epochs,
+                our_counts,
+                theirs,
+                their_epochs,
+                their_counts,
+                added_bytes,
+                strategy,
+                epochs,
+                counts,
+            );
+        }
+        return records::refused(Refusal::BadTable);
+    }
+    records::refused(Refusal::BadTable)
+}
+
+// Hands the incoming flags on, where ours is absent.
+pub fn combine_absent(
+    theirs: Head,
+    their_epochs: &[u16],
+    their_counts: &[u32],
+    epochs: &mut [u16],
+    counts: &mut [u32],
+) -> Answered
+    ensures { λ r. ⌜ shown r (now (epochs .exit)) (now (counts .exit)) ≡ handedOn theirs (now («their_epochs» .entry)) (now («their_counts» .entry)) (now (epochs .entry)) (now (counts .entry)) ⌝ }
+{
+    if records::is_proper(theirs, their_epochs, their_counts) {
+        return hand_on(theirs, their_epochs, their_counts, epochs, counts);
+    }
+    records::refused(Refusal::BadTable)
+}
+
+// The same where ours may be absent; absent ours is not looked at.
+pub fn optional_combine_added_bytes(
+    present: bool,
+    ours: Head,
+    our_epochs: &[u16],
+    our_counts: &[u32],
+    theirs: Head,
+    their_epochs: &[u16],
+    their_counts: &[u32],
+    added_bytes: u32,
+    strategy: MergingOwnersStrategy,
+    epochs: &mut [u16],
+    counts: &mut [u32],
+) -> Answered
+    ensures { λ r. ⌜ shown r (now (epochs .exit)) (now (counts .exit)) ≡ optionalCombinedAdded present ours (now («our_epochs» .entry)) (now («our_counts» .entry)) theirs (now («their_epochs» .entry)) (now («their_counts» .entry)) «added_bytes» strategy (now (epochs .entry)) (now (counts .entry)) ⌝ }
+{
+    if present {
+        return combine_added_bytes(
+            ours,
+            our_epochs,
+            our_counts,
+            theirs,
+            their_epochs,
+            their_counts,
+            added_bytes,
+            strategy,
+            epochs,
+            counts,
+        );
+    }
+    combine_absent(theirs, their_epochs, their_counts, epochs, counts)
+}

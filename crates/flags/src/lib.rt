@@ -1,0 +1,14 @@
+// Owners and the adding merge of flags.
+mod adding;
+mod owners;
+mod placing;
+
+pub use adding::combine_added_bytes;
+pub use adding::optional_combine_added_bytes;
+pub use owners::Choice;
+pub use owners::ChosenOwner;
+pub use owners::MergingOwnersStrategy;
+pub use owners::choose_owner;
+pub use owners::choose_owner_id;
+pub use owners::combine_owner_id;
+pub use owners::combine_owners;

@@ -1,0 +1,145 @@
+// The owner rule, for heads and for encodings.
+ghost use mathlib.Core.Path.{_≡_};
+ghost use mathlib.Core.Option.{none};
+ghost use Rattle.records.specs.Flags.{maybeOwner, ownerOf};
+ghost use Rattle.codec.specs.Reading.{read};
+ghost use Rattle.flags.specs.Owners.{disputed, choice, combinedOwner, chosenAs, ownerRead, unlessRefused};
+ghost use Rattle.flags.specs.Parts.{lent};
+ghost use Rattle.flags.specs.Calls.{ownerChoice, ownerHanded};
+use codec::Verdict;
+use records::Head;
+use records::MaybeOwner;
+use records::Refusal;
+
+// Which owner a merge keeps where both sides are owned and differ.
+pub enum MergingOwnersStrategy {
+    RaiseIssue,
+    UseOurs,
+    UseTheirs,
+}
+
+// Whose owner stands, or why none is chosen.
+pub enum Choice {
+    Ours,
+    Theirs,
+    Neither,
+    Refused(Refusal),
+}
+
+// The owner of a merge, or that there is none because the owners differ.
+pub struct ChosenOwner {
+    pub refused: bool,
+    pub owner: MaybeOwner,
+}
+
+// No owner.
+fn no_owner() -> MaybeOwner
+    ensures { λ r. ⌜ r ≡ maybeOwner none ⌝ }
+{
+    MaybeOwner {
+        owned: false,
+        id: [0u8; 32],
+    }
+}
+
+// The choice between two owners that differ.
+fn dispute(strategy: MergingOwnersStrategy) -> Choice
+    ensures { λ r. ⌜ r ≡ disputed strategy ⌝ }
+{
+    match strategy {
+        MergingOwnersStrategy::RaiseIssue => Choice::Refused(Refusal::DifferentOwners),
+        MergingOwnersStrategy::UseOurs => Choice::Ours,
+        MergingOwnersStrategy::UseTheirs => Choice::Theirs,
+    }
+}
+
+// The owner rule.
+pub fn choose_owner(ours: Head, theirs: Head, strategy: MergingOwnersStrategy) -> Choice
+    ensures { λ r. ⌜ r ≡ choice strategy (ownerOf ours) (ownerOf theirs) ⌝ }
+{
+    let our_kind = ours.kind;
+    let their_kind = theirs.kind;
+    if our_kind.is_owned() {
+        if their_kind.is_owned() {
+            let our_owner = ours.owner;
+            let their_owner = theirs.owner;
+            if records::same_owner(our_owner, their_owner) {
+                return Choice::Ours;
+            }
+            return dispute(strategy);
+        }
+        return Choice::Ours;
+    }
+    if their_kind.is_owned() {
+        return Choice::Theirs;
+    }
+    Choice::Neither
+}
+
+// The owner rule, with the owner that it chose.
+pub fn combine_owners(ours: Head, theirs: Head, strategy: MergingOwnersStrategy) -> ChosenOwner
+    ensures { λ r. ⌜ r ≡ chosenAs (combinedOwner strategy (ownerOf ours) (ownerOf theirs)) ⌝ }
+{
+    match choose_owner(ours, theirs, strategy) {
+        Choice::Ours => ChosenOwner {
+            refused: false,
+            owner: ours.owner_id(),
+        },
+        Choice::Theirs => ChosenOwner {
+            refused: false,
+            owner: theirs.owner_id(),
+        },
+        Choice::Neither => ChosenOwner {
+            refused: false,
+            owner: no_owner(),
+        },
+        Choice::Refused(_) => ChosenOwner {
+            refused: true,
+            owner: no_owner(),
+        },
+    }
+}
+
+// The choice between our owner and an encoding's: its refusal first.
+fn choose_beside(ours: Head, theirs: &[u8], strategy: MergingOwnersStrategy) -> Choice
+    ensures { λ r. ⌜ r ≡ unlessRefused (read (now (theirs .entry))) (choice strategy (ownerOf ours) (ownerRead (read (now (theirs .entry))))) ⌝ }
+{
+    let judged = codec::judge(theirs);
+    let verdict = judged.verdict;
+    let head = judged.head;
+    match verdict {
+        Verdict::Refused(refusal, _) => Choice::Refused(refusal),
+        Verdict::Absent => choose_owner(ours, head, strategy),
+        Verdict::Present => choose_owner(ours, head, strategy),
+    }
+}
+
+// Whose owner stands in two encodings, or the refusal: ours read first, then theirs, then the owner rule.
+pub fn choose_owner_id(ours: &[u8], theirs: &[u8], strategy: MergingOwnersStrategy) -> Choice
+    ensures { λ r. ⌜ r ≡ ownerChoice strategy (now (ours .entry)) (now (theirs .entry)) ⌝ }
+{
+    let judged = codec::judge(ours);
+    let verdict = judged.verdict;
+    let head = judged.head;
+    match verdict {
+        Verdict::Refused(refusal, _) => Choice::Refused(refusal),
+        Verdict::Absent => choose_beside(head, theirs, strategy),
+        Verdict::Present => choose_beside(head, theirs, strategy),
+    }
+}
+
+// The chosen owner, as a part of the encoding that holds it. Where neither is owned or the choice is refused, the part is empty.
+pub fn combine_owner_id<'a>(
+    ours: &'a [u8],
+    theirs: &'a [u8],
+    strategy: MergingOwnersStrategy,
+) -> &'a [u8]
+    ensures { λ r. ⌜ lent r ≡ ownerHanded strategy (lent (ours .entry)) (lent (theirs .entry)) ⌝ }
+{
+    match choose_owner_id(ours, theirs, strategy) {
+        Choice::Ours => &ours[1..33],
+        Choice::Theirs => &theirs[1..33],
+        Choice::Neither => &ours[..0],
+        Choice::Refused(_) => &ours[..0],
+    }
+}
