@@ -23,6 +23,7 @@ use Rattle.codec.proofs.Readings.{owned-size}
 use Rattle.codec.proofs.Settling.{judged-absent, judged-refused, judged-present, Whole, read-whole}
 use Rattle.flags.specs.Owners.{choice, disputed, chosen, combinedOwner, chosenAs, ownerRead, unlessRefused, choiceRead}
 use Rattle.flags.specs.Parts.{Part, handed}
+use Rattle.flags.specs.Calls.{ownerChoice, ownerHanded}
 use Rattle.flags.specs.declared.owners.MergingOwnersStrategy.{MergingOwnersStrategy}
 use Rattle.flags.specs.declared.owners.MergingOwnersStrategy.the-variants.{RaiseIssue, UseOurs, UseTheirs}
 use Rattle.flags.specs.declared.owners.Choice.{Choice}
@@ -88,10 +89,11 @@ no-some a e = let z : _≡_ {A = ℕ} 0 1 = cc in omega arith
 
 -- an owner that was read is the 32 bytes behind the kind
 pub record Owned (xs a : List ℕ) : Type 0 where
+  pub was-read : ownerRead (read xs) ≡ some a
   pub long : 35 ≤ length xs
   pub is-there : a ≡ take 32 (drop 1 xs)
 
-owned-as : (k : Kind) (xs a : List ℕ) (x : Read) → readAs k xs ≡ x → ownerRead x ≡ some a → Owned xs a
+owned-as : (k : Kind) (xs a : List ℕ) (x : Read) → readAs k xs ≡ x → ownerRead x ≡ some a → (35 ≤ length xs) × (a ≡ take 32 (drop 1 xs))
 owned-as k xs a noFlags e o = absurd (no-some a o)
 owned-as k xs a (refusedAt r p) e o = absurd (no-some a o)
 owned-as k xs a (someFlags f) e o = by (owned k) refl
@@ -99,20 +101,23 @@ owned-as k xs a (someFlags f) e o = by (owned k) refl
     w : Whole k xs f
     w = read-whole k xs f e
 
-    by : (b : Bool) → owned k ≡ b → Owned xs a
+    by : (b : Bool) → owned k ≡ b → (35 ≤ length xs) × (a ≡ take 32 (drop 1 xs))
     by true h =
         let i : some (take 32 (drop 1 xs)) ≡ some a = rw h at (sym (ap (λ (g : Flags). g .owner) (w .in-bytes)) ∙ o) in
-        record { long = owned-size k (length xs) h (w .complete .head-inside); is-there = cc }
+        (owned-size k (length xs) h (w .complete .head-inside), cc)
     by false h = absurd (no-some a (rw h at (sym (ap (λ (g : Flags). g .owner) (w .in-bytes)) ∙ o)))
 
-pub owner-place : (xs a : List ℕ) → ownerRead (read xs) ≡ some a → Owned xs a
+owner-behind : (xs a : List ℕ) → ownerRead (read xs) ≡ some a → (35 ≤ length xs) × (a ≡ take 32 (drop 1 xs))
 unfolding read
-owner-place [] a o = absurd (no-some a o)
-owner-place (b ∷ xs) a o = by (kindOfByte b) refl
+owner-behind [] a o = absurd (no-some a o)
+owner-behind (b ∷ xs) a o = by (kindOfByte b) refl
   where
-    by : (k : KindByte) → kindOfByte b ≡ k → Owned (b ∷ xs) a
+    by : (k : KindByte) → kindOfByte b ≡ k → (35 ≤ length (b ∷ xs)) × (a ≡ take 32 xs)
     by (Known k) e = owned-as k (b ∷ xs) a (readAs k (b ∷ xs)) refl (rw e at o)
     by Unknown e = absurd (no-some a (rw e at o))
+
+pub owner-place : (xs a : List ℕ) → ownerRead (read xs) ≡ some a → Owned xs a
+owner-place xs a o = let p = owner-behind xs a o in record { was-read = o; long = p .0; is-there = p .1 }
 
 -- ---- whose owner was chosen
 
@@ -146,3 +151,29 @@ module _ (s : MergingOwnersStrategy) (xs ys : List ℕ) where
   theirs-owned e =
       let o = choice-theirs s (ownerRead (read xs)) (ownerRead (read ys)) (choice-rest Theirs (λ r f. let z : _≡_ {A = ℕ} 0 1 = cc in omega arith) e) in
       (o .0, owner-place ys (o .0) (o .1))
+
+-- ---- the part that is handed back
+
+-- the bytes of the owner that was chosen; none where there is none
+abbrev chosenBytes : Answer (Option (List ℕ)) → List ℕ
+chosenBytes (ok none) = []
+chosenBytes (ok (some a)) = a
+chosenBytes (refused n) = []
+
+module _ (s : MergingOwnersStrategy) (ours theirs : Part) where
+  -- what was read of each
+  abbrev our-owner : Option (List ℕ)
+  our-owner = ownerRead (read (ours .bytes))
+
+  abbrev their-owner : Option (List ℕ)
+  their-owner = ownerRead (read (theirs .bytes))
+
+  handed-as : (c : Choice) → ownerChoice s (ours .bytes) (theirs .bytes) ≡ c → handed c ours theirs .bytes ≡ chosenBytes (chosen c our-owner their-owner)
+  handed-as Ours e = let o = ours-owned s (ours .bytes) (theirs .bytes) e in rw (o .1 .was-read) (sym (o .1 .is-there))
+  handed-as Theirs e = let o = theirs-owned s (ours .bytes) (theirs .bytes) e in rw (o .1 .was-read) (sym (o .1 .is-there))
+  handed-as Neither e = refl
+  handed-as (Refused r) e = refl
+
+  -- THE PART HOLDS THE OWNER THAT THE RULE CHOSE
+  pub handed-owner : ownerHanded s ours theirs .bytes ≡ chosenBytes (chosen (ownerChoice s (ours .bytes) (theirs .bytes)) our-owner their-owner)
+  handed-owner = handed-as (ownerChoice s (ours .bytes) (theirs .bytes)) refl

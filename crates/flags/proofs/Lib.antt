@@ -2,3 +2,4 @@
 pub mod Choosing
 pub mod Joining
 pub mod Merging
+pub mod Marked

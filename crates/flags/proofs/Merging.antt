@@ -6,7 +6,7 @@ use mathlib.Core.Option.{Option, some}
 use mathlib.Core.List.{List, _∷_}
 use Prim.Native.Nat.{ℕ, _+_, _≤_, _<_}
 use native.Mathlib.Omega.{arith}
-use borrow.Author.Tests.{le-leb, lt-leb, lt-ltb, le-ltb, eq-eqb, ne-eqb}
+use borrow.Author.Tests.{le-leb, lt-leb, lt-ltb, le-ltb}
 use Rattle.fields.specs.Varint.{largest}
 use Rattle.records.specs.Tables.{At, _⦂_, epochsOf, ascending, held, union}
 use Rattle.records.specs.Flags.{Flags, flags, flagsOf, proper}
@@ -14,24 +14,26 @@ use Rattle.records.specs.Answers.{Answer, ok, refused, kept, placing}
 use Rattle.records.specs.declared.head.Head.{Head}
 use Rattle.records.proofs.Held.{held-beside}
 use Rattle.flags.specs.Owners.{combinedOwner}
-use Rattle.flags.specs.Merging.{owning, joined, raised, sameBase, higherBase, added}
+use Rattle.flags.specs.Merging.{joined, raised, raisedAbove, added}
 use Rattle.flags.specs.Calls.{handedOn, combinedAdded}
 use Rattle.flags.specs.declared.owners.MergingOwnersStrategy.{MergingOwnersStrategy}
 
--- ---- by the bases
+-- ---- by the bases and the owner
 
 module _ (s : MergingOwnersStrategy) (amount : ℕ) (ours theirs : Flags) where
   pub added-lower : theirs .base < ours .base → added s amount ours theirs ≡ refused 4
   unfolding added
   added-lower p = rw (lt-ltb (theirs .base) (ours .base) p)
 
-  pub added-same : ours .base ≡ theirs .base → added s amount ours theirs ≡ sameBase s ours theirs
-  unfolding added
-  added-same e = simp (le-ltb (theirs .base) (ours .base) (omega arith), eq-eqb (ours .base) (theirs .base) e)
+  module _ (p : ours .base ≤ theirs .base) where
+    pub added-disputed : combinedOwner s (ours .owner) (theirs .owner) ≡ refused 5 → added s amount ours theirs ≡ refused 5
+    unfolding added
+    added-disputed e = simp (le-ltb (theirs .base) (ours .base) p, e)
 
-  pub added-higher : ours .base ≤ theirs .base → (ours .base ≡ theirs .base → ⊥) → added s amount ours theirs ≡ higherBase s amount ours theirs
-  unfolding added
-  added-higher p d = simp (le-ltb (theirs .base) (ours .base) p, ne-eqb (ours .base) (theirs .base) d)
+    pub added-owned : (owner : Option (List ℕ)) → combinedOwner s (ours .owner) (theirs .owner) ≡ ok owner
+        → added s amount ours theirs ≡ raisedAbove (ours .base) (theirs .base) amount (joined ours theirs owner)
+    unfolding added
+    added-owned owner e = simp (le-ltb (theirs .base) (ours .base) p, e)
 
 -- ---- the amount at an epoch that theirs are above
 

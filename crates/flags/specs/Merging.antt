@@ -12,10 +12,6 @@ use Rattle.records.specs.Answers.{Answer, ok, refused}
 use Rattle.flags.specs.Owners.{combinedOwner}
 use Rattle.flags.specs.declared.owners.MergingOwnersStrategy.{MergingOwnersStrategy}
 
--- the incoming base below ours is refused, before owners are looked at; else what equal bases give, or a higher incoming one
-abbrev pub byBases : ℕ → ℕ → Answer Flags → Answer Flags → Answer Flags
-byBases ours theirs equal higher = cond (ltb theirs ours) (refused 4) (cond (eqb ours theirs) equal higher)
-
 -- the owner rule, and with the owner what follows
 abbrev pub owning : Answer (Option (List ℕ)) → (Option (List ℕ) → Answer Flags) → Answer Flags
 owning (refused n) rest = refused n
@@ -32,15 +28,13 @@ raised e amount f =
     (ok (flags (f .base) (f .owner) (put (e ⦂ (held e (f .records) + amount)) (f .records))))
     (refused 6)
 
--- equal bases: the owner rule, then the union
-abbrev pub sameBase : MergingOwnersStrategy → Flags → Flags → Answer Flags
-sameBase s ours theirs = owning (combinedOwner s (ours .owner) (theirs .owner)) (λ owner. ok (joined ours theirs owner))
+-- equal bases: the union as it is; incoming base higher: the amount is added there
+abbrev pub raisedAbove : ℕ → ℕ → ℕ → Flags → Answer Flags
+raisedAbove ours theirs amount f = cond (eqb ours theirs) (ok f) (raised theirs amount f)
 
--- incoming base higher, adding: the owner rule, the union, then the amount at the incoming base
-abbrev pub higherBase : MergingOwnersStrategy → ℕ → Flags → Flags → Answer Flags
-higherBase s amount ours theirs =
-    owning (combinedOwner s (ours .owner) (theirs .owner)) (λ owner. raised (theirs .base) amount (joined ours theirs owner))
-
--- the adding merge of proper flags
+-- the adding merge of proper flags: 4 where the incoming base is below ours, before owners are looked at; the owner rule; the union; the amount
 unfoldable pub added : MergingOwnersStrategy → ℕ → Flags → Flags → Answer Flags
-added s amount ours theirs = byBases (ours .base) (theirs .base) (sameBase s ours theirs) (higherBase s amount ours theirs)
+added s amount ours theirs =
+    cond (ltb (theirs .base) (ours .base)) (refused 4)
+    (owning (combinedOwner s (ours .owner) (theirs .owner))
+    (λ owner. raisedAbove (ours .base) (theirs .base) amount (joined ours theirs owner)))

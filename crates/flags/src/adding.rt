@@ -4,7 +4,7 @@ ghost use mathlib.Core.Bool.{true};
 ghost use Rattle.records.specs.Tables.{recordsOf, union, Table, Above};
 ghost use Rattle.records.specs.Flags.{flags, ownerIf, flagsOf, proper};
 ghost use Rattle.records.specs.Answers.{shown, placing};
-ghost use Rattle.flags.specs.Merging.{raised, sameBase, higherBase, added};
+ghost use Rattle.flags.specs.Merging.{raised, raisedAbove, added};
 ghost use Rattle.flags.specs.Calls.{handedOn, combinedAdded, optionalCombinedAdded};
 use crate::owners::MergingOwnersStrategy;
 use crate::owners::combine_owners;
@@ -16,43 +16,8 @@ use records::Head;
 use records::MaybeOwner;
 use records::Refusal;
 
-// Merges flags with equal bases: the union under the chosen owner.
-pub fn combine_same_base_epoch(
-    ours: Head,
-    our_epochs: &[u16],
-    our_counts: &[u32],
-    theirs: Head,
-    their_epochs: &[u16],
-    their_counts: &[u32],
-    strategy: MergingOwnersStrategy,
-    epochs: &mut [u16],
-    counts: &mut [u32],
-) -> Answered
-    requires { ⌜ proper ours (now «our_epochs») (now «our_counts») ≡ true ⌝ }
-    requires { ⌜ proper theirs (now «their_epochs») (now «their_counts») ≡ true ⌝ }
-    ensures { λ r. ⌜ shown r (now (epochs .exit)) (now (counts .exit)) ≡ placing (sameBase strategy (flagsOf ours (now («our_epochs» .entry)) (now («our_counts» .entry))) (flagsOf theirs (now («their_epochs» .entry)) (now («their_counts» .entry)))) (now (epochs .entry)) (now (counts .entry)) ⌝ }
-{
-    let chosen = combine_owners(ours, theirs, strategy);
-    if chosen.refused {
-        return records::refused(Refusal::DifferentOwners);
-    }
-    let owner = chosen.owner;
-    let n = ours.records;
-    let m = theirs.records;
-    place_union(
-        owner,
-        ours.base,
-        &our_epochs[..n],
-        &our_counts[..n],
-        &their_epochs[..m],
-        &their_counts[..m],
-        epochs,
-        counts,
-    )
-}
-
 // The union with an amount at the incoming base: it is added to our record there, or a record is made.
-fn raise(
+fn combine_with_higher_base_epoch(
     owner: MaybeOwner,
     base: u16,
     our_epochs: &[u16],
@@ -88,45 +53,50 @@ fn raise(
     )
 }
 
-// Merges flags with a higher incoming base: the union under the chosen owner, with the amount at the incoming base.
-fn combine_with_higher_base_epoch(
-    ours: Head,
+// The union of ours and theirs, and the amount where the incoming base is higher than ours.
+fn combine_tables(
+    owner: MaybeOwner,
+    base: u16,
     our_epochs: &[u16],
     our_counts: &[u32],
-    theirs: Head,
+    epoch: u16,
+    added_bytes: u32,
     their_epochs: &[u16],
     their_counts: &[u32],
-    added_bytes: u32,
-    strategy: MergingOwnersStrategy,
     epochs: &mut [u16],
     counts: &mut [u32],
 ) -> Answered
-    requires { ⌜ proper ours (now «our_epochs») (now «our_counts») ≡ true ⌝ }
-    requires { ⌜ proper theirs (now «their_epochs») (now «their_counts») ≡ true ⌝ }
-    ensures { λ r. ⌜ shown r (now (epochs .exit)) (now (counts .exit)) ≡ placing (higherBase strategy «added_bytes» (flagsOf ours (now («our_epochs» .entry)) (now («our_counts» .entry))) (flagsOf theirs (now («their_epochs» .entry)) (now («their_counts» .entry)))) (now (epochs .entry)) (now (counts .entry)) ⌝ }
+    requires { ⌜ Table (now «our_epochs») (now «our_counts») ⌝ }
+    requires { ⌜ Above epoch (now «their_epochs») (now «their_counts») ⌝ }
+    ensures { λ r. ⌜ shown r (now (epochs .exit)) (now (counts .exit)) ≡ placing (raisedAbove base epoch «added_bytes» (flags base (ownerIf (owner .owned) (owner .id)) (union (recordsOf (now («our_epochs» .entry)) (now («our_counts» .entry))) (recordsOf (now («their_epochs» .entry)) (now («their_counts» .entry)))))) (now (epochs .entry)) (now (counts .entry)) ⌝ }
 {
-    let chosen = combine_owners(ours, theirs, strategy);
-    if chosen.refused {
-        return records::refused(Refusal::DifferentOwners);
+    if base == epoch {
+        return place_union(
+            owner,
+            base,
+            our_epochs,
+            our_counts,
+            their_epochs,
+            their_counts,
+            epochs,
+            counts,
+        );
     }
-    let owner = chosen.owner;
-    let n = ours.records;
-    let m = theirs.records;
-    raise(
+    combine_with_higher_base_epoch(
         owner,
-        ours.base,
-        &our_epochs[..n],
-        &our_counts[..n],
-        theirs.base,
+        base,
+        our_epochs,
+        our_counts,
+        epoch,
         added_bytes,
-        &their_epochs[..m],
-        &their_counts[..m],
+        their_epochs,
+        their_counts,
         epochs,
         counts,
     )
 }
 
-// Merges proper flags: the bases decide first.
+// Merges proper flags: the bases decide first, then the owners.
 fn combine_proper(
     ours: Head,
     our_epochs: &[u16],
@@ -148,28 +118,22 @@ fn combine_proper(
     if their_base < our_base {
         return records::refused(Refusal::DifferentBaseEpoch);
     }
-    if our_base == their_base {
-        return combine_same_base_epoch(
-            ours,
-            our_epochs,
-            our_counts,
-            theirs,
-            their_epochs,
-            their_counts,
-            strategy,
-            epochs,
-            counts,
-        );
+    let chosen = combine_owners(ours, theirs, strategy);
+    if chosen.refused {
+        return records::refused(Refusal::DifferentOwners);
     }
-    combine_with_higher_base_epoch(
-        ours,
-        our_epochs,
-        our_counts,
-        theirs,
-        their_epochs,
-        their_counts,
+    let owner = chosen.owner;
+    let n = ours.records;
+    let m = theirs.records;
+    combine_tables(
+        owner,
+        our_base,
+        &our_epochs[..n],
+        &our_counts[..n],
+        their_base,
         added_bytes,
-        strategy,
+        &their_epochs[..m],
+        &their_counts[..m],
         epochs,
         counts,
     )

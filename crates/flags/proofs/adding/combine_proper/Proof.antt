@@ -1,11 +1,15 @@
--- `flags::adding::combine_proper` meets its contract: its tests are those of the bases. Assumes nothing.
+-- `flags::adding::combine_proper` meets its contract: the bases decide, then the owner, then the tables are merged. Assumes nothing.
 use mathlib.Core.Path.{_≡_, sym, ap, _∙_}
+use lib.Seq.{length-take-le}
 use borrow.Author.Needs.{needs}
-use Rattle.records.specs.Flags.{Flags, flagsOf}
+use Rattle.records.specs.Flags.{Flags, ownerOf, flagsOf}
 use Rattle.records.specs.Answers.{Answer, placing}
+use Rattle.records.proofs.Proper.{IsProper, proper-inv, proper-table, proper-above}
 use Rattle.records.proofs.Answers.{refused-placing}
+use Rattle.flags.specs.Owners.{combinedOwner}
 use Rattle.flags.specs.Merging.{added}
-use Rattle.flags.proofs.Merging.{added-lower, added-same, added-higher}
+use Rattle.flags.proofs.Choosing.{answered-owner, refused-owner}
+use Rattle.flags.proofs.Merging.{added-lower, added-disputed, added-owned}
 use Rattle.flags.proofs.adding.combine_proper.Statement.{statement}
 use Rattle.flags.proofs.adding.combine_proper.Tie as tie
 
@@ -16,6 +20,12 @@ ours c = flagsOf (c .args .ours) (c .args .our-epochs .now) (c .args .our-counts
 abbrev theirs : tie.Start → Flags
 theirs c = flagsOf (c .args .theirs) (c .args .their-epochs .now) (c .args .their-counts .now)
 
+our-proper : (c : tie.Start) → IsProper (c .args .ours) (c .args .our-epochs .now) (c .args .our-counts .now)
+our-proper c = proper-inv (c .args .ours) (c .args .our-epochs .now) (c .args .our-counts .now) (c .pre .0)
+
+their-proper : (c : tie.Start) → IsProper (c .args .theirs) (c .args .their-epochs .now) (c .args .their-counts .now)
+their-proper c = proper-inv (c .args .theirs) (c .args .their-epochs .now) (c .args .their-counts .now) (c .pre .1)
+
 returns : tie.Need-returns
 returns c =
     let b = c .before .before .before .before .before .before .before .before in
@@ -25,17 +35,20 @@ returns c =
 
 returns-2 : tie.Need-returns-2
 returns-2 c =
-    let b = c .before .before .before .before .before .before .before .before .before .before .before .before .before .before .before in
+    let b = c .before .before .before .before .before .before .before .before .before .before in
     let a = b .args in
-    c .before .before .before .before .combine-same-base-epoch .ensures
-    ∙ sym (ap (λ (x : Answer Flags). placing x (a .epochs .now) (a .counts .now)) (added-same (a .strategy) (a .added-bytes) (ours b) (theirs b) (c .before .before .before .before .before .before .before .if2 .taken)))
+    refused-placing (c .refused2 .result) (a .epochs .now) (a .counts .now) (added (a .strategy) (a .added-bytes) (ours b) (theirs b)) _ (c .refused2 .ensures)
+    (added-disputed (a .strategy) (a .added-bytes) (ours b) (theirs b) (c .before .before .before .if1 .left)
+    (refused-owner _ (a .strategy) (ownerOf (a .ours)) (ownerOf (a .theirs)) (c .before .before .combine-owners .ensures) (c .before .if2 .taken)))
 
 returns-3 : tie.Need-returns-3
 returns-3 c =
-    let b = c .before .before .before .before .before .before .before .before .before .before .before .before .before .before .before in
+    let b = c .before .before .before .before .before .before .before .before .before .before .before .before .before .before .before .before .before .before .before .before .before in
     let a = b .args in
-    c .before .before .before .before .combine-with-higher-base-epoch .ensures
-    ∙ sym (ap (λ (x : Answer Flags). placing x (a .epochs .now) (a .counts .now)) (added-higher (a .strategy) (a .added-bytes) (ours b) (theirs b) (c .before .before .before .before .before .before .before .before .if1 .left) (c .before .before .before .before .before .before .before .if2 .left)))
+    c .before .before .before .before .combine-tables .ensures
+    ∙ sym (ap (λ (x : Answer Flags). placing x (a .epochs .now) (a .counts .now))
+    (added-owned (a .strategy) (a .added-bytes) (ours b) (theirs b) (c .before .before .before .before .before .before .before .before .before .before .before .before .before .before .if1 .left) _
+    (answered-owner _ (combinedOwner (a .strategy) (ownerOf (a .ours)) (ownerOf (a .theirs))) (c .before .before .before .before .before .before .before .before .before .before .before .before .before .combine-owners .ensures) (c .before .before .before .before .before .before .before .before .before .before .before .before .if2 .left))))
 
 pub combine-proper-spec : {M : Type 1} → statement M
 combine-proper-spec =
@@ -43,11 +56,14 @@ combine-proper-spec =
     (tie.spec
     (λ c κs. search needs)
     returns
-    (λ c κs. c .before .before .before .before .before .before .before .before .before .before .pre)
-    (λ c. search needs)
-    (λ c. search needs)
+    (λ c κs. search needs)
+    (λ c κs. search needs)
     returns-2
-    (λ c κs. c .before .before .before .before .before .before .before .before .before .before .pre)
+    (λ c. sym (length-take-le _ _ (our-proper (c .before .before .before .before .before .before .before .before .before .before .before) .epochs-long)))
+    (λ c. sym (length-take-le _ _ (our-proper (c .before .before .before .before .before .before .before .before .before .before .before .before) .counts-long)))
+    (λ c. sym (length-take-le _ _ (their-proper (c .before .before .before .before .before .before .before .before .before .before .before .before .before) .epochs-long)))
+    (λ c. sym (length-take-le _ _ (their-proper (c .before .before .before .before .before .before .before .before .before .before .before .before .before .before) .counts-long)))
+    (λ c κs. (proper-table (our-proper (c .before .before .before .before .before .before .before .before .before .before .before .before .before .before .before .before)), proper-above (their-proper (c .before .before .before .before .before .before .before .before .before .before .before .before .before .before .before .before))))
     (λ c. search needs)
     (λ c. search needs)
     returns-3)

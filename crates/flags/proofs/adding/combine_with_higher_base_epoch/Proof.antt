@@ -1,64 +1,67 @@
--- `flags::adding::combine_with_higher_base_epoch` meets its contract: the owner decides, then the amount is added in the union.
+-- `flags::adding::combine_with_higher_base_epoch` meets its contract: what our record holds decides on the limit, and the record that is placed is the one put in.
 -- Assumes nothing.
 use mathlib.Core.Path.{_≡_, sym, ap, _∙_}
-use mathlib.Core.Option.{Option}
-use mathlib.Core.List.{List}
-use Prim.Native.Nat.{ℕ}
-use lib.Seq.{length-take-le}
+use mathlib.Core.Bool.{true}
+use mathlib.Core.Option.{Option, some}
+use mathlib.Core.List.{List, _∷_}
+use Prim.Native.Nat.{ℕ, _+_, _≤_, _<_}
+use native.Mathlib.Omega.{arith}
 use borrow.Author.Needs.{needs}
-use Rattle.records.specs.Flags.{Flags, ownerOf, flagsOf}
-use Rattle.records.specs.Answers.{Answer, ok, placing}
-use Rattle.records.proofs.Proper.{IsProper, proper-inv, proper-table, proper-above}
+use Rattle.fields.specs.Varint.{largest}
+use Rattle.records.specs.Tables.{At, _⦂_, recordsOf, epochsOf, ascending, held, union}
+use Rattle.records.specs.Flags.{flags, ownerIf}
+use Rattle.records.specs.Answers.{Answer, ok, after, placing}
+use Rattle.records.specs.Flags.{Flags}
+use Rattle.records.specs.declared.table.Spot.{Spot}
+use Rattle.records.proofs.Tables.{epochs-records}
 use Rattle.records.proofs.Answers.{refused-placing}
-use Rattle.flags.specs.Owners.{combinedOwner}
-use Rattle.flags.specs.Merging.{owning, joined, raised, higherBase}
-use Rattle.flags.proofs.Choosing.{answered-owner, refused-owner}
+use Rattle.flags.specs.Merging.{raised}
+use Rattle.flags.proofs.Merging.{raised-over, raised-made}
 use Rattle.flags.proofs.adding.combine_with_higher_base_epoch.Statement.{statement}
 use Rattle.flags.proofs.adding.combine_with_higher_base_epoch.Tie as tie
 
--- ours and theirs
-abbrev ours : tie.Start → Flags
-ours c = flagsOf (c .args .ours) (c .args .our-epochs .now) (c .args .our-counts .now)
+-- ours and theirs, and the owner
+abbrev ours : tie.Start → List At
+ours c = recordsOf (c .args .our-epochs .now) (c .args .our-counts .now)
 
-abbrev theirs : tie.Start → Flags
-theirs c = flagsOf (c .args .theirs) (c .args .their-epochs .now) (c .args .their-counts .now)
+abbrev theirs : tie.Start → List At
+theirs c = recordsOf (c .args .their-epochs .now) (c .args .their-counts .now)
 
-our-proper : (c : tie.Start) → IsProper (c .args .ours) (c .args .our-epochs .now) (c .args .our-counts .now)
-our-proper c = proper-inv (c .args .ours) (c .args .our-epochs .now) (c .args .our-counts .now) (c .pre .0)
+abbrev owner : tie.Start → Option (List ℕ)
+owner c = ownerIf (c .args .owner .owned) (c .args .owner .id)
 
-their-proper : (c : tie.Start) → IsProper (c .args .theirs) (c .args .their-epochs .now) (c .args .their-counts .now)
-their-proper c = proper-inv (c .args .theirs) (c .args .their-epochs .now) (c .args .their-counts .now) (c .pre .1)
-
--- what follows the owner
-abbrev rest : tie.Start → Option (List ℕ) → Answer Flags
-rest c owner = raised (theirs c .base) (c .args .added-bytes) (joined (ours c) (theirs c) owner)
+above : (c : tie.Start) → ascending (c .args .epoch) (epochsOf (theirs c)) ≡ true
+above c = rw (epochs-records (c .args .their-epochs .now) (c .args .their-counts .now) (c .pre .1 .even)) (c .pre .1 .ascends)
 
 returns : tie.Need-returns
 returns c =
     let b = c .before .before .before .before .before .before .before .before .before in
     let a = b .args in
-    refused-placing (c .refused .result) (a .epochs .now) (a .counts .now) (higherBase (a .strategy) (a .added-bytes) (ours b) (theirs b)) _ (c .refused .ensures)
-    (ap (λ x. owning x (rest b)) (refused-owner _ (a .strategy) (ownerOf (a .ours)) (ownerOf (a .theirs)) (c .before .before .combine-owners .ensures) (c .before .if1 .taken)))
+    let n : c .before .before .look-up .result .count ≡ held (a .epoch) (ours b) = ap (λ (s : Spot). s .count) (c .before .before .look-up .ensures) in
+    let p : largest < held (a .epoch) (ours b) + a .added-bytes = omega (arith, n, c .before .if1 .taken) in
+    refused-placing (c .refused .result) (a .epochs .now) (a .counts .now) (raised (a .epoch) (a .added-bytes) (flags (a .base) (owner b) (union (ours b) (theirs b)))) _ (c .refused .ensures)
+    (raised-over (a .epoch) (a .added-bytes) (a .base) (owner b) (ours b) (theirs b) (above b) p)
 
 returns-2 : tie.Need-returns-2
 returns-2 c =
-    let b = c .before .before .before .before .before .before .before .before .before .before .before .before .before .before .before .before .before .before .before .before in
+    let b = c .before .before .before .before .before .before .before .before .before .before .before .before .before .before .before in
     let a = b .args in
-    c .before .before .before .before .raise .ensures
-    ∙ sym (ap (λ x. placing (owning x (rest b)) (a .epochs .now) (a .counts .now)) (answered-owner _ (combinedOwner (a .strategy) (ownerOf (a .ours)) (ownerOf (a .theirs))) (c .before .before .before .before .before .before .before .before .before .before .before .before .before .combine-owners .ensures) (c .before .before .before .before .before .before .before .before .before .before .before .before .if1 .left)))
+    let n : c .before .before .before .before .before .before .before .before .look-up .result .count ≡ held (a .epoch) (ours b) = ap (λ (s : Spot). s .count) (c .before .before .before .before .before .before .before .before .look-up .ensures) in
+    let p : held (a .epoch) (ours b) + a .added-bytes ≤ largest = omega (arith, n, c .before .before .before .before .before .before .before .if1 .left, b .fits .added-bytes) in
+    c .before .before .before .before .place-around .ensures
+    ∙ ap (λ (k : ℕ). after (ok (some (flags (a .base) (owner b) (union (ours b) (a .epoch ⦂ (k + a .added-bytes) ∷ theirs b))))) (a .epochs .now) (a .counts .now)) n
+    ∙ sym (ap (λ (x : Answer Flags). placing x (a .epochs .now) (a .counts .now)) (raised-made (a .epoch) (a .added-bytes) (a .base) (owner b) (ours b) (theirs b) (above b) p))
 
 pub combine-with-higher-base-epoch-spec : {M : Type 1} → statement M
 combine-with-higher-base-epoch-spec =
     tie.close
     (tie.spec
     (λ c κs. search needs)
+    (λ c. search needs)
     (λ c κs. search needs)
     returns
-    (λ c. sym (length-take-le _ _ (our-proper (c .before .before .before .before .before .before .before .before .before .before) .epochs-long)))
-    (λ c. sym (length-take-le _ _ (our-proper (c .before .before .before .before .before .before .before .before .before .before .before) .counts-long)))
-    (λ c. sym (length-take-le _ _ (their-proper (c .before .before .before .before .before .before .before .before .before .before .before .before) .epochs-long)))
-    (λ c. sym (length-take-le _ _ (their-proper (c .before .before .before .before .before .before .before .before .before .before .before .before .before) .counts-long)))
-    (λ c κs. (proper-table (our-proper (c .before .before .before .before .before .before .before .before .before .before .before .before .before .before .before)), proper-above (their-proper (c .before .before .before .before .before .before .before .before .before .before .before .before .before .before .before))))
+    (λ c. search needs)
+    (λ c κs. let b = c .before .before .before .before .before .before .before .before .before .before in (b .pre .0, (c .before .before .before .look-up .ensures, b .pre .1)))
     (λ c. search needs)
     (λ c. search needs)
     returns-2)
