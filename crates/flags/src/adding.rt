@@ -16,6 +16,9 @@ use records::Head;
 use records::MaybeOwner;
 use records::Refusal;
 
+// The largest count: 32 bits.
+const LARGEST: u32 = 4294967295;
+
 // The union with an amount at the incoming base: it is added to our record there, or a record is made.
 fn combine_with_higher_base_epoch(
     owner: MaybeOwner,
@@ -35,7 +38,7 @@ fn combine_with_higher_base_epoch(
 {
     let spot = records::look_up(our_epochs, our_counts, epoch);
     let held = spot.count;
-    if 4294967295 - added_bytes < held {
+    if LARGEST - added_bytes < held {
         return records::refused(Refusal::Overflow);
     }
     place_around(
