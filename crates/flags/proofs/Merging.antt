@@ -6,7 +6,7 @@ use mathlib.Core.Option.{Option, some}
 use mathlib.Core.List.{List, _∷_}
 use Prim.Native.Nat.{ℕ, _+_, _≤_, _<_}
 use native.Mathlib.Omega.{arith}
-use borrow.Author.Tests.{le-leb, lt-leb, lt-ltb, le-ltb}
+use borrow.Author.Tests.{le-leb, lt-leb, lt-ltb, le-ltb, eq-eqb, ne-eqb}
 use Rattle.fields.specs.Varint.{largest}
 use Rattle.records.specs.Tables.{At, _⦂_, epochsOf, ascending, held, union}
 use Rattle.records.specs.Flags.{Flags, flags, flagsOf, proper}
@@ -34,6 +34,13 @@ module _ (s : MergingOwnersStrategy) (amount : ℕ) (ours theirs : Flags) where
         → added s amount ours theirs ≡ raisedAbove (ours .base) (theirs .base) amount (joined ours theirs owner)
     unfolding added
     added-owned owner e = simp (le-ltb (theirs .base) (ours .base) p, e)
+
+module _ (ours theirs amount : ℕ) (f : Flags) where
+  pub raised-same : ours ≡ theirs → raisedAbove ours theirs amount f ≡ ok f
+  raised-same e = rw (eq-eqb ours theirs e)
+
+  pub raised-higher : (ours ≡ theirs → ⊥) → raisedAbove ours theirs amount f ≡ raised theirs amount f
+  raised-higher d = rw (ne-eqb ours theirs d)
 
 -- ---- the amount at an epoch that theirs are above
 

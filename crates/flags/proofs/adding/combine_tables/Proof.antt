@@ -1,15 +1,31 @@
 -- `flags::adding::combine_tables` meets its contract: the bases are equal, or not. Assumes nothing.
+use mathlib.Core.Path.{_≡_, sym, ap, _∙_}
 use borrow.Author.Needs.{needs}
-use borrow.Author.Tests.{eq-eqb, ne-eqb}
+use Rattle.records.specs.Tables.{recordsOf, union}
+use Rattle.records.specs.Flags.{Flags, flags, ownerIf}
+use Rattle.records.specs.Answers.{Answer, placing}
 use Rattle.records.proofs.Unions.{above-table}
+use Rattle.flags.proofs.Merging.{raised-same, raised-higher}
 use Rattle.flags.proofs.adding.combine_tables.Statement.{statement}
 use Rattle.flags.proofs.adding.combine_tables.Tie as tie
 
+-- the flags with the union
+abbrev joined : tie.Start → Flags
+joined c =
+    flags (c .args .base) (ownerIf (c .args .owner .owned) (c .args .owner .id))
+    (union (recordsOf (c .args .our-epochs .now) (c .args .our-counts .now)) (recordsOf (c .args .their-epochs .now) (c .args .their-counts .now)))
+
 returns : tie.Need-returns
-returns c = simp (eq-eqb _ _ (c .before .before .before .before .before .before .before .if1 .taken)) (c .before .before .before .before .place-union .ensures)
+returns c =
+    let b = c .before .before .before .before .before .before .before .before .before .before .before .before .before .before in
+    let a = b .args in
+    c .before .before .before .before .place-union .ensures ∙ sym (ap (λ (x : Answer Flags). placing x (a .epochs .now) (a .counts .now)) (raised-same (a .base) (a .epoch) (a .added-bytes) (joined b) (c .before .before .before .before .before .before .before .if1 .taken)))
 
 returns-2 : tie.Need-returns-2
-returns-2 c = simp (ne-eqb _ _ (c .before .before .before .before .before .before .before .if1 .left)) (c .before .before .before .before .combine-with-higher-base-epoch .ensures)
+returns-2 c =
+    let b = c .before .before .before .before .before .before .before .before .before .before .before .before .before .before in
+    let a = b .args in
+    c .before .before .before .before .combine-with-higher-base-epoch .ensures ∙ sym (ap (λ (x : Answer Flags). placing x (a .epochs .now) (a .counts .now)) (raised-higher (a .base) (a .epoch) (a .added-bytes) (joined b) (c .before .before .before .before .before .before .before .if1 .left)))
 
 pub combine-tables-spec : {M : Type 1} → statement M
 combine-tables-spec =
