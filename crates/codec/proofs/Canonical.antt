@@ -6,26 +6,25 @@ use native.Mathlib.Omega.{arith}
 use mathlib.Core.Path.{_≡_, refl, sym, ap, ap₂, _∙_}
 use mathlib.Core.Bool.{Bool, true, false, cond}
 use mathlib.Core.Option.{Option, none, some}
-use mathlib.Core.List.{List, [], _∷_, _++_, append-assoc}
+use mathlib.Core.List.{List, [], _∷_, _++_}
 use borrow.Author.Tests.{eq-eqb, ne-eqb}
 use lib.Dec.{eqb}
-use lib.ListN.{length, getD, take, drop, length-take, length-drop, length-append, take-append-drop}
-use lib.Seq.{drop-drop, take-add, getD-drop}
+use lib.ListN.{length, take, drop, length-take, length-drop, take-append-drop}
+use lib.Seq.{take-add}
 use Rattle.fields.specs.Big.{big, said}
 use Rattle.fields.proofs.RoundTrip.{Bytes}
 use Rattle.records.specs.Tables.{At}
-use Rattle.records.specs.Flags.{Flags, flags, owned, multi, ownerIf, typeByte, kindOf, kindOfByte}
-use Rattle.records.specs.declared.refusal.Refusal.{Refusal}
+use Rattle.records.specs.Flags.{Flags, flags, owned, multi, typeByte, kindOf, kindOfByte}
 use Rattle.records.specs.declared.head.Kind.{Kind}
 use Rattle.records.specs.declared.head.Kind.the-variants.{SingleEpoch, MultiEpoch, SingleEpochOwned, MultiEpochOwned}
 use Rattle.records.specs.declared.head.KindByte.{KindByte}
 use Rattle.records.specs.declared.head.KindByte.the-variants.{Known, Unknown}
 use Rattle.records.proofs.Proper.{kind-agrees}
-use Rattle.codec.specs.Bytes.{recordsBytes, ownerBytes, headBytes, basePlace, headSize, bytesOf}
-use Rattle.codec.specs.Reading.{Fault, Parsed, parse, Read, noFlags, someFlags, refusedAt, withRecords, baseIn, ownerIn, recordsIn, flagsIn, readAs, readByte, read}
+use Rattle.codec.specs.Bytes.{recordsBytes, headBytes, headSize, bytesOf}
+use Rattle.codec.specs.Reading.{Parsed, parse, someFlags, withRecords, baseIn, ownerIn, recordsIn, flagsIn, readAs, readByte, read}
 use Rattle.codec.proofs.Readings.{multi-long, single-right}
-use Rattle.codec.proofs.Settling.{read-whole, no-refusal}
-use Rattle.codec.proofs.RoundTrip.{Canonical, records-back, Reread, records-reread, Owned, unowned, owner, HeadIn, head-back, bytes-drop, bytes-take, field-back, field-below}
+use Rattle.codec.proofs.Settling.{no-flags, read-whole, no-refusal}
+use Rattle.codec.proofs.RoundTrip.{Canonical, records-back, records-reread, Owned, unowned, owner, head-back, bytes-drop, bytes-take, field-back, field-below}
 
 -- ---- proper flags
 
@@ -176,9 +175,6 @@ as-written k x xs f bs t e =
           ∙ head-written k x xs (owned k) refl (λ i. bs (suc i)) (c .head-inside) t;
       is-proper = rw (w .in-bytes) p;
     }
-
-no-flags : (f : Flags) → noFlags ≡ someFlags f → ⊥
-no-flags f e = let z : _≡_ {A = ℕ} 0 1 = cc in omega arith
 
 -- WHAT READING ACCEPTS IS BYTE FOR BYTE WHAT WRITING GIVES, and the flags are proper
 pub read-canonical : (xs : List ℕ) (f : Flags) → Bytes xs → read xs ≡ someFlags f → Accepted xs f

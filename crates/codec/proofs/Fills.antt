@@ -1,26 +1,26 @@
 -- The second pass over records that are known to be right: each is there whole, and goes to its place of the tables.
 -- Assumes nothing.
-use Prim.Native.Nat.{ℕ, suc, _+_, _-_, _≤_, _<_}
+use Prim.Native.Nat.{ℕ, _+_, _-_, _≤_, _<_}
 use native.Mathlib.Decide.{decLt}
 use native.Mathlib.Omega.{arith}
 use mathlib.Core.Path.{_≡_, refl, sym, ap, ap₂, _∙_}
 use mathlib.Core.Bool.{true}
-use mathlib.Core.Option.{Option, none, some}
+use mathlib.Core.Option.{none, some}
 use mathlib.Core.List.{List, [], _∷_}
-use lib.ListN.{length, take, drop, set, length-drop}
+use lib.ListN.{length, take, drop, set}
 use lib.Seq.{drop-drop}
 use Rattle.fields.specs.Big.{said}
-use Rattle.fields.specs.Varint.{Found, found, whole, isWhole, readAt}
+use Rattle.fields.specs.Varint.{found, whole, isWhole, readAt}
 use Rattle.fields.specs.declared.varint.Varint.{Varint}
 use Rattle.fields.specs.declared.varint.Reading.the-variants.{Whole}
 use Rattle.fields.proofs.Told.{told-read}
 use Rattle.records.specs.Tables.{At, _⦂_, Placed}
-use Rattle.records.proofs.Tables.{Filling, filling-start, filling-step, filling-room, filling-done}
+use Rattle.records.proofs.Tables.{Filling, filling-start, filling-step, filling-done}
 use Rattle.records.specs.declared.head.Kind.{Kind}
 use Rattle.codec.specs.Bytes.{headSize}
 use Rattle.codec.specs.Reading.{Next, bad, good, next, Fault, Parsed, baseIn, recordsIn}
 use Rattle.codec.specs.Calls.{Complete}
-use Rattle.codec.proofs.Parsing.{Good, next-good, rest, rest-end, rest-bad, Turn, rest-good, before}
+use Rattle.codec.proofs.Parsing.{Good, next-good, rest, rest-end, rest-bad, Turn, rest-good}
 
 -- the record that is ahead where some are left without a fault
 pub record Ahead (d : List ℕ) (at prev : ℕ) : Type 0 where

@@ -5,7 +5,7 @@ use native.Mathlib.Decide.{decLt}
 use native.Mathlib.Nat.{add-zero}
 use native.Mathlib.Omega.{arith}
 use mathlib.Core.Path.{_≡_, refl, sym, ap, ap₂, _∙_}
-use mathlib.Core.Option.{Option, none, some}
+use mathlib.Core.Option.{none, some}
 use mathlib.Core.List.{List, [], _∷_}
 use borrow.Author.Tests.{lt-ltb, le-ltb, le-leb, lt-leb}
 use lib.ListN.{length, take, drop, length-drop, drop-of-length-le}
@@ -16,7 +16,7 @@ use Rattle.fields.proofs.RoundTrip.{found-inv}
 use Rattle.records.specs.Tables.{At, _⦂_}
 use Rattle.records.specs.declared.refusal.Refusal.{Refusal}
 use Rattle.records.specs.declared.refusal.Refusal.the-variants.{WrongSize, NonCanonical}
-use Rattle.codec.specs.Reading.{Next, bad, good, withCount, next, Fault, Parsed, following, parse}
+use Rattle.codec.specs.Reading.{Next, bad, good, withCount, next, Parsed, following, parse}
 
 -- ---- one record
 

@@ -1,6 +1,5 @@
 -- Reading flags, case by case: what the tests of the code say of `readAs` and `read`. Assumes nothing.
 use Prim.Native.Nat.{ℕ, suc, _≤_, _<_}
-use native.Mathlib.Decide.{ℕ-discrete}
 use native.Mathlib.Omega.{arith}
 use mathlib.Core.Path.{_≡_, refl, sym, ap, ap₂, _∙_}
 use mathlib.Core.Bool.{true, false}
@@ -14,7 +13,7 @@ use Rattle.records.specs.declared.refusal.Refusal.{Refusal}
 use Rattle.records.specs.declared.refusal.Refusal.the-variants.{WrongSize}
 use Rattle.records.specs.declared.head.Kind.{Kind}
 use Rattle.codec.specs.Bytes.{headSize}
-use Rattle.codec.specs.Reading.{Fault, Parsed, Read, noFlags, someFlags, refusedAt, withRecords, baseIn, ownerIn, recordsIn, flagsIn, readAs, readByte, read}
+use Rattle.codec.specs.Reading.{Fault, Parsed, noFlags, someFlags, refusedAt, withRecords, baseIn, ownerIn, recordsIn, flagsIn, readAs, readByte, read}
 use Rattle.codec.specs.Calls.{scanOf}
 use Rattle.codec.specs.declared.judging.Scan.{Scan}
 use Rattle.codec.specs.declared.judging.Scan.the-variants.{Faulty, Records}

@@ -1,23 +1,23 @@
 -- Flags that are written are read back, and bytes that are read are, byte for byte, those that would be written. So reading accepts
 -- exactly the canonical encodings. Assumes nothing.
-use Prim.Native.Nat.{ℕ, zero, suc, _+_, _-_, _*_, _^_, _≤_, _<_}
+use Prim.Native.Nat.{ℕ, zero, suc, _+_, _-_, _^_, _≤_, _<_}
 use native.Mathlib.Nat.{le-refl}
 use native.Mathlib.Omega.{arith}
 use mathlib.Core.Path.{_≡_, refl, sym, ap, ap₂, _∙_}
 use mathlib.Core.Bool.{Bool, true, false}
 use mathlib.Core.Option.{Option, none, some}
 use mathlib.Core.List.{List, [], _∷_, _++_, append-assoc}
-use lib.ListN.{length, getD, take, drop, length-take, length-drop, length-append, take-append-drop}
+use lib.ListN.{length, take, drop, length-take, length-drop, length-append, take-append-drop}
 use lib.Seq.{drop-at, take-at, take-add, getD-drop}
 use Rattle.fields.specs.Big.{big, said}
 use Rattle.fields.specs.Varint.{largest, varint, found, whole}
 use Rattle.fields.proofs.Bigs.{length-big, said-big, big-said, said-below}
 use Rattle.fields.proofs.RoundTrip.{Bytes, found-back, found-inv, found-written}
-use Rattle.records.specs.Tables.{At, _⦂_}
-use Rattle.records.specs.Flags.{Flags, flags, owned, multi, typeByte, kindOf}
+use Rattle.records.specs.Tables.{At}
+use Rattle.records.specs.Flags.{owned}
 use Rattle.records.specs.declared.head.Kind.{Kind}
-use Rattle.codec.specs.Bytes.{recordBytes, recordsBytes, ownerBytes, headBytes, headSize, bytesOf}
-use Rattle.codec.specs.Reading.{Next, bad, good, next, Fault, Parsed, parse, withCount, baseIn, ownerIn, recordsIn, flagsIn, readAs, read, someFlags}
+use Rattle.codec.specs.Bytes.{recordBytes, recordsBytes, headBytes, headSize}
+use Rattle.codec.specs.Reading.{Next, bad, good, next, Fault, Parsed, parse, withCount, baseIn, ownerIn}
 use Rattle.codec.proofs.Parsing.{next-long, withCount-above, Good, next-good, parse-nil, parse-bad, parse-good, before}
 
 -- ---- records

@@ -3,30 +3,30 @@
 use Prim.Native.Nat.{ℕ, _≤_, _<_}
 use native.Mathlib.Decide.{decLt, ℕ-discrete}
 use native.Mathlib.Omega.{arith}
-use mathlib.Core.Path.{_≡_, refl, sym, ap, ap₂, _∙_}
+use mathlib.Core.Path.{_≡_, refl, sym, ap, _∙_}
 use mathlib.Core.Bool.{Bool, true, false}
 use mathlib.Core.Option.{Option, none, some}
 use mathlib.Core.List.{List, [], _∷_}
-use lib.ListN.{length}
+use lib.ListN.{length, take, drop}
 use Rattle.records.specs.Tables.{At, Placed}
 use Rattle.records.specs.Refusals.{number}
-use Rattle.records.specs.Flags.{Flags, flags, multi, agrees, headOf, noHead}
-use Rattle.records.specs.Answers.{ok, refused, After, shown, after}
+use Rattle.records.specs.Flags.{Flags, flags, owned, multi, kindOfByte, agrees, headOf, noHead}
+use Rattle.records.specs.Answers.{ok, shown, after}
 use Rattle.records.specs.declared.refusal.Refusal.{Refusal}
-use Rattle.records.specs.declared.refusal.Refusal.the-variants.{WrongSize, NoRoom}
+use Rattle.records.specs.declared.refusal.Refusal.the-variants.{NoRoom}
 use Rattle.records.specs.declared.head.Kind.{Kind}
+use Rattle.records.specs.declared.head.KindByte.{KindByte}
+use Rattle.records.specs.declared.head.KindByte.the-variants.{Known, Unknown}
 use Rattle.records.specs.declared.head.Head.{Head}
 use Rattle.records.specs.declared.answer.Answered.{Answered}
 use Rattle.records.specs.declared.answer.Outcome.the-variants.{Absent, Present, Refused}
 use Rattle.records.proofs.Answers.{after-refused, after-absent, after-no-epochs, after-no-counts, placed-left}
 use Rattle.codec.specs.Bytes.{headSize}
-use Rattle.codec.specs.Reading.{Fault, Parsed, Read, noFlags, someFlags, refusedAt, withRecords, baseIn, ownerIn, recordsIn, flagsIn, readAs}
+use Rattle.codec.specs.Reading.{Fault, Parsed, Read, noFlags, someFlags, refusedAt, withRecords, baseIn, ownerIn, recordsIn, flagsIn, readAs, readByte, read}
 use Rattle.codec.specs.Calls.{Complete, judgement, answer, deserializedAs}
-use Rattle.codec.specs.declared.judging.Judgement.{Judgement}
-use Rattle.codec.specs.declared.judging.Verdict.{Verdict}
 use Rattle.codec.specs.declared.judging.Verdict.the-variants.{Absent as IsAbsent, Present as IsPresent, Refused as IsRefused}
 use Rattle.codec.proofs.Parsing.{rest-end}
-use Rattle.codec.proofs.Readings.{multi-short, multi-long, single-right, single-wrong, agrees-multi, agrees-single}
+use Rattle.codec.proofs.Readings.{owned-size, multi-short, multi-long, single-right, single-wrong, agrees-multi, agrees-single}
 
 -- ---- what a judgement says of the bytes
 
@@ -51,6 +51,9 @@ pub record Whole (k : Kind) (xs : List ℕ) (f : Flags) : Type 0 where
   pub complete : Complete k xs (length (recordsIn k xs .records))
   pub agrees-kind : agrees k (length (recordsIn k xs .records)) ≡ true
   pub in-bytes : f ≡ flagsIn k xs
+
+pub no-flags : (f : Flags) → noFlags ≡ someFlags f → ⊥
+no-flags f e = let z : _≡_ {A = ℕ} 0 1 = cc in omega arith
 
 pub no-refusal : (r : Refusal) (p : ℕ) (f : Flags) → refusedAt r p ≡ someFlags f → ⊥
 no-refusal r p f e = let z : _≡_ {A = ℕ} 0 1 = cc in omega arith
@@ -91,6 +94,36 @@ read-whole k xs f e = by (multi k) refl
               }
           | no h ↦ absurd (no-refusal _ _ f (sym (single-wrong k xs m h) ∙ e))
         ]
+
+-- flags that were read are those of some kind
+pub flags-whole : (xs : List ℕ) (f : Flags) → read xs ≡ someFlags f → (k : Kind) × Whole k xs f
+unfolding read
+flags-whole [] f e = absurd (no-flags f e)
+flags-whole (b ∷ xs) f e = by (kindOfByte b) e
+  where
+    by : (k : KindByte) → readByte k (b ∷ xs) ≡ someFlags f → (k : Kind) × Whole k (b ∷ xs) f
+    by (Known k) e = (k, read-whole k (b ∷ xs) f e)
+    by Unknown e = absurd (no-refusal _ _ f e)
+
+no-some : (a : List ℕ) → _≡_ {A = Option (List ℕ)} none (some a) → ⊥
+no-some a e = let z : _≡_ {A = ℕ} 0 1 = cc in omega arith
+
+-- their owner is the 32 bytes behind the kind
+pub owner-behind : (xs : List ℕ) (f : Flags) (a : List ℕ) → read xs ≡ someFlags f → f .owner ≡ some a → (35 ≤ length xs) × (a ≡ take 32 (drop 1 xs))
+owner-behind xs f a e o = by (owned k) refl
+  where
+    k : Kind
+    k = flags-whole xs f e .0
+
+    w : Whole k xs f
+    w = flags-whole xs f e .1
+
+    in-bytes : ownerIn k xs ≡ some a
+    in-bytes = sym (ap (λ (g : Flags). g .owner) (w .in-bytes)) ∙ o
+
+    by : (b : Bool) → owned k ≡ b → (35 ≤ length xs) × (a ≡ take 32 (drop 1 xs))
+    by true h = let i : some (take 32 (drop 1 xs)) ≡ some a = rw h at in-bytes in (owned-size k (length xs) h (w .complete .head-inside), cc)
+    by false h = absurd (no-some a (rw h at in-bytes))
 
 -- ---- what a reader leaves
 

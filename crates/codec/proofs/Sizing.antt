@@ -3,10 +3,9 @@ use Prim.Native.Nat.{ℕ, suc, _+_, _-_, _*_, _≤_, _<_}
 use native.Mathlib.Decide.{decLt}
 use native.Mathlib.Numerals.{add-one}
 use native.Mathlib.Omega.{arith}
-use mathlib.Core.Path.{_≡_, refl, sym, ap, ap₂, _∙_}
-use mathlib.Core.Bool.{true}
-use mathlib.Core.Option.{Option, none, some}
-use mathlib.Core.List.{List, [], _∷_, _++_}
+use mathlib.Core.Path.{_≡_, refl, sym, ap, _∙_}
+use mathlib.Core.Option.{Option}
+use mathlib.Core.List.{List, [], _∷_}
 use borrow.Author.Tests.{le-leb, lt-leb}
 use lib.Dec.{leb}
 use lib.ListN.{length, getD, take, drop, length-append, length-take, drop-of-length-le}
@@ -19,7 +18,7 @@ use Rattle.records.specs.Tables.{At, recordsOf, countsOf}
 use Rattle.records.specs.Flags.{flagsOf, ownerOf, kindOf}
 use Rattle.records.specs.declared.head.Kind.{Kind}
 use Rattle.records.specs.declared.head.Head.{Head}
-use Rattle.records.proofs.Tables.{length-recordsOf, counts-records}
+use Rattle.records.proofs.Tables.{counts-records}
 use Rattle.records.proofs.Proper.{IsProper}
 use Rattle.codec.specs.Bytes.{recordBytes, recordsBytes, ownerBytes, headBytes, bytesOf}
 use Rattle.codec.specs.Sizes.{countsSize}

@@ -1,7 +1,7 @@
 -- Writing flags: the two cases of `serialized` and `sizeOf`, and a record as its two fields one after the other. Assumes nothing.
 use Prim.Native.Nat.{ℕ, _+_, _≤_, _<_}
 use native.Mathlib.Omega.{arith}
-use mathlib.Core.Path.{_≡_, refl, sym, ap, ap₂, _∙_}
+use mathlib.Core.Path.{_≡_, sym, ap, _∙_}
 use mathlib.Core.Bool.{true, false}
 use mathlib.Core.Option.{Option}
 use mathlib.Core.List.{List, [], _∷_, _++_, append-assoc}
@@ -10,16 +10,16 @@ use Rattle.fields.specs.Big.{big}
 use Rattle.fields.specs.Varint.{varint}
 use Rattle.fields.specs.Writing.{Put}
 use Rattle.fields.proofs.Parts.{Parts, parts-start, parts-byte}
-use Rattle.records.specs.Tables.{At, _⦂_, recordsOf, over}
+use Rattle.records.specs.Tables.{At, recordsOf, over}
 use Rattle.records.specs.Flags.{proper, flagsOf, ownerOf, typeByte, kindOf}
-use Rattle.records.specs.Answers.{ok, refused, Written, wrote, writing}
+use Rattle.records.specs.Answers.{ok, refused, wrote, writing}
 use Rattle.records.specs.declared.head.Kind.{Kind}
 use Rattle.records.specs.declared.head.Head.{Head}
 use Rattle.records.specs.declared.answer.Counted.the-variants.{Count}
 use Rattle.records.proofs.Tables.{length-recordsOf, counts-records, records-on, over-sets}
 use Rattle.records.proofs.Proper.{IsProper, kind-agrees}
 use Rattle.records.proofs.Answers.{writing-fits}
-use Rattle.codec.specs.Bytes.{recordBytes, recordsBytes, ownerBytes, headBytes, bytesOf}
+use Rattle.codec.specs.Bytes.{recordsBytes, ownerBytes, headBytes, bytesOf}
 use Rattle.codec.specs.Sizes.{countsSize}
 use Rattle.codec.specs.Calls.{serialized, sizeOf}
 use Rattle.codec.proofs.Sizing.{length-records, held-epochs, held-counts}

@@ -4,18 +4,17 @@ use Prim.Native.Nat.{ℕ, _+_, _≤_}
 use mathlib.Core.Path.{_≡_}
 use mathlib.Core.Bool.{cond}
 use mathlib.Core.Option.{Option, none, some}
-use mathlib.Core.List.{List, []}
+use mathlib.Core.List.{List}
 use lib.Dec.{eqb}
 use lib.ListN.{length}
 use Rattle.records.specs.Refusals.{number}
-use Rattle.records.specs.Tables.{At}
 use Rattle.records.specs.Flags.{Flags, flagsOf, headOf, noHead, proper}
 use Rattle.records.specs.Answers.{Answer, ok, refused, After, after, Written, writing}
 use Rattle.records.specs.declared.head.Kind.{Kind}
 use Rattle.records.specs.declared.head.Head.{Head}
 use Rattle.records.specs.declared.refusal.Refusal.the-variants.{WrongSize}
 use Rattle.codec.specs.Bytes.{bytesOf, headSize}
-use Rattle.codec.specs.Reading.{Next, bad, good, Fault, Parsed, Read, noFlags, someFlags, refusedAt, recordsIn, readAs, read}
+use Rattle.codec.specs.Reading.{Next, bad, good, Fault, Read, noFlags, someFlags, refusedAt, recordsIn, readAs, read}
 use Rattle.codec.specs.declared.judging.Step.{Step}
 use Rattle.codec.specs.declared.judging.Step.the-variants.{Bad, Good}
 use Rattle.codec.specs.declared.judging.Scan.{Scan}

@@ -1,7 +1,7 @@
 -- Reading flags, as document 01 has it under "Reading `deserialize`". Each fault has the place of its record, or the input's length
 -- where no record is at fault. Assumes nothing.
 use Prim.Native.Nat.{ℕ, zero, suc, pred, _+_}
-use mathlib.Core.Bool.{Bool, true, false, cond}
+use mathlib.Core.Bool.{cond}
 use mathlib.Core.Option.{Option, none, some}
 use mathlib.Core.List.{List, [], _∷_}
 use lib.Dec.{ltb, leb, eqb}

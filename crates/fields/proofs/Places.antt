@@ -1,19 +1,17 @@
 -- Varints at a place of a list: bytes with the top bit set are passed one by one, what they say is summed, and the byte that ends
 -- them decides what is found. Assumes nothing.
-use mathlib.Core.Path.{_≡_, refl, sym, ap, ap₂, _∙_}
+use mathlib.Core.Path.{_≡_, refl, sym, ap, _∙_}
 use mathlib.Core.Bool.{Bool, true, false, cond, _&&_}
 use mathlib.Core.List.{List, [], _∷_}
 use Prim.Native.Nat.{ℕ, zero, suc, _+_, _-_, _*_, _/_, _%_, _^_, _≤_, _<_}
 use native.Mathlib.Nat.{add-zero, mul-assoc, mul-comm, mul-le-mul-right, one-mul, zero-mul, pow-succ', pow-zero, one-le-pow}
 use native.Mathlib.Decide.{decLt, ℕ-discrete}
-use native.Mathlib.Numerals.{add-one}
 use native.Mathlib.Omega.{arith}
 use lib.Dec.{leb, eqb}
 use borrow.Author.Tests.{lt-ltb, le-ltb, le-leb, lt-leb, eq-eqb, ne-eqb}
 use lib.ListN.{length, getD, take, drop, drop-of-length-le, length-drop, length-take}
 use lib.Seq.{drop-cons, getD-drop}
-use Rattle.fields.specs.Varint.{largest, varint, high, value, Found, incomplete, notCanonical, whole, canonical, found, isWhole, judgedAt, readAt, endAt, Passed}
-use Rattle.fields.specs.declared.varint.Judged.{Judged}
+use Rattle.fields.specs.Varint.{largest, varint, high, value, incomplete, notCanonical, whole, canonical, found, isWhole, judgedAt, readAt, endAt, Passed}
 use Rattle.fields.specs.declared.varint.Judged.the-variants.{Incomplete, Ends}
 use Rattle.fields.specs.declared.varint.Reading.the-variants.{Whole}
 use Rattle.fields.proofs.Varints.{length-last, length-more, length-pos, length-five}

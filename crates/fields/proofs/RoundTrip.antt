@@ -1,17 +1,16 @@
 -- A varint that is written is found again, and one that is found whole is the written one, byte for byte.
 -- Assumes nothing.
-use Prim.Native.Nat.{ℕ, zero, suc, _+_, _-_, _*_, _/_, _%_, _≤_, _<_}
+use Prim.Native.Nat.{ℕ, suc, _+_, _-_, _/_, _%_, _≤_, _<_}
 use native.Mathlib.Decide.{decLt, ℕ-discrete}
 use mathlib.Core.Path.{_≡_, refl, ap, ap₂, sym, _∙_}
-use mathlib.Core.Bool.{Bool, true, false}
 use mathlib.Core.List.{List, [], _∷_, _++_}
 use native.Mathlib.Omega.{arith}
 use borrow.Author.Tests.{le-leb, ne-eqb}
 use lib.ListN.{length, getD, take, length-append}
 use lib.Seq.{take-at}
 use Rattle.fields.specs.Varint.{largest, varint, high, value, whole, notCanonical, canonical, found}
-use Rattle.fields.proofs.Varints.{varint-last, varint-more, length-last, length-more, length-pos, length-five, by-groups}
-use Rattle.fields.proofs.Places.{high-low, high-high, value-nil, value-cons, found-canonical, found-ten, found-cut, canonical-whole, canonical-large, canonical-longer}
+use Rattle.fields.proofs.Varints.{varint-last, varint-more, length-last, length-more, length-five, by-groups}
+use Rattle.fields.proofs.Places.{high-low, high-high, value-nil, value-cons, found-canonical, found-ten, found-cut, canonical-whole, canonical-large}
 
 -- ---- what is written is found
 

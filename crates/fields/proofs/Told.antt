@@ -1,5 +1,5 @@
 -- What is found, as judging answers it and as reading answers it: the one leads to the other. Assumes nothing.
-use mathlib.Core.Path.{_≡_, refl, sym, ap, _∙_}
+use mathlib.Core.Path.{_≡_, refl, sym, ap}
 use Prim.Native.Nat.{ℕ, _+_}
 use Rattle.fields.specs.Varint.{Found, incomplete, notCanonical, whole, judgedAt, readAt}
 use Rattle.fields.specs.declared.varint.Judged.the-variants.{Incomplete, NotCanonical, Ends}

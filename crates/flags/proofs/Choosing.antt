@@ -4,23 +4,20 @@
 use mathlib.Core.Path.{_≡_, refl, sym, ap, _∙_}
 use mathlib.Core.Bool.{Bool, true, false, true≢false}
 use mathlib.Core.Option.{Option, none, some}
-use mathlib.Core.List.{List, [], _∷_}
+use mathlib.Core.List.{List, []}
 use Prim.Native.Nat.{ℕ, _≤_}
 use native.Mathlib.Omega.{arith}
 use lib.ListN.{length, take, drop}
-use Rattle.records.specs.Flags.{Flags, owned, kindOfByte, ownerIf, same, maybeOwner, ownerOf}
+use Rattle.records.specs.Flags.{ownerIf, same, ownerOf}
 use Rattle.records.specs.Answers.{Answer, ok, refused}
 use Rattle.records.specs.declared.refusal.Refusal.{Refusal}
-use Rattle.records.specs.declared.head.Kind.{Kind}
-use Rattle.records.specs.declared.head.KindByte.{KindByte}
-use Rattle.records.specs.declared.head.KindByte.the-variants.{Known, Unknown}
 use Rattle.records.proofs.Proper.{owner-head}
-use Rattle.codec.specs.Reading.{Read, noFlags, someFlags, refusedAt, flagsIn, ownerIn, readAs, readByte, read}
+use Rattle.records.proofs.Owners.{owner-back}
+use Rattle.codec.specs.Reading.{Read, noFlags, someFlags, refusedAt, read}
 use Rattle.codec.specs.Calls.{judgement}
 use Rattle.codec.specs.declared.judging.Judgement.{Judgement}
 use Rattle.codec.specs.declared.judging.Verdict.the-variants.{Absent as IsAbsent, Present as IsPresent, Refused as IsRefused}
-use Rattle.codec.proofs.Readings.{owned-size}
-use Rattle.codec.proofs.Settling.{judged-absent, judged-refused, judged-present, Whole, read-whole}
+use Rattle.codec.proofs.Settling.{judged-absent, judged-refused, judged-present, owner-behind}
 use Rattle.flags.specs.Owners.{choice, disputed, chosen, combinedOwner, chosenAs, ownerRead, unlessRefused, choiceRead}
 use Rattle.flags.specs.Parts.{Part, handed}
 use Rattle.flags.specs.Calls.{ownerChoice, ownerHanded}
@@ -32,13 +29,9 @@ use Rattle.flags.specs.declared.owners.ChosenOwner.{ChosenOwner}
 
 -- ---- the owner of a merge
 
-pub own-back : (o : Option (List ℕ)) → o ≡ ownerIf (maybeOwner o .owned) (maybeOwner o .id)
-own-back none = refl
-own-back (some o) = refl
-
 module _ (w : ChosenOwner) where
   pub answered-owner : (x : Answer (Option (List ℕ))) → w ≡ chosenAs x → w .refused ≡ false → x ≡ ok (ownerIf (w .owner .owned) (w .owner .id))
-  answered-owner (ok o) e h = rw e (ap ok (own-back o))
+  answered-owner (ok o) e h = rw e (ap ok (owner-back o))
   answered-owner (refused n) e h = absurd (true≢false (sym (ap (λ (v : ChosenOwner). v .refused) e) ∙ h))
 
   -- what is refused is refused with 5
@@ -84,40 +77,22 @@ module _ (x : Read) (j : Judgement) (e : j ≡ judgement x) (go : Option (List �
 
 -- ---- where the owner stands
 
-no-some : (a : List ℕ) → _≡_ {A = Option (List ℕ)} none (some a) → ⊥
-no-some a e = let z : _≡_ {A = ℕ} 0 1 = cc in omega arith
-
 -- an owner that was read is the 32 bytes behind the kind
 pub record Owned (xs a : List ℕ) : Type 0 where
   pub was-read : ownerRead (read xs) ≡ some a
   pub long : 35 ≤ length xs
   pub is-there : a ≡ take 32 (drop 1 xs)
 
-owned-as : (k : Kind) (xs a : List ℕ) (x : Read) → readAs k xs ≡ x → ownerRead x ≡ some a → (35 ≤ length xs) × (a ≡ take 32 (drop 1 xs))
-owned-as k xs a noFlags e o = absurd (no-some a o)
-owned-as k xs a (refusedAt r p) e o = absurd (no-some a o)
-owned-as k xs a (someFlags f) e o = by (owned k) refl
-  where
-    w : Whole k xs f
-    w = read-whole k xs f e
-
-    by : (b : Bool) → owned k ≡ b → (35 ≤ length xs) × (a ≡ take 32 (drop 1 xs))
-    by true h =
-        let i : some (take 32 (drop 1 xs)) ≡ some a = rw h at (sym (ap (λ (g : Flags). g .owner) (w .in-bytes)) ∙ o) in
-        (owned-size k (length xs) h (w .complete .head-inside), cc)
-    by false h = absurd (no-some a (rw h at (sym (ap (λ (g : Flags). g .owner) (w .in-bytes)) ∙ o)))
-
-owner-behind : (xs a : List ℕ) → ownerRead (read xs) ≡ some a → (35 ≤ length xs) × (a ≡ take 32 (drop 1 xs))
-unfolding read
-owner-behind [] a o = absurd (no-some a o)
-owner-behind (b ∷ xs) a o = by (kindOfByte b) refl
-  where
-    by : (k : KindByte) → kindOfByte b ≡ k → (35 ≤ length (b ∷ xs)) × (a ≡ take 32 xs)
-    by (Known k) e = owned-as k (b ∷ xs) a (readAs k (b ∷ xs)) refl (rw e at o)
-    by Unknown e = absurd (no-some a (rw e at o))
-
 pub owner-place : (xs a : List ℕ) → ownerRead (read xs) ≡ some a → Owned xs a
-owner-place xs a o = let p = owner-behind xs a o in record { was-read = o; long = p .0; is-there = p .1 }
+owner-place xs a o = by (read xs) refl
+  where
+    no-owner : {A : Type 0} → _≡_ {A = Option (List ℕ)} none (some a) → A
+    no-owner e = let z : _≡_ {A = ℕ} 0 1 = cc in absurd (omega arith)
+
+    by : (x : Read) → read xs ≡ x → Owned xs a
+    by noFlags e = no-owner (rw e at o)
+    by (refusedAt r p) e = no-owner (rw e at o)
+    by (someFlags f) e = let p = owner-behind xs f a e (rw e at o) in record { was-read = o; long = p .0; is-there = p .1 }
 
 -- ---- whose owner was chosen
 

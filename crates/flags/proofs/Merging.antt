@@ -1,17 +1,17 @@
 -- The adding merge by the tests of the code: the bases, the owner, the limit, and whether the flags are proper.
 -- Assumes nothing.
-use mathlib.Core.Path.{_≡_, sym, ap, _∙_}
-use mathlib.Core.Bool.{Bool, true, false, and-false}
-use mathlib.Core.Option.{Option, some}
+use mathlib.Core.Path.{_≡_}
+use mathlib.Core.Bool.{true, false, and-false}
+use mathlib.Core.Option.{Option}
 use mathlib.Core.List.{List, _∷_}
 use Prim.Native.Nat.{ℕ, _+_, _≤_, _<_}
-use native.Mathlib.Omega.{arith}
 use borrow.Author.Tests.{le-leb, lt-leb, lt-ltb, le-ltb, eq-eqb, ne-eqb}
 use Rattle.fields.specs.Varint.{largest}
 use Rattle.records.specs.Tables.{At, _⦂_, epochsOf, ascending, held, union}
 use Rattle.records.specs.Flags.{Flags, flags, flagsOf, proper}
-use Rattle.records.specs.Answers.{Answer, ok, refused, kept, placing}
+use Rattle.records.specs.Answers.{ok, refused, kept, placing}
 use Rattle.records.specs.declared.head.Head.{Head}
+use Rattle.records.proofs.Unions.{union-put}
 use Rattle.records.proofs.Held.{held-beside}
 use Rattle.flags.specs.Owners.{combinedOwner}
 use Rattle.flags.specs.Merging.{joined, raised, raisedAbove, added}
@@ -50,8 +50,7 @@ module _ (e amount base : ℕ) (owner : Option (List ℕ)) (os ts : List At) (h 
 
   pub raised-made : held e os + amount ≤ largest
       → raised e amount (flags base owner (union os ts)) ≡ ok (flags base owner (union os (e ⦂ (held e os + amount) ∷ ts)))
-  unfolding union
-  raised-made p = simp (held-beside e os ts h, le-leb (held e os + amount) largest p)
+  raised-made p = simp (held-beside e os ts h, le-leb (held e os + amount) largest p, union-put)
 
 -- ---- whether the flags are proper
 

@@ -4,7 +4,7 @@ use Prim.Native.Nat.{ℕ}
 use mathlib.Core.Bool.{Bool, cond, _&&_}
 use mathlib.Core.List.{List}
 use Rattle.records.specs.Flags.{flagsOf, proper}
-use Rattle.records.specs.Answers.{Answer, ok, After, kept, placing}
+use Rattle.records.specs.Answers.{ok, After, kept, placing}
 use Rattle.records.specs.declared.head.Head.{Head}
 use Rattle.codec.specs.Reading.{read}
 use Rattle.flags.specs.Owners.{choiceRead}

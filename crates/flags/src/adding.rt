@@ -193,7 +193,7 @@ pub fn combine_absent(
     records::refused(Refusal::BadTable)
 }
 
-// The same where ours may be absent; absent ours is not looked at.
+// `combine_added_bytes` where ours may be absent: then ours is not looked at, and the incoming flags are handed on.
 pub fn optional_combine_added_bytes(
     present: bool,
     ours: Head,

@@ -1,7 +1,6 @@
 // The owner rule, for heads and for encodings.
 ghost use mathlib.Core.Path.{_≡_};
-ghost use mathlib.Core.Option.{none};
-ghost use Rattle.records.specs.Flags.{maybeOwner, ownerOf};
+ghost use Rattle.records.specs.Flags.{ownerOf};
 ghost use Rattle.codec.specs.Reading.{read};
 ghost use Rattle.flags.specs.Owners.{disputed, choice, combinedOwner, chosenAs, ownerRead, unlessRefused};
 ghost use Rattle.flags.specs.Parts.{lent};
@@ -26,20 +25,10 @@ pub enum Choice {
     Refused(Refusal),
 }
 
-// The owner of a merge, or that there is none because the owners differ.
+// The owner of a merge, or that the choice is refused, with no owner.
 pub struct ChosenOwner {
     pub refused: bool,
     pub owner: MaybeOwner,
-}
-
-// No owner.
-fn no_owner() -> MaybeOwner
-    ensures { λ r. ⌜ r ≡ maybeOwner none ⌝ }
-{
-    MaybeOwner {
-        owned: false,
-        id: [0u8; 32],
-    }
 }
 
 // The choice between two owners that differ.
@@ -91,11 +80,11 @@ pub fn combine_owners(ours: Head, theirs: Head, strategy: MergingOwnersStrategy)
         },
         Choice::Neither => ChosenOwner {
             refused: false,
-            owner: no_owner(),
+            owner: records::no_owner(),
         },
         Choice::Refused(_) => ChosenOwner {
             refused: true,
-            owner: no_owner(),
+            owner: records::no_owner(),
         },
     }
 }

@@ -14,19 +14,17 @@ use Rattle.fields.proofs.Bigs.{said-below}
 use Rattle.fields.specs.Varint.{largest}
 use Rattle.fields.proofs.RoundTrip.{Bytes, found-inv}
 use Rattle.records.specs.Tables.{At}
-use Rattle.records.specs.Flags.{Flags, owned, ownerIf, typeByte, kindOf, kindOfByte}
+use Rattle.records.specs.Flags.{Flags, owned, ownerIf, typeByte, kindOf}
 use Rattle.records.specs.Refusals.{number}
 use Rattle.records.specs.declared.refusal.Refusal.{Refusal}
 use Rattle.records.specs.declared.refusal.Refusal.the-variants.{UnknownType, WrongSize, NonCanonical, DifferentBaseEpoch, DifferentOwners, Overflow, NoStorageAtEpoch, RemovalTooLarge, TotalTooLarge, NoRoom, BadTable}
 use Rattle.records.specs.declared.head.Kind.{Kind}
 use Rattle.records.specs.declared.head.Kind.the-variants.{SingleEpoch, MultiEpoch, SingleEpochOwned, MultiEpochOwned}
-use Rattle.records.specs.declared.head.KindByte.{KindByte}
-use Rattle.records.specs.declared.head.KindByte.the-variants.{Known, Unknown}
 use Rattle.codec.specs.Bytes.{headSize, basePlace}
-use Rattle.codec.specs.Reading.{Next, bad, good, next, Read, noFlags, someFlags, refusedAt, baseIn, ownerIn, recordsIn, readByte, read}
+use Rattle.codec.specs.Reading.{Next, bad, good, next, Read, noFlags, someFlags, refusedAt, baseIn, ownerIn, recordsIn, read}
 use Rattle.codec.specs.Calls.{answer}
 use Rattle.codec.proofs.Parsing.{next-good, rest, rest-end, rest-bad, Turn, rest-good}
-use Rattle.codec.proofs.Settling.{Whole, read-whole}
+use Rattle.codec.proofs.Settling.{flags-whole}
 use Rattle.listing.specs.Text.{ascii, decimal, line, ownerLine, recordLine, recordLines, flagsText, listing}
 use Rattle.listing.specs.Listed.{most, places, longest, listed}
 use Rattle.listing.proofs.Decimals.{length-below}
@@ -115,16 +113,6 @@ short-lines d b at prev =
     (omega arith)
 
 -- ---- flags
-
--- flags that were read are those of some kind
-flags-whole : (src : List ℕ) (f : Flags) → read src ≡ someFlags f → (k : Kind) × Whole k src f
-unfolding read
-flags-whole [] f e = let z : _≡_ {A = ℕ} 0 1 = cc in absurd (omega arith)
-flags-whole (b ∷ xs) f e = by (kindOfByte b) e
-  where
-    by : (k : KindByte) → readByte k (b ∷ xs) ≡ someFlags f → (k : Kind) × Whole k (b ∷ xs) f
-    by (Known k) e = (k, read-whole k (b ∷ xs) f e)
-    by Unknown e = let z : _≡_ {A = ℕ} 0 1 = cc in absurd (omega arith)
 
 head-size : (k : Kind) → basePlace k + 2 ≡ headSize k
 head-size SingleEpoch = refl

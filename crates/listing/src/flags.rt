@@ -3,7 +3,6 @@ ghost use mathlib.Core.Path.{_≡_};
 ghost use Prim.Native.Nat.{_≤_};
 ghost use lib.ListN.{length};
 ghost use Rattle.fields.specs.Writing.{Put};
-ghost use Rattle.listing.specs.Sizes.{Sized};
 ghost use Rattle.listing.specs.Heads.{headText, outcomeText, Held};
 ghost use Rattle.listing.specs.Listed.{places};
 use crate::lines::line_len;

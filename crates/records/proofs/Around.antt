@@ -3,16 +3,14 @@
 -- Assumes nothing.
 use mathlib.Core.Path.{_≡_, refl, sym, ap, _∙_}
 use mathlib.Core.List.{List, [], _∷_, _++_}
-use mathlib.Core.Bool.{Bool, true, false}
-use Prim.Native.Nat.{ℕ, zero, suc, _+_, _≤_, _<_}
+use mathlib.Core.Bool.{true}
+use Prim.Native.Nat.{ℕ, suc, _+_, _≤_, _<_}
 use native.Mathlib.Numerals.{add-one}
 use native.Mathlib.Omega.{arith}
-use lib.Dec.{ltb, eqb}
 use lib.ListN.{length, take, drop, getD}
 use borrow.Author.Tests.{lt-ltb, le-ltb, eq-eqb, ne-eqb}
 use Rattle.records.specs.Tables.{At, _⦂_, recordsOf, epochsOf, ascending, rising, placeOf, held, union, Table}
 use Rattle.records.specs.Unions.{spotOf}
-use Rattle.records.specs.declared.table.Spot.{Spot}
 use Rattle.records.proofs.Rising.{Side, side, lower, equal, higher, asc-none, asc-head, asc-cons, asc-rises}
 use Rattle.records.proofs.Unions.{next-ours, next-theirs, next-both}
 use Rattle.records.proofs.Tables.{epochs-records}

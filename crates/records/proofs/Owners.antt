@@ -1,15 +1,22 @@
--- Whether two owners are the same: it is equality, and a loop can ask it byte by byte. By cases on the bytes.
+-- An owner or none as the code has it tells the owner; and whether two owners are the same: it is equality, and a loop can ask it byte by
+-- byte. By cases on the owner and on the bytes.
 -- Assumes nothing.
 use mathlib.Core.Path.{_≡_, refl, sym}
+use mathlib.Core.Option.{Option, none, some}
 use mathlib.Core.List.{List, [], _∷_}
-use mathlib.Core.Bool.{Bool, true, false, _&&_, and-eq-true-iff, true≢false}
+use mathlib.Core.Bool.{true, false, _&&_, and-eq-true-iff, true≢false}
 use Prim.Native.Nat.{ℕ, _+_, _≤_, _<_}
-use native.Mathlib.Omega.{arith}
 use lib.Dec.{eqb}
 use lib.ListN.{length, drop, getD, drop-of-length-le}
 use borrow.Author.Tests.{eqb-true, eq-eqb}
-use Rattle.records.specs.Flags.{same}
+use Rattle.records.specs.Flags.{ownerIf, maybeOwner, same}
 use Rattle.records.proofs.Rising.{drop-next}
+
+pub owner-back : (o : Option (List ℕ)) → o ≡ ownerIf (maybeOwner o .owned) (maybeOwner o .id)
+owner-back none = refl
+owner-back (some o) = refl
+
+-- ---- the same owner
 
 pub same-self : (xs : List ℕ) → same xs xs ≡ true
 unfolding same

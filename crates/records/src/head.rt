@@ -1,5 +1,6 @@
 // The head of flags, by value, and the calls on it alone.
 ghost use mathlib.Core.Path.{_≡_};
+ghost use mathlib.Core.Option.{none};
 ghost use Rattle.records.specs.Flags.{owned, multi, typeByte, kindOfByte, ownerIf, same, ownerOf, maybeOwner, headFor, withOwner};
 
 // Who paid.
@@ -90,6 +91,16 @@ pub fn kind_of_byte(byte: u8) -> KindByte
     KindByte::Unknown
 }
 
+// No owner.
+pub fn no_owner() -> MaybeOwner
+    ensures { λ r. ⌜ r ≡ maybeOwner none ⌝ }
+{
+    MaybeOwner {
+        owned: false,
+        id: [0u8; 32],
+    }
+}
+
 // Whether two owners are the same. No early exit: a loop of this shape can become vector code.
 pub fn same_owner(ours: OwnerId, theirs: OwnerId) -> bool
     ensures { λ r. ⌜ r ≡ same ours theirs ⌝ }
@@ -177,10 +188,7 @@ impl Head {
             let id = self.owner;
             return MaybeOwner { owned: true, id };
         }
-        MaybeOwner {
-            owned: false,
-            id: [0u8; 32],
-        }
+        no_owner()
     }
 
     // Byte 0 of the flags.

@@ -17,6 +17,7 @@ pub use head::KindByte;
 pub use head::MaybeOwner;
 pub use head::OwnerId;
 pub use head::kind_of_byte;
+pub use head::no_owner;
 pub use head::same_owner;
 pub use refusal::Refusal;
 pub use table::Spot;

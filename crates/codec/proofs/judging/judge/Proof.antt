@@ -1,5 +1,5 @@
 -- `codec::judging::judge` meets its contract: byte 0 names the kind by which the bytes are judged. Assumes nothing.
-use mathlib.Core.Path.{_≡_, sym, ap, _∙_}
+use mathlib.Core.Path.{sym, ap, _∙_}
 use native.Mathlib.Omega.{arith}
 use Rattle.records.specs.declared.head.KindByte.{KindByte}
 use Rattle.codec.specs.Reading.{readByte}

@@ -1,12 +1,11 @@
 -- `codec::judging::judge_multi` meets its contract: the size and what scanning the records found lead to each case of `readAs`.
 -- Assumes nothing.
-use mathlib.Core.Path.{_≡_, sym, ap, _∙_}
+use mathlib.Core.Path.{sym, ap, _∙_}
 use Prim.Native.Nat.{ℕ}
 use native.Mathlib.Omega.{arith}
 use Rattle.records.specs.Flags.{headFor}
 use Rattle.codec.specs.Reading.{baseIn, ownerIn}
 use Rattle.codec.specs.Calls.{judgement}
-use Rattle.codec.specs.declared.judging.Judgement.{Judgement}
 use Rattle.codec.specs.declared.judging.Verdict.the-variants.{Present}
 use Rattle.codec.proofs.Readings.{multi-short, agrees-multi, scan-faulty, scan-records, scan-read}
 use borrow.Author.Needs.{needs}

@@ -1,7 +1,7 @@
 -- `codec::judging::judge_records` meets its contract. The loop's invariant: what is found from the place reached on has the first fault of all,
 -- and with the records passed as many. Assumes nothing.
 use mathlib.Core.Path.{_≡_, refl, sym, ap, _∙_}
-use Prim.Native.Nat.{ℕ, _+_, _-_, _≤_}
+use Prim.Native.Nat.{_+_, _-_, _≤_}
 use native.Mathlib.Omega.{arith}
 use borrow.Author.Needs.{needs}
 use mathlib.Core.Option.{Option}

@@ -1,5 +1,5 @@
 -- `codec::judging::judge_single` meets its contract: the size decides. Assumes nothing.
-use mathlib.Core.Path.{_≡_, sym, ap, _∙_}
+use mathlib.Core.Path.{sym, ap, _∙_}
 use native.Mathlib.Omega.{arith}
 use Rattle.codec.specs.Calls.{judgement}
 use Rattle.codec.proofs.Readings.{single-right, single-wrong, agrees-single}

@@ -1,11 +1,10 @@
 -- `codec::judging::owner_bytes` meets its contract. The loop's invariant: the first k bytes of the owner are copied. Assumes nothing.
 use mathlib.Core.Path.{_≡_, refl, sym, ap, _∙_}
-use mathlib.Core.List.{List}
-use Prim.Native.Nat.{ℕ, _+_, _-_, _≤_, _<_}
+use Prim.Native.Nat.{ℕ, _+_, _-_, _≤_}
 use native.Mathlib.Nat.{add-comm, zero-add}
 use native.Mathlib.Omega.{arith}
 use borrow.Author.Needs.{needs}
-use lib.ListN.{length, getD, take, drop, set, length-set, length-take, length-drop}
+use lib.ListN.{length, getD, take, drop, length-set, length-take, length-drop}
 use lib.Seq.{getD-drop, getD-take}
 use Rattle.codec.proofs.Copying.{Copied, copy-start, copy-more, copy-done, copy-all}
 use Rattle.codec.proofs.judging.owner_bytes.Statement.{statement}

@@ -1,9 +1,8 @@
 -- `codec::judging::present` meets its contract: the kind is the one that its owner and its records tell. Assumes nothing.
-use mathlib.Core.Path.{_≡_, sym}
+use mathlib.Core.Path.{sym}
 use lib.ListN.{take, drop}
 use Rattle.records.proofs.Proper.{kind-agrees}
 use Rattle.codec.specs.declared.judging.Verdict.the-variants.{Present}
-use borrow.Author.Needs.{needs}
 use Rattle.codec.proofs.judging.present.Statement.{statement}
 use Rattle.codec.proofs.judging.present.Tie as tie
 

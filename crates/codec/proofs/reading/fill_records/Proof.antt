@@ -1,10 +1,10 @@
 -- `codec::reading::fill_records` meets its contract. The loop's invariant: `Going`, for any kind whose records start where the loop does (the
 -- loop itself does not see the kind). Assumes nothing.
-use mathlib.Core.Path.{_≡_, refl, sym, ap, _∙_}
-use Prim.Native.Nat.{ℕ, _+_, _-_, _≤_, _<_}
+use mathlib.Core.Path.{_≡_}
+use Prim.Native.Nat.{_-_, _<_}
 use native.Mathlib.Omega.{arith}
 use borrow.Author.Needs.{needs}
-use lib.ListN.{length, length-set}
+use lib.ListN.{length}
 use Rattle.records.specs.declared.head.Kind.{Kind}
 use Rattle.codec.specs.Bytes.{headSize}
 use Rattle.codec.specs.Reading.{recordsIn}

@@ -1,7 +1,7 @@
 -- `codec::reading::read_as` meets its contract: what was judged decides. Assumes nothing.
-use mathlib.Core.Path.{_≡_, refl, ap, sym, _∙_}
-use Rattle.records.specs.Flags.{Flags, headOf}
-use Rattle.codec.specs.Reading.{Read, readAs, someFlags, flagsIn}
+use mathlib.Core.Path.{ap, sym, _∙_}
+use Rattle.records.specs.Flags.{headOf}
+use Rattle.codec.specs.Reading.{Read, readAs, someFlags}
 use Rattle.codec.specs.declared.judging.Judgement.{Judgement}
 use Rattle.codec.proofs.Settling.{judged-absent, judged-refused, judged-present, read-whole, left-absent, left-refused}
 use borrow.Author.Needs.{needs}

@@ -1,5 +1,4 @@
 -- `codec::sizes::approximate_size` meets its contract: 3 bytes, 32 more if owned, and the changes. Assumes nothing.
-use mathlib.Core.Path.{_≡_}
 use native.Mathlib.Omega.{arith}
 use borrow.Author.Needs.{needs}
 use Rattle.codec.proofs.sizes.approximate_size.Statement.{statement}

@@ -1,6 +1,6 @@
 -- `codec::sizes::changes_size` meets its contract: 65,535 changes of 257 bytes are the most. Assumes nothing.
-use mathlib.Core.Path.{_≡_, sym, ap}
-use Prim.Native.Nat.{ℕ, _+_, _*_, _≤_}
+use mathlib.Core.Path.{sym, ap}
+use Prim.Native.Nat.{_+_, _*_, _≤_}
 use native.Mathlib.Nat.{mul-le-mul}
 use native.Mathlib.Omega.{arith}
 use Rattle.codec.specs.Sizes.{changesSize}

@@ -2,11 +2,9 @@
 use Rattle.records.specs.Flags.{flagsOf}
 use Rattle.codec.specs.Bytes.{bytesOf}
 use mathlib.Core.Path.{_≡_, sym, ap, _∙_}
-use mathlib.Core.Bool.{true, false}
 use native.Mathlib.Omega.{arith}
-use Prim.Native.Nat.{ℕ, _+_}
-use lib.ListN.{length, take}
-use Rattle.records.specs.Flags.{proper}
+use Prim.Native.Nat.{_+_}
+use lib.ListN.{length}
 use Rattle.records.specs.Answers.{ok}
 use Rattle.records.proofs.Proper.{IsProper, proper-inv}
 use Rattle.codec.proofs.Sizing.{held-counts, length-flags}

@@ -1,16 +1,15 @@
 -- `codec::writing::put_head` meets its contract: the kind's byte, the owner if there is one, and the base epoch, one after another.
 -- Assumes nothing.
-use mathlib.Core.List.{List}
 use Rattle.fields.specs.Big.{big}
 use Rattle.fields.specs.Writing.{Put}
 use Rattle.fields.proofs.Bigs.{length-big}
 use Rattle.fields.proofs.Parts.{put-long}
 use Rattle.codec.proofs.Sizing.{length-head}
 use Rattle.codec.proofs.Writings.{head-part}
-use mathlib.Core.Path.{_≡_, refl, sym, ap, _∙_}
+use mathlib.Core.Path.{_≡_, refl, sym, _∙_}
 use mathlib.Core.Bool.{true, false}
 use mathlib.Core.Option.{none, some}
-use Prim.Native.Nat.{ℕ, _+_, _≤_}
+use Prim.Native.Nat.{_+_, _≤_}
 use native.Mathlib.Omega.{arith}
 use lib.ListN.{length, length-set}
 use Rattle.records.specs.Flags.{owned, ownerOf}

@@ -1,9 +1,9 @@
 -- `codec::writing::put_owner` meets its contract. The loop's invariant: the first k bytes of the owner are copied. Assumes nothing.
-use mathlib.Core.Path.{_≡_, refl, sym, ap, _∙_}
-use Prim.Native.Nat.{ℕ, _+_, _-_, _≤_}
+use mathlib.Core.Path.{_≡_, refl}
+use Prim.Native.Nat.{_-_, _≤_}
 use native.Mathlib.Omega.{arith}
 use borrow.Author.Needs.{needs}
-use lib.ListN.{length, length-set}
+use lib.ListN.{length}
 use Rattle.codec.proofs.Copying.{Copied, copy-start, copy-more, copy-done}
 use Rattle.codec.proofs.writing.put_owner.Statement.{statement}
 use Rattle.codec.proofs.writing.put_owner.Tie as tie

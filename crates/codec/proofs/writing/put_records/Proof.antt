@@ -1,9 +1,9 @@
 -- `codec::writing::put_records` meets its contract. The loop's invariant: of all records' bytes those from the k-th on are left to write.
 -- Assumes nothing.
 use Rattle.fields.proofs.Bigs.{length-big}
-use mathlib.Core.Path.{_≡_, refl, sym, ap, _∙_}
+use mathlib.Core.Path.{_≡_, refl, ap}
 use mathlib.Core.List.{List, _++_}
-use Prim.Native.Nat.{ℕ, _+_, _-_, _≤_, _<_}
+use Prim.Native.Nat.{ℕ, _+_, _-_, _≤_}
 use native.Mathlib.Omega.{arith}
 use borrow.Author.Needs.{needs}
 use lib.ListN.{length, getD, length-append}

@@ -1,18 +1,15 @@
 -- `codec::writing::serialize` meets its contract: proper flags that fit are written head first, and else nothing is written. Assumes nothing.
-use mathlib.Core.Path.{_≡_, refl, sym, ap, _∙_}
-use mathlib.Core.Bool.{true, false}
-use mathlib.Core.List.{List, _++_}
-use Prim.Native.Nat.{ℕ, _+_, _≤_, _<_}
+use mathlib.Core.Path.{refl, sym, _∙_}
+use Prim.Native.Nat.{_+_, _≤_}
 use native.Mathlib.Omega.{arith}
 use borrow.Author.Tests.{leb-true, leb-false}
 use lib.ListN.{length, take}
 use Rattle.fields.specs.Writing.{Put}
 use Rattle.fields.proofs.Parts.{parts-start, parts-put, parts-last, put-long}
-use Rattle.records.specs.Tables.{recordsOf}
 use Rattle.records.specs.Flags.{flagsOf, ownerOf}
 use Rattle.records.proofs.Proper.{IsProper, proper-inv}
 use Rattle.records.proofs.Answers.{writing-short}
-use Rattle.codec.specs.Bytes.{ownerBytes, headBytes, recordsBytes, bytesOf}
+use Rattle.codec.specs.Bytes.{ownerBytes, bytesOf}
 use Rattle.codec.specs.Sizes.{countsSize}
 use Rattle.codec.proofs.Sizing.{length-head, held-epochs, held-counts, length-flags}
 use Rattle.codec.proofs.Writings.{serialized-proper, serialized-improper, bytes-proper, put-written}

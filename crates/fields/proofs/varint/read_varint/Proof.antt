@@ -1,6 +1,5 @@
 -- `fields::varint::read_varint` meets its contract: what judging found decides, and a whole varint is then read. Assumes nothing.
 use mathlib.Core.Path.{sym, ap, _∙_}
-use Prim.Native.Nat.{ℕ}
 use Rattle.fields.specs.Varint.{found, readAt, isWhole}
 use lib.ListN.{drop}
 use Rattle.fields.specs.declared.varint.Reading.the-variants.{Incomplete, NotCanonical}

@@ -1,9 +1,8 @@
 -- `fields::varint::varint_at` meets its contract: a whole varint goes on while bytes have the top bit set. Assumes nothing.
 use mathlib.Core.Path.{_≡_, refl, sym, ap, ap₂, _∙_}
-use mathlib.Core.List.{List}
-use Prim.Native.Nat.{ℕ, _+_, _*_, _%_, _^_, _<_}
+use Prim.Native.Nat.{ℕ, _+_, _*_, _%_, _<_}
 use native.Mathlib.Omega.{arith}
-use lib.ListN.{length, getD, take, drop, length-take}
+use lib.ListN.{length, getD, take, drop}
 use Rattle.fields.specs.Varint.{value, Passed, readAt}
 use Rattle.fields.specs.declared.varint.Reading.the-variants.{Whole}
 use Rattle.fields.proofs.Places.{value-on, first-inside, first-more, first-value, first-whole, passed-more, whole-inside, passed-read}

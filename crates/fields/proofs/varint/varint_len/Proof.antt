@@ -1,12 +1,11 @@
 -- `fields::varint::varint_len` meets its contract. A count of m significant bits lies between 2 ^ m / 2 and 2 ^ m - 1. The table's rule, computed once
 -- over its 33 entries, says that the varints of both ends have the entry's length, and a larger number has no shorter varint.
 -- Assumes nothing.
-use mathlib.Core.Path.{_≡_, sym, ap, _∙_, subst}
+use mathlib.Core.Path.{_≡_, ap, _∙_}
 use mathlib.Core.List.{List, [], _∷_}
 use mathlib.Core.Bool.{Bool}
-use Prim.Native.Nat.{ℕ, suc, _+_, _-_, _*_, _/_, _^_, _≤_, _<_}
+use Prim.Native.Nat.{ℕ, _+_, _-_, _*_, _/_, _^_, _≤_, _<_}
 use native.Mathlib.Omega.{arith}
-use native.Mathlib.Nat.{le-refl}
 use lib.Dec.{T, eqb, eqb→eq}
 use lib.ListN.{length, getD}
 use lib.Count.{leadingZeros, leading-le, leading-length}

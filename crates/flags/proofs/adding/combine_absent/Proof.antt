@@ -1,5 +1,5 @@
 -- `flags::adding::combine_absent` meets its contract: theirs are proper, or not. Assumes nothing.
-use mathlib.Core.Path.{_≡_, sym, ap, _∙_}
+use mathlib.Core.Path.{sym, _∙_}
 use borrow.Author.Needs.{needs}
 use Rattle.records.proofs.Answers.{refused-left}
 use Rattle.flags.proofs.Merging.{handed-proper, handed-bad}

@@ -1,5 +1,5 @@
 -- `flags::adding::combine_added_bytes` meets its contract: both sides are proper, or one is not. Assumes nothing.
-use mathlib.Core.Path.{_≡_, sym, ap, _∙_}
+use mathlib.Core.Path.{sym, _∙_}
 use borrow.Author.Needs.{needs}
 use Rattle.records.proofs.Answers.{refused-left}
 use Rattle.flags.proofs.Merging.{combined-proper, combined-theirs-bad, combined-ours-bad}

@@ -1,5 +1,5 @@
 -- `flags::adding::combine_proper` meets its contract: the bases decide, then the owner, then the tables are merged. Assumes nothing.
-use mathlib.Core.Path.{_≡_, sym, ap, _∙_}
+use mathlib.Core.Path.{sym, ap, _∙_}
 use lib.Seq.{length-take-le}
 use borrow.Author.Needs.{needs}
 use Rattle.records.specs.Flags.{Flags, ownerOf, flagsOf}

@@ -1,5 +1,5 @@
 -- `flags::adding::combine_tables` meets its contract: the bases are equal, or not. Assumes nothing.
-use mathlib.Core.Path.{_≡_, sym, ap, _∙_}
+use mathlib.Core.Path.{sym, ap, _∙_}
 use borrow.Author.Needs.{needs}
 use Rattle.records.specs.Tables.{recordsOf, union}
 use Rattle.records.specs.Flags.{Flags, flags, ownerIf}

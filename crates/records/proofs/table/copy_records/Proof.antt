@@ -3,7 +3,7 @@
 use mathlib.Core.Path.{_≡_, subst}
 use Prim.Native.Nat.{_-_, _≤_}
 use native.Mathlib.Omega.{arith}
-use lib.ListN.{length, take, drop}
+use lib.ListN.{take, drop}
 use borrow.Author.Needs.{needs}
 use Rattle.records.specs.Tables.{recordsOf, Placed}
 use Rattle.records.proofs.Tables.{Filling, filling-start, filling-step, filling-done, first-on, first-end}

@@ -8,7 +8,7 @@ returns : tie.Need-returns
 returns c = rw (sym (c .before .before .is-owned .ensures) ∙ c .before .if1 .taken)
 
 returns-2 : tie.Need-returns-2
-returns-2 c = rw (sym (c .before .is-owned .ensures) ∙ c .if1 .left)
+returns-2 c = rw (sym (c .before .before .is-owned .ensures) ∙ c .before .if1 .left) (c .no-owner .ensures)
 
 pub owner-id-spec : {M : Type 1} → statement M
-owner-id-spec = tie.close (tie.spec (λ c κs. search needs) returns returns-2)
+owner-id-spec = tie.close (tie.spec (λ c κs. search needs) returns (λ c κs. search needs) returns-2)
