@@ -3,6 +3,7 @@ mod adding;
 mod owners;
 mod placing;
 
+pub use adding::combine_absent;
 pub use adding::combine_added_bytes;
 pub use adding::optional_combine_added_bytes;
 pub use owners::Choice;
@@ -12,3 +13,6 @@ pub use owners::choose_owner;
 pub use owners::choose_owner_id;
 pub use owners::combine_owner_id;
 pub use owners::combine_owners;
+pub use placing::fit;
+pub use placing::hand_on;
+pub use placing::place_union;

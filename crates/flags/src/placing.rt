@@ -16,7 +16,7 @@ use records::Refusal;
 use records::Spot;
 
 // Whether n records have room in both tables.
-fn fit(n: usize, epochs_len: usize, counts_len: usize) -> bool
+pub fn fit(n: usize, epochs_len: usize, counts_len: usize) -> bool
     ensures { λ r. ⌜ r ≡ roomFor n «epochs_len» «counts_len» ⌝ }
 {
     if epochs_len < n {

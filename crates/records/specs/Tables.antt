@@ -74,7 +74,7 @@ abbrev pub without : ℕ → List ℕ → List ℕ
 without k xs = take k xs ++ drop (suc k) xs
 
 -- an answer at the start of what was lent, and the places behind it untouched
-abbrev pub over : List ℕ → List ℕ → List ℕ
+abbrev pub over {ℓ} : {A : Type ℓ} → List A → List A → List A
 over xs old = xs ++ drop (length xs) old
 
 -- ---- what the functions on tables ask and promise

@@ -126,7 +126,7 @@ pub struct Next {
 }
 
 // The next record of the union of what stands from i on in ours and from j on in theirs.
-fn next_record(
+pub fn next_record(
     our_epochs: &[u16],
     our_counts: &[u32],
     i: usize,

@@ -1,0 +1,4 @@
+-- What the proofs share, and the crates above cite. Assumes nothing.
+pub mod Comparing
+pub mod Rows
+pub mod Removals

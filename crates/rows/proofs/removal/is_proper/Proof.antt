@@ -1,0 +1,26 @@
+-- `rows::removal::is_proper` meets its contract, by the state's cases. Assumes nothing.
+use mathlib.Core.Path.{sym, ap, _∙_}
+use borrow.Author.Needs.{needs}
+use Rattle.rows.specs.Rows.{tables}
+use Rattle.rows.specs.Removals.{proper}
+use Rattle.rows.specs.declared.removal.Removed.{Removed}
+use Rattle.rows.proofs.removal.is_proper.Statement.{statement}
+use Rattle.rows.proofs.removal.is_proper.Tie as tie
+
+returns-3 : tie.Need-returns-3
+returns-3 c =
+    let a = c .before .before .before .before .before .before .args in
+    c .are-proper .ensures
+    ∙ sym (ap (λ (x : Removed). proper x (tables (a .ids .now) (a .epochs .now) (a .bytes .now))) (c .before .before .removed .given .1))
+
+pub is-proper-spec : {M : Type 1} → statement M
+is-proper-spec =
+    tie.close
+    (tie.spec
+    (λ c. search needs)
+    (λ c. search needs)
+    (λ c. search needs)
+    (λ c κs. search needs)
+    (λ c. search needs)
+    (λ c. search needs)
+    returns-3)
