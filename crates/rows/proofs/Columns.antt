@@ -3,13 +3,14 @@
 use mathlib.Core.Path.{_≡_, refl, sym, ap, _∙_}
 use mathlib.Core.List.{List, [], _∷_, _++_}
 use Prim.Native.Nat.{ℕ, zero, suc, _+_, _-_, _≤_}
-use native.Mathlib.Nat.{le-of-suc-le-suc, not-suc-le-zero}
+use native.Mathlib.Nat.{le-of-suc-le-suc, not-suc-le-zero, sub-zero}
 use native.Mathlib.Omega.{arith}
 use lib.ListN.{length, take, drop, length-append, length-drop}
-use lib.Seq.{drop-append-add, drop-drop}
+use lib.Seq.{drop-append-add, drop-drop, take-nil, take-all}
 use Rattle.records.specs.Tables.{At, recordsOf, epochsOf, countsOf, over}
-use Rattle.records.proofs.Tables.{take-records, length-epochsOf, length-countsOf, epochs-append, counts-append}
-use Rattle.rows.specs.Rows.{Row, idsOf, partsOf, Tables, tables, rowsOf, rowsIn, overRows, Room}
+use Rattle.records.proofs.Tables.{take-records, drop-records, length-epochsOf, length-countsOf, epochs-append, counts-append}
+use Rattle.rows.specs.Rows.{Row, ascends, idsOf, partsOf, Tables, tables, rowsOf, rowsIn, overRows, Room, Proper}
+use Rattle.rows.proofs.Rows.{asc-drop}
 
 pub length-ids : (rs : List Row) → length (idsOf rs) ≡ length rs
 unfolding idsOf
@@ -145,3 +146,54 @@ over-over rs ss t h =
 pub over-nothing : (t : Tables) → overRows [] t ≡ t
 unfolding idsOf partsOf epochsOf countsOf
 over-nothing t = refl
+
+-- ---- rows from a place on
+
+no-parts : (is : List (List ℕ)) → rowsOf is [] ≡ []
+unfolding rowsOf
+no-parts [] = refl
+no-parts (i ∷ is) = refl
+
+drop-rows-of : (k : ℕ) (is : List (List ℕ)) (ps : List At) → rowsOf (drop k is) (drop k ps) ≡ drop k (rowsOf is ps)
+unfolding rowsOf
+drop-rows-of zero is ps = refl
+drop-rows-of (suc k) [] ps = refl
+drop-rows-of (suc k) (i ∷ is) [] = no-parts (drop k is)
+drop-rows-of (suc k) (i ∷ is) (p ∷ ps) = drop-rows-of k is ps
+
+module _ {ℓ} {A : Type ℓ} where
+  take-behind : (k m : ℕ) (l : List A) → k ≤ m → take (m - k) (drop k l) ≡ drop k (take m l)
+  take-behind zero m l h = rw (sub-zero m)
+  take-behind (suc k) zero l h = absurd (not-suc-le-zero h)
+  take-behind (suc k) (suc m) [] h = take-nil (suc m - suc k)
+  take-behind (suc k) (suc m) (x ∷ l) h =
+      let e : suc m - suc k ≡ m - k = omega arith in
+      rw e (take-behind k m l (omega arith))
+
+  -- a part of a slice from a place on
+  abbrev pub part : ℕ → List A → List A
+  part k l = take (length l - k) (drop k l)
+
+  part-is : (k : ℕ) (l : List A) → part k l ≡ drop k l
+  part-is k l = take-all (length l - k) (drop k l) (omega (arith, length-drop k l))
+
+  part-long : (k : ℕ) (l : List A) → length (part k l) ≡ length l - k
+  part-long k l = ap (length {A = A}) (part-is k l) ∙ length-drop k l
+
+module _ (k m : ℕ) (t : Tables) (h : k ≤ m) where
+  pub part-rows : rowsIn (m - k) (tables (part k (t .ids)) (part k (t .epochs)) (part k (t .bytes))) ≡ drop k (rowsIn m t)
+  part-rows =
+      ap (rowsIn (m - k)) (three (part-is k (t .ids)) (part-is k (t .epochs)) (part-is k (t .bytes)))
+      ∙ ap (take (m - k)) (ap (rowsOf (drop k (t .ids))) (sym (drop-records k (t .epochs) (t .bytes))) ∙ drop-rows-of k (t .ids) (recordsOf (t .epochs) (t .bytes)))
+      ∙ take-behind k m (rowsOf (t .ids) (recordsOf (t .epochs) (t .bytes))) h
+
+  pub part-proper : Proper m t → Proper (m - k) (tables (part k (t .ids)) (part k (t .epochs)) (part k (t .bytes)))
+  part-proper p =
+      record {
+        room = record {
+          ids-long = omega (arith, p .room .ids-long, part-long k (t .ids));
+          epochs-long = omega (arith, p .room .epochs-long, part-long k (t .epochs));
+          bytes-long = omega (arith, p .room .bytes-long, part-long k (t .bytes));
+        };
+        rises = ap ascends part-rows ∙ asc-drop (rowsIn m t) k (p .rises);
+      }

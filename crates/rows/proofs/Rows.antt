@@ -125,6 +125,11 @@ unfolding ascends
 asc-cons a [] h s = refl
 asc-cons a (b ∷ l) h s = rw h s
 
+pub asc-drop : (l : List Row) (i : ℕ) → ascends l ≡ true → ascends (drop i l) ≡ true
+asc-drop l zero h = h
+asc-drop [] (suc i) h = h
+asc-drop (a ∷ l) (suc i) h = asc-drop l i (asc-tail a l h)
+
 module _ {n : ℕ} {t : Tables} (r : Room n t) (i : ℕ) where
   asc-at : i + 1 < n → ascends (drop i (rowsIn n t)) ≡ (isLess (compared (rowAt t i) (rowAt t (i + 1))) && ascends (drop (i + 1) (rowsIn n t)))
   unfolding ascends
