@@ -5,3 +5,6 @@ pub mod Lasts
 pub mod Losing
 pub mod Answering
 pub mod Basics
+pub mod Exact
+pub mod Reading
+pub mod Only
