@@ -8,3 +8,4 @@ pub mod Basics
 pub mod Exact
 pub mod Reading
 pub mod Only
+pub mod Marked
