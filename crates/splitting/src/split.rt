@@ -1,0 +1,21 @@
+// Splitting a removal into sections, from the latest epoch down.
+use records::Refusal;
+use rows::StorageRemovedBytes;
+
+// The removals of the key's and the value's bytes, and how many records were visited for the value's.
+pub struct Split {
+    pub key: StorageRemovedBytes,
+    pub value: StorageRemovedBytes,
+    pub visited: usize,
+}
+
+// A split, or a refusal.
+pub enum Splitting {
+    Done(Split),
+    Refused(Refusal),
+}
+
+// Checks that the form is covered.
+pub fn refuse(refusal: Refusal) -> Splitting {
+    Splitting::Refused(refusal)
+}
