@@ -1,1 +1,3 @@
 -- What the proofs share, and the crates above cite. Assumes nothing.
+pub mod Sections
+pub mod Visiting
