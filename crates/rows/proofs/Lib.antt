@@ -2,3 +2,5 @@
 pub mod Comparing
 pub mod Rows
 pub mod Removals
+pub mod Columns
+pub mod Backing
