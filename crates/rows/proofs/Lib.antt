@@ -4,3 +4,4 @@ pub mod Rows
 pub mod Removals
 pub mod Columns
 pub mod Backing
+pub mod Under

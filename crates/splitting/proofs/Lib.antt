@@ -1,3 +1,5 @@
 -- What the proofs share, and the crates above cite. Assumes nothing.
 pub mod Sections
 pub mod Visiting
+pub mod Placing
+pub mod Counting

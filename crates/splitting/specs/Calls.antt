@@ -1,6 +1,7 @@
 -- What `split_storage_removed_bytes` answers and leaves.
 -- Assumes nothing.
 use Prim.Native.Nat.{ℕ, zero, suc}
+use mathlib.Core.Path.{_≡_}
 use mathlib.Core.Bool.{cond, _&&_}
 use mathlib.Core.List.{List, [], _∷_}
 use lib.ListN.{length}
@@ -26,6 +27,11 @@ pub record Split : Type 0 where
 abbrev pub removalOf : List ℕ → ℕ → List At → Removal
 removalOf i zero ss = nothing
 removalOf i (suc n) ss = sectioned (rowsUnder i ss)
+
+-- a removal's state was answered, and its rows stand at the start of the tables
+pub record PlacedRemoval (r : Removal) (x : Removed) (t t′ : Tables) : Type 0 where
+  pub state : x ≡ stateOf r
+  pub rows : t′ ≡ overRows (rowsOfRemoval r) t
 
 -- key bytes make one section at the base; value bytes are split; both stand under one identifier
 abbrev pub parted : List ℕ → ℕ → List At → ℕ → ℕ → Split
