@@ -1,6 +1,6 @@
 -- How many rows a split makes: one for each record visited, at most one more than there are records, and one at the base where it is asked.
 -- Assumes nothing.
-use mathlib.Core.Path.{_≡_, refl, sym, ap, _∙_}
+use mathlib.Core.Path.{_≡_, refl, sym, ap}
 use mathlib.Core.Bool.{true}
 use mathlib.Core.List.{List, [], _∷_}
 use Prim.Native.Nat.{ℕ, zero, suc, _+_, _-_, _≤_, _<_}
@@ -8,9 +8,7 @@ use native.Mathlib.Omega.{arith}
 use lib.Dec.{leb}
 use lib.ListN.{length, length-append}
 use Rattle.records.specs.Tables.{At, _⦂_}
-use Rattle.rows.specs.Rows.{Tables, Room}
 use Rattle.rows.specs.Removals.{rowsOfRemoval}
-use Rattle.rows.proofs.Rows.{room-less}
 use Rattle.rows.proofs.Under.{length-under}
 use Rattle.splitting.specs.Sections.{largestRemoval, above, asked, section, sections, split, allowed}
 use Rattle.splitting.specs.Visits.{rowsAtBase}
@@ -31,7 +29,7 @@ unfolding section
 section-long e zero most = refl
 section-long e (suc n) most = refl
 
-base-short : (n : ℕ) → rowsAtBase n ≤ 1
+pub base-short : (n : ℕ) → rowsAtBase n ≤ 1
 base-short zero = omega arith
 base-short (suc n) = omega arith
 

@@ -3,3 +3,4 @@ pub mod Sections
 pub mod Visiting
 pub mod Placing
 pub mod Counting
+pub mod Calls

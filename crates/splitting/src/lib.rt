@@ -5,3 +5,4 @@ mod split;
 pub use giving::MINIMUM_NON_BASE_FLAGS_SIZE;
 pub use split::Split;
 pub use split::Splitting;
+pub use split::split_storage_removed_bytes;

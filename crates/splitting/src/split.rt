@@ -5,7 +5,6 @@ ghost use lib.ListN.{length};
 ghost use Rattle.records.specs.Tables.{At, _⦂_, recordsOf};
 ghost use Rattle.records.specs.Answers.{ok};
 ghost use Rattle.rows.specs.Rows.{tables, Room};
-ghost use Rattle.rows.specs.Removals.{rowsOfRemoval};
 ghost use Rattle.splitting.specs.Sections.{split, allowed};
 ghost use Rattle.splitting.specs.Visits.{rowsAtBase};
 ghost use Rattle.splitting.specs.Calls.{removalOf, PlacedRemoval, parted, shown, placing, splitRemoved};
@@ -123,4 +122,103 @@ fn sectioned_storage_removal(
     StorageRemovedBytes {
         removed: Removed::Sectioned(rows),
     }
+}
+
+// Splits bytes that are not too many, if both removals' rows have room. They are counted before anything is written.
+fn split_allowed(
+    base: u16,
+    id: OwnerId,
+    epochs: &[u16],
+    counts: &[u32],
+    removed_key_bytes: u32,
+    removed_value_bytes: u32,
+    key_ids: &mut [[u8; 32]],
+    key_epochs: &mut [u16],
+    key_bytes: &mut [u32],
+    value_ids: &mut [[u8; 32]],
+    value_epochs: &mut [u16],
+    value_bytes: &mut [u32],
+) -> Splitting
+    requires { ⌜ length (now epochs) ≡ length (now counts) ⌝ }
+    ensures { λ r. ⌜ shown r (tables (now («key_ids» .exit)) (now («key_epochs» .exit)) (now («key_bytes» .exit))) (tables (now («value_ids» .exit)) (now («value_epochs» .exit)) (now («value_bytes» .exit))) ≡ placing (ok (parted id base (recordsOf (now (epochs .entry)) (now (counts .entry))) «removed_key_bytes» «removed_value_bytes»)) (tables (now («key_ids» .entry)) (now («key_epochs» .entry)) (now («key_bytes» .entry))) (tables (now («value_ids» .entry)) (now («value_epochs» .entry)) (now («value_bytes» .entry))) ⌝ }
+{
+    let visits = visit(epochs, counts, removed_value_bytes);
+    let visited = visits.records;
+    let rows = visited + rows_at_base(visits.left);
+    if rows::fit(
+        rows_at_base(removed_key_bytes),
+        key_ids,
+        key_epochs,
+        key_bytes,
+    ) {
+        if rows::fit(rows, value_ids, value_epochs, value_bytes) {
+            let key = single_storage_removal(
+                removed_key_bytes,
+                base,
+                id,
+                key_ids,
+                key_epochs,
+                key_bytes,
+            );
+            let value = sectioned_storage_removal(
+                removed_value_bytes,
+                base,
+                id,
+                epochs,
+                counts,
+                rows,
+                value_ids,
+                value_epochs,
+                value_bytes,
+            );
+            return Splitting::Done(Split {
+                key,
+                value,
+                visited,
+            });
+        }
+        return Splitting::Refused(Refusal::NoRoom);
+    }
+    Splitting::Refused(Refusal::NoRoom)
+}
+
+// Splits a removal of key bytes and value bytes: the key's at the base, the value's from the latest record down.
+pub fn split_storage_removed_bytes(
+    flags: Head,
+    epochs: &[u16],
+    counts: &[u32],
+    removed_key_bytes: u32,
+    removed_value_bytes: u32,
+    key_ids: &mut [[u8; 32]],
+    key_epochs: &mut [u16],
+    key_bytes: &mut [u32],
+    value_ids: &mut [[u8; 32]],
+    value_epochs: &mut [u16],
+    value_bytes: &mut [u32],
+) -> Splitting
+    ensures { λ r. ⌜ shown r (tables (now («key_ids» .exit)) (now («key_epochs» .exit)) (now («key_bytes» .exit))) (tables (now («value_ids» .exit)) (now («value_epochs» .exit)) (now («value_bytes» .exit))) ≡ splitRemoved flags (now (epochs .entry)) (now (counts .entry)) «removed_key_bytes» «removed_value_bytes» (tables (now («key_ids» .entry)) (now («key_epochs» .entry)) (now («key_bytes» .entry))) (tables (now («value_ids» .entry)) (now («value_epochs» .entry)) (now («value_bytes» .entry))) ⌝ }
+{
+    if records::is_proper(flags, epochs, counts) {
+        let n = flags.records;
+        if is_allowed(n, removed_value_bytes) {
+            let owner = flags.owner_id();
+            let id = owner.id;
+            return split_allowed(
+                flags.base,
+                id,
+                &epochs[..n],
+                &counts[..n],
+                removed_key_bytes,
+                removed_value_bytes,
+                key_ids,
+                key_epochs,
+                key_bytes,
+                value_ids,
+                value_epochs,
+                value_bytes,
+            );
+        }
+        return Splitting::Refused(Refusal::RemovalTooLarge);
+    }
+    Splitting::Refused(Refusal::BadTable)
 }

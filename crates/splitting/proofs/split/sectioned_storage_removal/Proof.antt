@@ -1,7 +1,7 @@
 -- `splitting::split::sectioned_storage_removal` meets its contract: what is still to be placed is the split of what is left over the
 -- records that were not asked yet. Assumes nothing.
-use mathlib.Core.Path.{_≡_, refl, _∙_}
-use Prim.Native.Nat.{_-_, _<_, min}
+use mathlib.Core.Path.{refl, _∙_}
+use Prim.Native.Nat.{_-_, min}
 use native.Mathlib.Omega.{arith}
 use borrow.Author.Needs.{needs}
 use lib.ListN.{getD}

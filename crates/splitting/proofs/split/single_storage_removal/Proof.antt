@@ -1,5 +1,4 @@
 -- `splitting::split::single_storage_removal` meets its contract: no bytes change nothing, others make one row. Assumes nothing.
-use Prim.Native.Nat.{_<_}
 use native.Mathlib.Omega.{arith}
 use borrow.Author.Needs.{needs}
 use Rattle.splitting.proofs.Placing.{nothing-placed, single-placed, base-row}
