@@ -7,7 +7,7 @@ use Prim.Native.Nat.{ℕ, suc, _+_, _-_, _≤_, _<_}
 use native.Mathlib.Nat.{not-suc-le-zero}
 use native.Mathlib.Omega.{arith}
 use lib.ListN.{length, take, drop, set, length-append, length-drop, take-append-drop}
-use lib.Seq.{length-take-le, take-append-le, take-take, take-at, drop-at}
+use lib.Seq.{length-take-le, take-append-le, take-take, drop-at}
 use Rattle.records.specs.Tables.{recordsOf, epochsOf, countsOf, over}
 use Rattle.rows.specs.Rows.{Row, idsOf, partsOf, Tables, tables, rowsOf, rowsIn, overRows, setRow, Room}
 use Rattle.rows.proofs.Columns.{length-ids, ids-append, epochsIn, bytesIn, length-epochs, length-bytes, epochs-in-append, bytes-in-append, take-rows, columns}

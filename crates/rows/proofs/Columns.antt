@@ -1,10 +1,9 @@
 -- Rows and the columns of the tables that hold them: the one gives the other back.
 -- Assumes nothing.
-use mathlib.Core.Path.{_≡_, refl, sym, ap, _∙_}
+use mathlib.Core.Path.{_≡_, refl, ap, _∙_}
 use mathlib.Core.List.{List, [], _∷_, _++_}
 use Prim.Native.Nat.{ℕ, zero, suc, _≤_}
 use native.Mathlib.Nat.{le-of-suc-le-suc, not-suc-le-zero}
-use native.Mathlib.Omega.{arith}
 use lib.ListN.{length, take}
 use Rattle.records.specs.Tables.{At, recordsOf, epochsOf, countsOf}
 use Rattle.records.proofs.Tables.{take-records, length-epochsOf, length-countsOf, epochs-append, counts-append}
