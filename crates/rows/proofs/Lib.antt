@@ -5,3 +5,4 @@ pub mod Removals
 pub mod Columns
 pub mod Backing
 pub mod Under
+pub mod Over
