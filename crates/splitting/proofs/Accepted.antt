@@ -1,19 +1,19 @@
 -- What an accepted split leaves, read back from what the call answers: both removals are proper, they come to what was removed, and so many
 -- records were visited as the value's has sections beside the base.
 -- Assumes nothing.
-use mathlib.Core.Path.{_≡_, refl, sym, ap, subst, _∙_}
+use mathlib.Core.Path.{_≡_, refl, sym, ap, _∙_}
 use mathlib.Core.Bool.{Bool, true, false, cond, _&&_}
-use mathlib.Core.List.{List, [], _∷_}
+use mathlib.Core.List.{List, []}
 use Prim.Native.Nat.{ℕ, zero, suc}
 use native.Mathlib.Omega.{arith}
 use lib.ListN.{length}
-use Rattle.records.specs.Tables.{At, _⦂_, epochsOf, ascending}
-use Rattle.records.specs.Flags.{Flags, idOf, ownerOf, flagsOf, proper}
+use Rattle.records.specs.Tables.{At, epochsOf, ascending}
+use Rattle.records.specs.Flags.{idOf, ownerOf, flagsOf, proper}
 use Rattle.records.specs.Answers.{Answer, ok, refused}
 use Rattle.records.specs.declared.head.Head.{Head}
 use Rattle.records.proofs.Tables.{epochs-records}
 use Rattle.records.proofs.Proper.{proper-inv, proper-above}
-use Rattle.rows.specs.Rows.{Row, Tables, row, partsOf, ascends, rowsUnder, roomIn, overRows}
+use Rattle.rows.specs.Rows.{Row, Tables, row, partsOf, ascends, roomIn, overRows}
 use Rattle.rows.specs.Removals.{Removal, rowsOfRemoval, stateOf, removalOf, total, proper as properRemoval}
 use Rattle.rows.proofs.Rows.{asc-none, asc-cons}
 use Rattle.rows.proofs.Under.{under-one}

@@ -8,13 +8,13 @@ use Prim.Native.Nat.{ℕ, zero, suc, _≤_, _<_}
 use native.Mathlib.Omega.{arith}
 use lib.ListN.{length}
 use borrow.Author.Tests.{eq-eqb, ne-eqb}
-use Rattle.records.specs.Tables.{At, _⦂_, epochsOf, ascending, rising}
+use Rattle.records.specs.Tables.{At, epochsOf, ascending, rising}
 use Rattle.records.proofs.Rising.{asc-none, asc-head, asc-tail, asc-cons, asc-lower, asc-rises}
 use Rattle.rows.specs.Rows.{partsOf, rowsUnder, ascends}
 use Rattle.rows.specs.Removals.{rowsOfRemoval}
 use Rattle.rows.proofs.Under.{parts-under, asc-under}
 use Rattle.splitting.specs.Sections.{above, asked, section, sections, split, besideBase}
-use Rattle.splitting.specs.Calls.{Split, parted}
+use Rattle.splitting.specs.Calls.{parted}
 use Rattle.splitting.proofs.Sections.{sections-none}
 
 -- a section before sections that ascend from its epoch

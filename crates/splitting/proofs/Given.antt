@@ -8,7 +8,7 @@ use Prim.Native.Nat.{ℕ, zero, suc, _+_, _-_, _≤_, _<_, min}
 use native.Mathlib.Omega.{arith}
 use lib.Dec.{eqb, ltb}
 use borrow.Author.Tests.{eqb-false, eq-eqb, ne-eqb, lt-ltb}
-use Rattle.records.specs.Tables.{At, _⦂_, epochsOf, ascending, has, held}
+use Rattle.records.specs.Tables.{At, epochsOf, ascending, has, held}
 use Rattle.records.proofs.Rising.{asc-head, asc-tail}
 use Rattle.records.proofs.Held.{has-above, held-above}
 use Rattle.splitting.specs.Sections.{minimum, above, spare, asked, section, sections, split}
@@ -141,3 +141,35 @@ has-none e (r ∷ rs) n h =
 pub nowhere-else : (e base : ℕ) (rs : List At) (n : ℕ) → (e ≡ base → ⊥) → has e rs ≡ false → has e (split base rs n) ≡ false
 unfolding split
 nowhere-else e base rs n p h = has-beside e base p (asked n rs) (asked n rs) (sections rs n) ∙ has-none e rs n h
+
+-- ---- the sections at the records
+
+-- each stands at a record's epoch and takes at most what the record holds
+abbrev pub Within : List At → List At → Type 0
+Within rs [] = Unit {0}
+Within rs (s ∷ ss) = (has (s .epoch) rs ≡ true) × (s .bytes ≤ held (s .epoch) rs) × Within rs ss
+
+-- sections after a record's epoch, within the records behind it
+within-behind : (r : At) (rs : List At) (b : ℕ) (ss : List At) → r .epoch ≤ b → ascending b (epochsOf ss) ≡ true → Within rs ss → Within (r ∷ rs) ss
+unfolding has held epochsOf
+within-behind r rs b [] p h w = tt
+within-behind r rs b (s ∷ ss) p h w =
+    let q = asc-head b (s .epoch) (epochsOf ss) h in
+    let d : eqb (s .epoch) (r .epoch) ≡ false = ne-eqb (s .epoch) (r .epoch) (λ e. omega arith) in
+    (rw d (w .0), rw d (w .1), within-behind r rs (s .epoch) ss (omega arith) (asc-tail b (s .epoch) (epochsOf ss) h) (w .2))
+
+-- a record's own section before them
+within-section : (r : At) (rs : List At) (n : ℕ) (ss : List At) → Within (r ∷ rs) ss → Within (r ∷ rs) (section (r .epoch) n (above r) ++ ss)
+unfolding section has held
+within-section r rs zero ss w = w
+within-section r rs (suc n) ss w =
+    let d = eq-eqb (r .epoch) (r .epoch) refl in
+    (rw d refl, rw d (omega arith), w)
+
+pub sections-within : (b : ℕ) (rs : List At) (n : ℕ) → ascending b (epochsOf rs) ≡ true → Within rs (sections rs n)
+unfolding sections epochsOf
+sections-within b [] n h = tt
+sections-within b (r ∷ rs) n h =
+    let t = asc-tail b (r .epoch) (epochsOf rs) h in
+    within-section r rs (asked n rs) (sections rs n)
+    (within-behind r rs (r .epoch) (sections rs n) (omega arith) (sections-ascend (r .epoch) rs n t) (sections-within (r .epoch) rs n t))

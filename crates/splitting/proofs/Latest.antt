@@ -5,10 +5,10 @@ use mathlib.Core.List.{List, [], _∷_, _++_, reverse, reverse-cons, reverse-rev
 use Prim.Native.Nat.{ℕ, zero, suc, _+_, _-_, _≤_, _<_, min}
 use native.Mathlib.Omega.{arith}
 use native.Mathlib.Decide.{decLe}
-use borrow.Author.Tests.{eq-eqb, ne-eqb, le-leb, lt-leb}
+use borrow.Author.Tests.{ne-eqb, le-leb, lt-leb}
 use Rattle.records.specs.Tables.{At, _⦂_}
 use Rattle.splitting.specs.Sections.{minimum, above, section, split, fromLatest}
-use Rattle.splitting.proofs.Sections.{section-none, section-one, split-none, split-base, split-last}
+use Rattle.splitting.proofs.Sections.{section-one, split-none, split-base, split-last}
 
 module _ (base : ℕ) where
   -- ---- the loop by its tests

@@ -9,3 +9,5 @@ pub mod Sums
 pub mod Ascending
 pub mod Given
 pub mod Accepted
+pub mod Only
+pub mod Marked

@@ -1,16 +1,15 @@
 -- Sections sum to the amount: at the records what they can give, at the base the rest.
 -- Assumes nothing.
-use mathlib.Core.Path.{_≡_, refl, sym, ap, _∙_}
+use mathlib.Core.Path.{_≡_, refl, ap, _∙_}
 use mathlib.Core.List.{List, [], _∷_}
-use Prim.Native.Nat.{ℕ, zero, suc, _+_, _-_, min}
+use Prim.Native.Nat.{ℕ, zero, suc, _-_, min}
 use native.Mathlib.Omega.{arith}
-use Rattle.records.specs.Tables.{At, _⦂_}
+use Rattle.records.specs.Tables.{At}
 use Rattle.rows.specs.Rows.{rowsUnder}
 use Rattle.rows.specs.Removals.{totalRows, total}
 use Rattle.rows.proofs.Under.{total-none, total-one, total-append}
 use Rattle.splitting.specs.Sections.{above, spare, asked, section, sections, split}
-use Rattle.splitting.specs.Calls.{Split, removalOf, parted}
-use Rattle.splitting.proofs.Sections.{split-none}
+use Rattle.splitting.specs.Calls.{parted}
 
 module _ (i : List ℕ) where
   section-sum : (e n most : ℕ) → totalRows (rowsUnder i (section e n most)) ≡ min n most
