@@ -3,11 +3,11 @@
 use mathlib.Core.Path.{_≡_, refl, ap, _∙_}
 use mathlib.Core.Bool.{true}
 use mathlib.Core.List.{List, [], _∷_}
-use Prim.Native.Nat.{ℕ, _≤_}
+use Prim.Native.Nat.{_≤_}
 use native.Mathlib.Omega.{arith}
 use lib.ListN.{length, take, drop, length-append}
 use lib.Seq.{take-at}
-use Rattle.records.specs.Tables.{recordsOf, epochsOf, countsOf, over}
+use Rattle.records.specs.Tables.{recordsOf, over}
 use Rattle.records.proofs.Tables.{records-back}
 use Rattle.rows.specs.Rows.{Row, ascends, idsOf, partsOf, Tables, rowsOf, rowsIn, properRows, overRows, Room}
 use Rattle.rows.specs.Removals.{Removal, nothing, basic, sectioned, removalOf, proper, rowsOfRemoval, stateOf}

@@ -79,7 +79,7 @@ module _ (r : At) (ys : List At) (n : ℕ) where
       held-beside (r .epoch) (x .epoch) (λ e. omega arith) (asked n (xs ++ (r ∷ ys))) (above x) (sections (xs ++ (r ∷ ys)) n) ∙ sections-held (x .epoch) xs t
 
   module _ (base : ℕ) (xs : List At) (h : ascending base (epochsOf (xs ++ (r ∷ ys))) ≡ true) where
-    -- a section stands at a record's epoch exactly if the later ones cannot give all
+    -- a section stands at a record's epoch exactly if the later ones gave less than asked (`gave-less` of Sums)
     pub record-has : has (r .epoch) (split base (xs ++ (r ∷ ys)) n) ≡ ltb 0 (asked n ys)
     unfolding split
     record-has =
@@ -120,7 +120,7 @@ latest-first base xs r us s vs n h p =
 -- ---- the base, and no other epoch
 
 module _ (base : ℕ) (rs : List At) (n : ℕ) where
-  -- a section stands at the base exactly if the records cannot give all
+  -- a section stands at the base exactly if the records gave less than asked
   pub base-has : ascending base (epochsOf rs) ≡ true → has base (split base rs n) ≡ ltb 0 (asked n rs)
   unfolding split
   base-has h = has-here base (asked n rs) (asked n rs) (sections rs n) (has-above base base (sections rs n) (omega arith) (sections-ascend base rs n h))

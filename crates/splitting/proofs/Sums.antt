@@ -1,9 +1,12 @@
 -- Sections sum to the amount: at the records what they can give, at the base the rest.
 -- Assumes nothing.
-use mathlib.Core.Path.{_≡_, refl, ap, _∙_}
+use mathlib.Core.Path.{_≡_, refl, sym, ap, _∙_}
 use mathlib.Core.List.{List, [], _∷_}
-use Prim.Native.Nat.{ℕ, zero, suc, _-_, min}
+use Prim.Native.Nat.{ℕ, zero, suc, _-_, _<_, min}
 use native.Mathlib.Omega.{arith}
+use native.Mathlib.Decide.{decLt}
+use lib.Dec.{ltb}
+use borrow.Author.Tests.{lt-ltb, le-ltb}
 use Rattle.records.specs.Tables.{At}
 use Rattle.rows.specs.Rows.{rowsUnder}
 use Rattle.rows.specs.Removals.{totalRows, total}
@@ -29,6 +32,14 @@ module _ (i : List ℕ) where
   unfolding split
   split-sum base rs n =
       omega (arith, total-append i (section base (asked n rs) (asked n rs)) (sections rs n), section-sum base (asked n rs) (asked n rs), sections-sum rs n)
+
+  -- earlier epochs are asked for something exactly if the records gave less than was asked
+  pub gave-less : (rs : List At) (n : ℕ) → ltb 0 (asked n rs) ≡ ltb (totalRows (rowsUnder i (sections rs n))) n
+  gave-less rs n = by (decLt (spare rs) n)
+    where
+      by : Dec (spare rs < n) → ltb 0 (asked n rs) ≡ ltb (totalRows (rowsUnder i (sections rs n))) n
+      by (yes p) = lt-ltb 0 (asked n rs) (omega arith) ∙ sym (lt-ltb (totalRows (rowsUnder i (sections rs n))) n (omega (arith, sections-sum rs n)))
+      by (no p) = le-ltb 0 (asked n rs) (omega arith) ∙ sym (le-ltb (totalRows (rowsUnder i (sections rs n))) n (omega (arith, sections-sum rs n)))
 
   -- both removals come to what was removed
   pub key-sum : (base : ℕ) (rs : List At) (n m : ℕ) → total (parted i base rs n m .key) ≡ n

@@ -75,8 +75,8 @@ fn single_storage_removal(
     }
 }
 
-// The value part: bytes in sections at the records, from the latest down while bytes are left, and at the base. Their rows are
-// so many, and are put from the back.
+// The value part: bytes in sections at the records, from the latest down while bytes are left, and the rest at the base. They make
+// so many rows, which are put from the back.
 fn sectioned_storage_removal(
     removed_bytes: u32,
     base: u16,
