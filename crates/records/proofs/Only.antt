@@ -23,7 +23,7 @@ same-only x y d p q = p ∙ sym q
 -- ---- refusals
 
 -- the refusal that a number names
-abbrev named : ℕ → Refusal
+abbrev pub named : ℕ → Refusal
 named n =
     cond (eqb n 1) UnknownType
     (cond (eqb n 2) WrongSize
@@ -34,7 +34,7 @@ named n =
     (cond (eqb n 7) NoStorageAtEpoch
     (cond (eqb n 8) RemovalTooLarge (cond (eqb n 9) TotalTooLarge (cond (eqb n 10) NoRoom BadTable)))))))))
 
-named-back : (r : Refusal) → named (number r) ≡ r
+pub named-back : (r : Refusal) → named (number r) ≡ r
 named-back UnknownType = refl
 named-back WrongSize = refl
 named-back NonCanonical = refl

@@ -1,7 +1,7 @@
 -- Rows placed into three tables from the back: what was placed stands as it ends, and what is before it as it began.
 -- One law for a column, then the three together.
 -- Assumes nothing.
-use mathlib.Core.Path.{_≡_, refl, sym, ap, _∙_}
+use mathlib.Core.Path.{_≡_, refl, sym, ap, _∙_, subst}
 use mathlib.Core.List.{List, [], _∷_, _++_, append-assoc, append-nil}
 use Prim.Native.Nat.{ℕ, suc, _+_, _-_, _≤_, _<_}
 use native.Mathlib.Nat.{not-suc-le-zero}
@@ -10,8 +10,8 @@ use lib.ListN.{length, take, drop, set, length-append, length-drop, take-append-
 use lib.Seq.{length-take-le, take-append-le, take-take, drop-at}
 use Rattle.records.specs.Tables.{recordsOf, epochsOf, countsOf, over}
 use Rattle.rows.specs.Rows.{Row, idsOf, partsOf, Tables, tables, rowsOf, rowsIn, overRows, setRow, Room}
-use Rattle.rows.proofs.Columns.{length-ids, ids-append, epochsIn, bytesIn, length-epochs, length-bytes, epochs-in-append, bytes-in-append, take-rows, columns}
-use Rattle.rows.proofs.Rows.{room-less}
+use Rattle.rows.proofs.Columns.{length-ids, ids-append, epochsIn, bytesIn, length-epochs, length-bytes, epochs-in-append, bytes-in-append, three, take-rows, columns}
+use Rattle.rows.proofs.Rows.{length-rows, room-less}
 
 -- ---- a column
 
@@ -67,10 +67,6 @@ module _ {ℓ} {A : Type ℓ} where
 abbrev halfRows : ℕ → List Row → Tables → Tables
 halfRows k rs t =
     tables (half k (idsOf rs) (t .ids)) (half k (epochsIn rs) (t .epochs)) (half k (bytesIn rs) (t .bytes))
-
--- three columns that are equal
-three : {is is′ : List (List ℕ)} {es es′ bs bs′ : List ℕ} → is ≡ is′ → es ≡ es′ → bs ≡ bs′ → tables is es bs ≡ tables is′ es′ bs′
-three p q r = λ i. record { ids = p i; epochs = q i; bytes = r i }
 
 -- `left` of all rows are still to be placed, in the first k places
 pub record Backing (all left : List Row) (k : ℕ) (t₀ t : Tables) : Type 0 where
@@ -170,3 +166,9 @@ module _ {all left : List Row} {k : ℕ} {t₀ t : Tables} (b : Backing all left
   backing-done e =
       let z : k ≡ 0 = b .reached ∙ ap (length {A = Row}) e in
       b .stands ∙ ap (λ (j : ℕ). halfRows j all t₀) z
+
+-- rows that are written where they stand change nothing
+pub rows-stay : {n : ℕ} {t : Tables} → Room n t → overRows (rowsIn n t) t ≡ t
+rows-stay {n} {t} r =
+    let l = length-rows r in
+    sym (backing-stays (backing-start (rowsIn n t) t (subst (λ (k : ℕ). Room k t) (sym l) r)) (ap (λ (k : ℕ). rowsIn k t) (sym l)))

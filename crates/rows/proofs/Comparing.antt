@@ -2,13 +2,13 @@
 -- Assumes nothing.
 use mathlib.Core.Path.{_≡_, refl, sym, ap, _∙_}
 use mathlib.Core.Logic.{_⊎_, inl, inr, ⊎-elim}
-use Prim.Native.Nat.{ℕ, _+_, _≤_, _<_}
+use Prim.Native.Nat.{ℕ, zero, suc, _+_, _≤_, _<_}
 use native.Mathlib.Nat.{le-antisymm}
 use native.Mathlib.Numerals.{add-one}
 use native.Mathlib.Omega.{arith}
 use mathlib.Core.Bool.{Bool, true, false, cond}
 use mathlib.Core.List.{List, [], _∷_, _++_}
-use lib.ListN.{length, drop, getD, drop-of-length-le}
+use lib.ListN.{length, drop, getD, replicate, drop-of-length-le}
 use lib.Seq.{drop-cons}
 use lib.Dec.{ltb}
 use borrow.Author.Tests.{ltb-true, ltb-false, lt-ltb, le-ltb}
@@ -29,16 +29,16 @@ andThen Less next = Less
 andThen Equal next = next
 andThen Greater next = Greater
 
-equal-less : Equal ≡ Less → ⊥
+pub equal-less : Equal ≡ Less → ⊥
 equal-less e = let z : _≡_ {A = ℕ} 0 1 = cc in omega arith
 
-greater-less : Greater ≡ Less → ⊥
+pub greater-less : Greater ≡ Less → ⊥
 greater-less e = let z : _≡_ {A = ℕ} 0 1 = cc in omega arith
 
-less-equal : Less ≡ Equal → ⊥
+pub less-equal : Less ≡ Equal → ⊥
 less-equal e = let z : _≡_ {A = ℕ} 0 1 = cc in omega arith
 
-greater-equal : Greater ≡ Equal → ⊥
+pub greater-equal : Greater ≡ Equal → ⊥
 greater-equal e = let z : _≡_ {A = ℕ} 0 1 = cc in omega arith
 
 -- ---- one number, and then what comes next
@@ -128,6 +128,15 @@ order-then [] [] c d h = refl
 order-then [] (y ∷ ys) c d h = absurd (omega arith)
 order-then (x ∷ xs) [] c d h = absurd (omega arith)
 order-then (x ∷ xs) (y ∷ ys) c d h = ap (by x y) (order-then xs ys c d (omega arith)) ∙ by-then x y (order xs ys) (order c d)
+
+-- nothing of n numbers is less than n zeros
+pub zeros-least : (n : ℕ) (x : List ℕ) → length x ≡ n → order x (replicate n 0) ≡ Less → ⊥
+unfolding order
+zeros-least zero [] l h = equal-less h
+zeros-least zero (x ∷ xs) l h = omega arith
+zeros-least (suc n) [] l h = omega arith
+zeros-least (suc n) (x ∷ xs) l h =
+    ⊎-elim (λ q. omega arith) (λ q. zeros-least n xs (omega arith) (q .1)) (by-less-inv x 0 (order xs (replicate n 0)) h)
 
 pub order-one : (x y : ℕ) → order (x ∷ []) (y ∷ []) ≡ by x y Equal
 unfolding order

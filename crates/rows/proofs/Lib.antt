@@ -4,5 +4,6 @@ pub mod Rows
 pub mod Removals
 pub mod Columns
 pub mod Backing
+pub mod Only
 pub mod Under
 pub mod Over

@@ -1,13 +1,14 @@
 -- What the rows of a removal come to from a place on, and the calls by their tests.
 -- Assumes nothing.
-use mathlib.Core.Path.{_≡_, sym, ap, _∙_}
+use mathlib.Core.Path.{_≡_, refl, sym, ap, _∙_}
+use mathlib.Core.List.{List, [], _∷_}
 use Prim.Native.Nat.{ℕ, _+_, _≤_, _<_}
 use mathlib.Core.Bool.{true, false}
 use lib.ListN.{drop, getD}
 use borrow.Author.Tests.{le-leb, lt-leb, lt-ltb, le-ltb}
 use Rattle.fields.specs.Varint.{largest}
 use Rattle.records.specs.Answers.{ok, refused}
-use Rattle.rows.specs.Rows.{Tables, rowsIn, Room, Proper}
+use Rattle.rows.specs.Rows.{Row, Tables, rowsIn, Room, Proper}
 use Rattle.rows.specs.Removals.{Removal, removalOf, proper, totalRows, total, anyBytes, has}
 use Rattle.rows.specs.Calls.{within, hasRemoval, totalRemoved}
 use Rattle.rows.specs.declared.removal.Removed.{Removed}
@@ -34,6 +35,14 @@ module _ {n : ℕ} {t : Tables} (r : Room n t) (i : ℕ) where
   pub total-end : n ≤ i → totalRows (drop i (rowsIn n t)) ≡ 0
   unfolding totalRows
   total-end h = rw (rows-end r i h)
+
+pub total-none : totalRows [] ≡ 0
+unfolding totalRows
+total-none = refl
+
+pub total-cons : (r : Row) (rs : List Row) → totalRows (r ∷ rs) ≡ r .part .bytes + totalRows rs
+unfolding totalRows
+total-cons r rs = refl
 
 pub within-over : (n : ℕ) → largest < n → within n ≡ refused 9
 within-over n h = rw (lt-leb _ _ h)

@@ -1,7 +1,7 @@
 -- Rows and the three tables that hold them: their places, their room, and when they are proper.
 -- Assumes nothing.
-use mathlib.Core.Path.{_≡_, refl, _∙_}
-use mathlib.Core.List.{List, [], _∷_}
+use mathlib.Core.Path.{_≡_, refl, sym, ap, _∙_}
+use mathlib.Core.List.{List, [], _∷_, _++_}
 use mathlib.Core.Bool.{true, false, _&&_, and-false, and-eq-true-iff}
 use Prim.Native.Nat.{ℕ, zero, suc, _+_, _-_, _≤_, _<_}
 use native.Mathlib.Nat.{le-of-suc-le-suc, not-suc-le-zero}
@@ -9,11 +9,11 @@ use native.Mathlib.Numerals.{add-one}
 use native.Mathlib.Omega.{arith}
 use lib.Dec.{leb}
 use lib.ListN.{length, take, drop, getD, drop-of-length-le}
-use lib.Seq.{drop-cons, length-take-le, getD-take}
+use lib.Seq.{drop-cons, length-take-le, getD-take, take-suc, take-take}
 use borrow.Author.Tests.{leb-true, le-leb, lt-leb}
 use Rattle.records.specs.Tables.{recordsOf}
 use Rattle.rows.specs.Order.{isLess}
-use Rattle.rows.specs.Rows.{Row, row, compared, leads, ascends, Tables, rowsOf, rowsIn, rowAt, roomIn, properRows, Room, Proper}
+use Rattle.rows.specs.Rows.{Row, row, compared, leads, ascends, Tables, tables, rowsOf, rowsIn, rowAt, roomIn, properRows, Room, Proper}
 use Rattle.rows.specs.declared.order.Order.{Order}
 use Rattle.rows.specs.declared.order.Order.the-variants.{Less, Equal, Greater}
 
@@ -58,6 +58,15 @@ module _ {n : ℕ} {t : Tables} (r : Room n t) where
 
   pub rows-end : (i : ℕ) → n ≤ i → drop i (rowsIn n t) ≡ []
   rows-end i h = drop-of-length-le (rowsIn n t) {i = i} (rw length-rows h)
+
+  -- the last row, behind those before it
+  pub rows-last : 0 < n → rowsIn n t ≡ rowsIn (n - 1) t ++ (rowAt t (n - 1) ∷ [])
+  rows-last h =
+      let all = rowsOf (t .ids) (recordsOf (t .epochs) (t .bytes)) in
+      let e : n ≡ suc (n - 1) = omega arith in
+      let l : n - 1 < length all = omega (arith, as-long (t .ids) (t .epochs) (t .bytes) n (r .ids-long) (r .epochs-long) (r .bytes-long)) in
+      ap (λ (k : ℕ). take k all) e ∙ take-suc all (n - 1) no-row l
+      ∙ ap (λ (x : Row). take (n - 1) all ++ (x ∷ [])) (sym (getD-take n all (n - 1) no-row (omega arith)) ∙ row-at (n - 1) (omega arith))
 
 -- ---- room
 
@@ -116,6 +125,11 @@ unfolding ascends
 asc-cons a [] h s = refl
 asc-cons a (b ∷ l) h s = rw h s
 
+pub asc-drop : (l : List Row) (i : ℕ) → ascends l ≡ true → ascends (drop i l) ≡ true
+asc-drop l zero h = h
+asc-drop [] (suc i) h = h
+asc-drop (a ∷ l) (suc i) h = asc-drop l i (asc-tail a l h)
+
 module _ {n : ℕ} {t : Tables} (r : Room n t) (i : ℕ) where
   asc-at : i + 1 < n → ascends (drop i (rowsIn n t)) ≡ (isLess (compared (rowAt t i) (rowAt t (i + 1))) && ascends (drop (i + 1) (rowsIn n t)))
   unfolding ascends
@@ -156,3 +170,37 @@ module _ (n : ℕ) (t : Tables) where
   proper-rows h =
       let a = and-eq-true-iff (roomIn n t) (ascends (rowsIn n t)) .0 h in
       record { room = room-in n t (a .0); rises = a .1 }
+
+-- ---- the first of proper rows
+
+before-first : (a : Row) (l : List Row) (i : ℕ) → Before a l → Before a (take i l)
+before-first a [] zero h = tt
+before-first a [] (suc i) h = tt
+before-first a (b ∷ l) zero h = tt
+before-first a (b ∷ l) (suc i) h = h
+
+asc-first : (l : List Row) (i : ℕ) → ascends l ≡ true → ascends (take i l) ≡ true
+asc-first [] zero h = asc-none
+asc-first [] (suc i) h = asc-none
+asc-first (a ∷ l) zero h = asc-none
+asc-first (a ∷ l) (suc i) h = asc-cons a (take i l) (before-first a l i (asc-before a l h)) (asc-first l i (asc-tail a l h))
+
+pub proper-first : {n : ℕ} {t : Tables} (m : ℕ) → m ≤ n → Proper n t → Proper m t
+proper-first {n} {t} m h p =
+    record { room = room-less m h (p .room); rises = ap ascends (sym (take-take m n _ h)) ∙ asc-first (rowsIn n t) m (p .rises) }
+
+pub proper-none : (t : Tables) → Proper 0 t
+proper-none t = record { room = record { ids-long = omega arith; epochs-long = omega arith; bytes-long = omega arith }; rises = asc-none }
+
+-- ---- one row
+
+pub rows-one : (i : List ℕ) (e n : ℕ) → rowsIn 1 (tables (i ∷ []) (e ∷ []) (n ∷ [])) ≡ row i e n ∷ []
+unfolding rowsOf recordsOf
+rows-one i e n = refl
+
+pub proper-one : (i : List ℕ) (e n : ℕ) → Proper 1 (tables (i ∷ []) (e ∷ []) (n ∷ []))
+proper-one i e n =
+    record {
+      room = record { ids-long = omega arith; epochs-long = omega arith; bytes-long = omega arith };
+      rises = ap ascends (rows-one i e n) ∙ asc-cons (row i e n) [] tt asc-none;
+    }

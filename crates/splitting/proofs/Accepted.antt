@@ -17,7 +17,7 @@ use Rattle.rows.specs.Rows.{Row, Tables, row, partsOf, ascends, roomIn, overRow
 use Rattle.rows.specs.Removals.{Removal, rowsOfRemoval, stateOf, removalOf, total, proper as properRemoval}
 use Rattle.rows.proofs.Rows.{asc-none, asc-cons}
 use Rattle.rows.proofs.Under.{under-one}
-use Rattle.rows.proofs.Over.{removal-over, proper-removal-over}
+use Rattle.rows.proofs.Over.{removal-over, proper-over}
 use Rattle.splitting.specs.Sections.{sections, split, allowed, besideBase}
 use Rattle.splitting.specs.Calls.{Split, parted, splitOf, Told, After, kept, placing, splitRemoved}
 use Rattle.splitting.proofs.Sums.{key-sum, value-sum}
@@ -119,8 +119,8 @@ module _ (h : Head) (es cs : List ℕ) (keyBytes valueBytes : ℕ) (kt vt : Tabl
       let i = idOf (ownerOf h) in
       let rs = flagsOf h es cs .records in
       record {
-        key-proper = (λ z. properRemoval (l .answer z .key) (l .key z)) ∙ proper-removal-over (s .key) kt (key-ascends i (h .base) rs keyBytes valueBytes);
-        value-proper = (λ z. properRemoval (l .answer z .value) (l .value z)) ∙ proper-removal-over (s .value) vt (value-ascends i (h .base) rs keyBytes valueBytes rises);
+        key-proper = (λ z. properRemoval (l .answer z .key) (l .key z)) ∙ proper-over (s .key) kt (key-ascends i (h .base) rs keyBytes valueBytes);
+        value-proper = (λ z. properRemoval (l .answer z .value) (l .value z)) ∙ proper-over (s .value) vt (value-ascends i (h .base) rs keyBytes valueBytes rises);
         key-comes-to = ap total key-stands ∙ key-sum i (h .base) rs keyBytes valueBytes;
         value-comes-to = ap total value-stands ∙ value-sum i (h .base) rs keyBytes valueBytes;
         visited-are = ap (λ (u : Told). u .visited) (l .answer) ∙ visited-beside i (h .base) rs keyBytes valueBytes rises

@@ -10,6 +10,7 @@ use Rattle.records.specs.Tables.{At, _⦂_, recordsOf}
 use Rattle.rows.specs.Rows.{Row, row, rowsUnder, Tables, overRows, setRow, Room}
 use Rattle.rows.specs.Removals.{Removal, nothing, sectioned, rowsOfRemoval, stateOf}
 use Rattle.rows.specs.declared.removal.Removed.the-variants.{None, Sectioned}
+use Rattle.rows.proofs.Columns.{over-nothing}
 use Rattle.rows.proofs.Backing.{Backing, backing-start, backing-room, backing-step, backing-done}
 use Rattle.rows.proofs.Under.{under-none, under-one, under-last, length-under}
 use Rattle.splitting.specs.Sections.{minimum, section, split}
@@ -27,15 +28,11 @@ pub removal-some : (i : List ℕ) (n : ℕ) (ss : List At) → 0 < n → removal
 removal-some i zero ss h = absurd (omega arith)
 removal-some i (suc n) ss h = refl
 
--- no rows change nothing
-none-placed : (t : Tables) → t ≡ overRows [] t
-none-placed t = backing-done (backing-start [] t (record { ids-long = omega arith; epochs-long = omega arith; bytes-long = omega arith })) refl
-
 module _ (i : List ℕ) (n : ℕ) (ss : List At) (t : Tables) where
   pub nothing-placed : n ≡ 0 → PlacedRemoval (removalOf i n ss) None t t
   nothing-placed h =
       let e = removal-none i n ss h in
-      record { state = sym (ap stateOf e); rows = none-placed t ∙ ap (λ (r : Removal). overRows (rowsOfRemoval r) t) (sym e) }
+      record { state = sym (ap stateOf e); rows = sym (over-nothing t) ∙ ap (λ (r : Removal). overRows (rowsOfRemoval r) t) (sym e) }
 
   pub rows-placed : {t′ : Tables} → 0 < n → (k : ℕ) → k ≡ length ss → t′ ≡ overRows (rowsUnder i ss) t → PlacedRemoval (removalOf i n ss) (Sectioned k) t t′
   rows-placed h k l p =

@@ -1,0 +1,11 @@
+-- What the proofs share, and the crates above cite. Assumes nothing.
+pub mod Adding
+pub mod Joining
+pub mod Lasts
+pub mod Losing
+pub mod Answering
+pub mod Basics
+pub mod Exact
+pub mod Reading
+pub mod Only
+pub mod Marked

@@ -1,0 +1,138 @@
+-- The rows of the zero identifier stand first, since no identifier of 32 bytes is less; what is lost of them at version 0.
+-- Assumes nothing.
+use mathlib.Core.Path.{_≡_, refl, sym, ap, _∙_}
+use mathlib.Core.Bool.{Bool, true, false, cond}
+use mathlib.Core.List.{List, [], _∷_}
+use Prim.Native.Nat.{ℕ, zero, suc, _+_, _-_, _≤_, _<_}
+use native.Mathlib.Omega.{arith}
+use lib.Dec.{leb, ltb}
+use lib.ListN.{length, take, drop, getD}
+use borrow.Author.Tests.{lt-ltb, le-ltb, le-leb, lt-leb}
+use Rattle.records.specs.Flags.{zeros, same}
+use Rattle.records.proofs.Owners.{same-self, same-equal}
+use Rattle.rows.specs.Order.{by, order}
+use Rattle.rows.specs.Rows.{Row, row, compared, ascends, Tables, tables, rowsIn, rowAt, Room, Proper}
+use Rattle.rows.specs.declared.order.Order.{Order}
+use Rattle.rows.specs.declared.order.Order.the-variants.{Less, Equal, Greater}
+use Rattle.rows.proofs.Comparing.{order-same, order-self, compared-parts, greater-less, greater-equal}
+use Rattle.rows.proofs.Rows.{rows-on, rows-end, asc-drop}
+use Rattle.sums.specs.Joins.{addRow}
+use Rattle.sums.specs.Sums.{unknown, ofNone, anyOfNone, withoutNone, basicPlus, Lost}
+use Rattle.sums.proofs.Joining.{AllAfter, all-after}
+
+-- ---- one identifier
+
+pub zero-same : (i : List ℕ) → order i zeros ≡ Equal → same i zeros ≡ true
+zero-same i h = ap (λ (x : List ℕ). same x zeros) (order-same i zeros h) ∙ same-self zeros
+
+pub zero-other : (i : List ℕ) → order i zeros ≡ Greater → same i zeros ≡ false
+zero-other i h = go (same i zeros) refl
+  where
+    go : (b : Bool) → same i zeros ≡ b → b ≡ false
+    go true e = absurd (greater-equal (sym h ∙ ap (λ (x : List ℕ). order x zeros) (same-equal i zeros e) ∙ order-self zeros))
+    go false e = refl
+
+-- behind a row above the zeros none has the zero identifier
+later-other : (a b : Row) → length (a .identifier) ≡ 32 → order (a .identifier) zeros ≡ Greater → compared a b ≡ Less → ofNone b ≡ false
+later-other a b l h k = go (same (b .identifier) zeros) refl
+  where
+    go : (x : Bool) → same (b .identifier) zeros ≡ x → x ≡ false
+    go false e = refl
+    go true e =
+        let z : b .identifier ≡ zeros = same-equal (b .identifier) zeros e in
+        let g : compared a b ≡ Greater = compared-parts Greater (a .identifier) (b .identifier) (a .part .epoch) (b .part .epoch) (a .part .bytes) (b .part .bytes) (l ∙ sym (ap (length {A = ℕ}) z)) (ap (order (a .identifier)) z ∙ h) in
+        absurd (greater-less (sym g ∙ k))
+
+-- ---- all rows
+
+module _ (a : Row) (rs : List Row) where
+  without-zero : ofNone a ≡ true → withoutNone (a ∷ rs) ≡ withoutNone rs
+  unfolding withoutNone
+  without-zero z = rw z
+
+  without-other : ofNone a ≡ false → withoutNone (a ∷ rs) ≡ a ∷ withoutNone rs
+  unfolding withoutNone
+  without-other z = rw z
+
+  any-zero : ofNone a ≡ true → anyOfNone (a ∷ rs) ≡ true
+  unfolding anyOfNone
+  any-zero z = rw z
+
+  any-other : ofNone a ≡ false → anyOfNone (a ∷ rs) ≡ anyOfNone rs
+  unfolding anyOfNone
+  any-other z = rw z
+
+module _ (a : Row) (l : length (a .identifier) ≡ 32) (h : order (a .identifier) zeros ≡ Greater) where
+  none-lost : (rs : List Row) → AllAfter a rs → withoutNone rs ≡ rs
+  unfolding withoutNone
+  none-lost [] k = refl
+  none-lost (b ∷ rs) k = without-other b rs (later-other a b l h (k .0)) ∙ ap (λ (m : List Row). b ∷ m) (none-lost rs (k .1))
+
+  none-there : (rs : List Row) → AllAfter a rs → anyOfNone rs ≡ false
+  unfolding anyOfNone
+  none-there [] k = refl
+  none-there (b ∷ rs) k = any-other b rs (later-other a b l h (k .0)) ∙ none-there rs (k .1)
+
+-- the first k of n rows have the zero identifier
+pub record Losing (rs : List Row) (k : ℕ) : Type 0 where
+  pub others : withoutNone rs ≡ withoutNone (drop k rs)
+  pub some-lost : anyOfNone rs ≡ cond (ltb 0 k) true (anyOfNone (drop k rs))
+
+pub losing-start : (rs : List Row) → Losing rs 0
+losing-start rs = record { others = refl; some-lost = refl }
+
+or-false : (b : Bool) → cond b true false ≡ b
+or-false true = refl
+or-false false = refl
+
+or-true : (b : Bool) → cond b true true ≡ true
+or-true true = refl
+or-true false = refl
+
+module _ {n : ℕ} {t : Tables} (p : Proper n t) (k : ℕ) (w : Losing (rowsIn n t) k) where
+  pub losing-more : k < n → order (getD (t .ids) k []) zeros ≡ Equal → Losing (rowsIn n t) (k + 1)
+  losing-more h e =
+      let z = zero-same (getD (t .ids) k []) e in
+      let on = rows-on (p .room) k h in
+      let rest = drop (k + 1) (rowsIn n t) in
+      record {
+        others = w .others ∙ ap withoutNone on ∙ without-zero (rowAt t k) rest z;
+        some-lost = w .some-lost ∙ ap (cond (ltb 0 k) true) (ap anyOfNone on ∙ any-zero (rowAt t k) rest z) ∙ or-true (ltb 0 k)
+            ∙ sym (ap (λ (b : Bool). cond b true (anyOfNone rest)) (lt-ltb 0 (k + 1) (omega arith)));
+      }
+
+  pub losing-stop : k < n → length (getD (t .ids) k []) ≡ 32 → order (getD (t .ids) k []) zeros ≡ Greater → Lost (rowsIn n t) n k
+  losing-stop h l e =
+      let a = rowAt t k in
+      let z = zero-other (getD (t .ids) k []) e in
+      let on = rows-on (p .room) k h in
+      let rest = drop (k + 1) (rowsIn n t) in
+      let after = all-after a rest (ap ascends (sym on) ∙ asc-drop (rowsIn n t) k (p .rises)) in
+      record {
+        within = omega arith;
+        others = w .others ∙ ap withoutNone on ∙ without-other a rest z ∙ ap (λ (m : List Row). a ∷ m) (none-lost a l e rest after) ∙ sym on;
+        some-lost = w .some-lost ∙ ap (cond (ltb 0 k) true) (ap anyOfNone on ∙ any-other a rest z ∙ none-there a l e rest after) ∙ or-false (ltb 0 k);
+      }
+
+  pub losing-end : k ≤ n → n ≤ k → Lost (rowsIn n t) n k
+  unfolding withoutNone anyOfNone
+  losing-end g h = record { within = g; others = w .others ∙ rw (rows-end (p .room) k h); some-lost = w .some-lost ∙ rw (rows-end (p .room) k h) (or-false (ltb 0 k)) }
+
+-- ---- a basic number plus rows, by the version and by how many are lost
+
+pub basic-later : (v n : ℕ) (rs : List Row) → 1 ≤ v → basicPlus v n rs ≡ addRow (unknown n) rs
+unfolding basicPlus
+basic-later v n rs h = rw (le-leb 1 v h)
+
+module _ (v n : ℕ) {rs : List Row} {m k : ℕ} (l : Lost rs m k) where
+  pub basic-made : k ≤ 0 → basicPlus v n rs ≡ addRow (unknown n) rs
+  unfolding basicPlus
+  basic-made h = rw (l .some-lost, le-ltb 0 k h) (same-made (leb 1 v))
+    where
+      same-made : (b : Bool) → cond b (addRow (unknown n) rs) (addRow (unknown n) rs) ≡ addRow (unknown n) rs
+      same-made true = refl
+      same-made false = refl
+
+  pub basic-lost : v ≡ 0 → 0 < k → basicPlus v n rs ≡ drop k rs
+  unfolding basicPlus
+  basic-lost e h = rw (lt-leb 1 v (omega arith), l .some-lost, lt-ltb 0 k h) (l .others)

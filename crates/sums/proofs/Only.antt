@@ -1,0 +1,24 @@
+-- The statement of `add_assign` leaves no choice: what is shown of an outcome tells it.
+-- Assumes nothing.
+use mathlib.Core.Path.{_≡_, refl, sym, ap, _∙_}
+use Rattle.records.specs.Answers.{Answer, ok, refused}
+use Rattle.records.proofs.Only.{same-only, named, named-back}
+use Rattle.rows.specs.Rows.{Tables}
+use Rattle.rows.specs.declared.removal.Removed.{Removed}
+use Rattle.sums.specs.Calls.{After, told, shown}
+use Rattle.sums.specs.declared.sum.Summed.{Summed}
+use Rattle.sums.specs.declared.sum.Summed.the-variants.{Sum, Refused}
+
+-- the answer that a state or a refusal's number tells
+abbrev toldAs : Answer Removed → Summed
+toldAs (ok s) = Sum (record { removed = s })
+toldAs (refused n) = Refused (named n)
+
+told-back : (s : Summed) → toldAs (told s) ≡ s
+told-back (Sum s) = refl
+told-back (Refused r) = ap Refused (named-back r)
+
+pub shown-only : (a b : Summed) (t u : Tables) (x : After) → shown a t ≡ x → shown b u ≡ x → (a ≡ b) × (t ≡ u)
+shown-only a b t u x p q =
+    let e = same-only _ _ x p q in
+    (sym (told-back a) ∙ ap (λ (w : After). toldAs (w .answer)) e ∙ told-back b, ap (λ (w : After). w .rows) e)

@@ -1,0 +1,122 @@
+-- What an accepted `add_assign` leaves reads back as the sum, and is proper again.
+-- Assumes nothing.
+use mathlib.Core.Path.{_≡_, refl, sym, ap, _∙_}
+use mathlib.Core.Bool.{Bool, true, false, cond}
+use mathlib.Core.List.{List, [], _∷_}
+use Prim.Native.Nat.{ℕ}
+use native.Mathlib.Omega.{arith}
+use lib.Dec.{leb}
+use lib.ListN.{length}
+use Rattle.records.specs.Answers.{Answer, ok, refused}
+use Rattle.rows.specs.Rows.{Row, compared, ascends, Tables, rowsIn, roomIn, properRows, overRows}
+use Rattle.rows.specs.Removals.{Removal, nothing, basic, sectioned, removalOf, proper, rowsOfRemoval, stateOf}
+use Rattle.rows.specs.declared.order.Order.the-variants.{Less}
+use Rattle.rows.specs.declared.removal.Removed.{Removed}
+use Rattle.rows.specs.declared.removal.Removed.the-variants.{None, Basic, Sectioned}
+use Rattle.rows.proofs.Rows.{Before, asc-before, asc-tail, asc-cons, proper-room, proper-rows}
+use Rattle.rows.proofs.Columns.{over-rows, rows-back}
+use Rattle.sums.specs.Joins.{addRow}
+use Rattle.sums.specs.Sums.{unknown, ofNone, anyOfNone, withoutNone, basicPlus, sum}
+use Rattle.sums.specs.Calls.{After, kept, placing, summed}
+use Rattle.sums.proofs.Adding.{less-trans, add-ascends}
+use Rattle.sums.proofs.Joining.{joined-ascends}
+use Rattle.sums.proofs.Exact.{Ascending}
+
+-- ---- a sum of ascending rows ascends, at every version
+
+before-without : (a : Row) (l : List Row) → ascends l ≡ true → Before a l → Before a (withoutNone l)
+unfolding withoutNone
+before-without a [] s h = tt
+before-without a (b ∷ l) s h = go (ofNone b) (before-without a l (asc-tail b l s) (further a b l h (asc-before b l s)))
+  where
+    further : (a b : Row) (l : List Row) → compared a b ≡ Less → Before b l → Before a l
+    further a b [] h k = tt
+    further a b (c ∷ l) h k = less-trans a b c h k
+
+    go : (z : Bool) → Before a (withoutNone l) → Before a (cond z (withoutNone l) (b ∷ withoutNone l))
+    go true k = k
+    go false k = h
+
+without-ascends : (l : List Row) → ascends l ≡ true → ascends (withoutNone l) ≡ true
+unfolding withoutNone
+without-ascends [] s = s
+without-ascends (b ∷ l) s = go (ofNone b) (without-ascends l (asc-tail b l s))
+  where
+    go : (z : Bool) → ascends (withoutNone l) ≡ true → ascends (cond z (withoutNone l) (b ∷ withoutNone l)) ≡ true
+    go true k = k
+    go false k = asc-cons b (withoutNone l) (before-without b l (asc-tail b l s) (asc-before b l s)) k
+
+basic-ascends : (v n : ℕ) (l : List Row) → ascends l ≡ true → ascends (basicPlus v n l) ≡ true
+unfolding basicPlus
+basic-ascends v n l s = go (leb 1 v) (anyOfNone l)
+  where
+    go : (p q : Bool) → ascends (cond p (addRow (unknown n) l) (cond q (withoutNone l) (addRow (unknown n) l))) ≡ true
+    go true q = add-ascends (unknown n) l s
+    go false true = without-ascends l s
+    go false false = add-ascends (unknown n) l s
+
+-- A SUM OF PROPER REMOVALS IS PROPER
+pub sum-ascends : (v : ℕ) (x y : Removal) → Ascending x → Ascending y → Ascending (sum v x y)
+sum-ascends v nothing y p q = q
+sum-ascends v (basic m) nothing p q = tt
+sum-ascends v (basic m) (basic n) p q = tt
+sum-ascends v (basic m) (sectioned ys) p q = basic-ascends v m ys q
+sum-ascends v (sectioned xs) nothing p q = p
+sum-ascends v (sectioned xs) (basic n) p q = add-ascends (unknown n) xs p
+sum-ascends v (sectioned xs) (sectioned ys) p q = joined-ascends xs ys q
+
+-- ---- what is left in the tables
+
+pub proper-ascends : (x : Removed) (t : Tables) → proper x t ≡ true → Ascending (removalOf x t)
+proper-ascends None t h = tt
+proper-ascends (Basic n) t h = tt
+proper-ascends (Sectioned n) t h = proper-rows n t h .rises
+
+-- a removal over the tables that hold its rows
+module _ (t : Tables) where
+  pub left-reads : (r : Removal) → removalOf (stateOf r) (overRows (rowsOfRemoval r) t) ≡ r
+  left-reads nothing = refl
+  left-reads (basic n) = refl
+  left-reads (sectioned rs) = ap sectioned (rows-back rs t)
+
+  pub left-proper : (r : Removal) → Ascending r → proper (stateOf r) (overRows (rowsOfRemoval r) t) ≡ true
+  left-proper nothing h = refl
+  left-proper (basic n) h = refl
+  left-proper (sectioned rs) h = proper-room (over-rows rs t) ∙ ap ascends (rows-back rs t) ∙ h
+
+ok-same : (x y : Removed) → _≡_ {A = Answer Removed} (ok x) (ok y) → x ≡ y
+ok-same x y e = cc
+
+refused-ok : (n : ℕ) (s : Removed) → _≡_ {A = Answer Removed} (refused n) (ok s) → ⊥
+refused-ok n s e = let z : _≡_ {A = ℕ} 0 1 = cc in omega arith
+
+-- an accepted call: the state and the tables are the sum, and proper
+pub record Read (v : ℕ) (x : Removed) (t : Tables) (y : Removed) (u : Tables) (s : Removed) (a : After) : Type 0 where
+  pub is-sum : removalOf s (a .rows) ≡ sum v (removalOf x t) (removalOf y u)
+  pub is-proper : proper s (a .rows) ≡ true
+
+-- WHAT IS LEFT IS THE SUM, AND PROPER
+pub sum-read : (v : ℕ) (x : Removed) (t : Tables) (y : Removed) (u : Tables) (s : Removed) → summed v x t y u .answer ≡ ok s
+    → Read v x t y u s (summed v x t y u)
+unfolding summed placing
+sum-read v x t y u s h = go (proper x t) refl (proper y u) refl (roomIn (length (rowsOfRemoval all)) t) h
+  where
+    all : Removal
+    all = sum v (removalOf x t) (removalOf y u)
+
+    placed : After
+    placed = record { answer = ok (stateOf all); rows = overRows (rowsOfRemoval all) t }
+
+    go : (p : Bool) → proper x t ≡ p → (q : Bool) → proper y u ≡ q → (f : Bool)
+        → cond (mathlib.Core.Bool._&&_ p q) (cond f placed (kept 10 t)) (kept 11 t) .answer ≡ ok s
+        → Read v x t y u s (cond (mathlib.Core.Bool._&&_ p q) (cond f placed (kept 10 t)) (kept 11 t))
+    go true ep true eq true k =
+        let e : stateOf all ≡ s = ok-same (stateOf all) s k in
+        record {
+          is-sum = ap (λ (z : Removed). removalOf z (placed .rows)) (sym e) ∙ left-reads t all;
+          is-proper = ap (λ (z : Removed). proper z (placed .rows)) (sym e)
+              ∙ left-proper t all (sum-ascends v (removalOf x t) (removalOf y u) (proper-ascends x t ep) (proper-ascends y u eq));
+        }
+    go true ep true eq false k = absurd (refused-ok 10 s k)
+    go true ep false eq f k = absurd (refused-ok 11 s k)
+    go false ep q eq f k = absurd (refused-ok 11 s k)

@@ -1,0 +1,53 @@
+-- `sums::join::join_in_place` meets its contract: from place k on the tables are as they end, and before it as they began. Assumes nothing.
+use mathlib.Core.Path.{sym, ap, _∙_}
+use Prim.Native.Nat.{_+_}
+use native.Mathlib.Omega.{arith}
+use borrow.Author.Needs.{needs}
+use Rattle.rows.specs.Rows.{Tables, tables}
+use Rattle.rows.proofs.Backing.{backing-long}
+use Rattle.sums.proofs.Lasts.{Walking, walking-start, walking-ours, walking-theirs, walking-room, walking-step, walking-done}
+use Rattle.sums.proofs.join.join_in_place.Statement.{statement}
+use Rattle.sums.proofs.join.join_in_place.Tie as tie
+
+abbrev Inv-loop : tie.InvT-loop
+Inv-loop ids₀ epochs₀ bytes₀ n rhs-ids rhs-epochs rhs-bytes m count i₀ j₀ k₀ ids epochs bytes i j k =
+    Walking (tables ids₀ epochs₀ bytes₀) (tables ids epochs bytes) (tables rhs-ids rhs-epochs rhs-bytes) n m i j k
+
+abbrev μ-loop : tie.MeasureT-loop
+μ-loop ids₀ epochs₀ bytes₀ n rhs-ids rhs-epochs rhs-bytes m count i₀ j₀ k₀ ids epochs bytes i j k = i + j
+
+loop-holds : tie.Need-loop-holds Inv-loop μ-loop
+loop-holds c = let p = c .before .before .before .before .pre in walking-start _ _ _ _ _ (p .1 .1 .0) (p .1 .1 .1)
+
+last-row-requires : tie.Need-last-row-requires Inv-loop μ-loop
+last-row-requires c κs =
+    let p = c .before .before .before .before .before .before .before .before .before .pre in
+    let l = c .before .before .before .before .loop .inv in
+    (walking-ours (p .0) (p .1 .0) l, (walking-theirs (p .0) (p .1 .0) l, c .before .before .before .loop-test .taken))
+
+loop-again : tie.Need-loop-again Inv-loop μ-loop
+loop-again c =
+    let p = c .before .before .before .before .before .before .before .before .before .before .before .before .before .before .before .before .before .before .before .before .pre in
+    walking-step (p .0) (p .1 .0) (c .before .before .before .before .before .before .before .before .before .before .before .before .before .before .before .loop .inv) (c .before .before .before .before .before .before .before .before .before .before .last-row .ensures) (c .before .before .before .before .before .put-row .ensures)
+
+returns : tie.Need-returns Inv-loop μ-loop
+returns c =
+    let p = c .before .before .before .before .before .before .pre in
+    walking-done (p .0) (p .1 .0) (c .before .loop .inv) (c .loop-test .left)
+
+pub join-in-place-spec : {M : Type 1} → statement M
+join-in-place-spec =
+    tie.close
+    (tie.spec
+    Inv-loop
+    μ-loop
+    loop-holds
+    last-row-requires
+    (λ c. let p = c .before .before .before .before .before .before .before .before .before .before .pre in omega (arith, walking-room (p .0) (p .1 .0) (c .before .before .before .before .before .loop .inv) (c .last-row .ensures) .0))
+    (λ c κs. let p = c .before .before .before .before .before .before .before .before .before .before .before .before .before .before .pre in walking-room (p .0) (p .1 .0) (c .before .before .before .before .before .before .before .before .before .loop .inv) (c .before .before .before .before .last-row .ensures) .1)
+    (λ c. c .before .before .before .before .before .before .before .before .before .before .last-row .ensures .falls)
+    loop-again
+    (λ c. backing-long (c .before .loop .inv .back) .0)
+    (λ c. backing-long (c .before .loop .inv .back) .1)
+    (λ c. backing-long (c .before .loop .inv .back) .2)
+    returns)

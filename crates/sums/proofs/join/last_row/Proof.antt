@@ -1,0 +1,67 @@
+-- `sums::join::last_row` meets its contract, by how the last rows of both sides stand. Assumes nothing.
+use mathlib.Core.Path.{sym, _∙_}
+use native.Mathlib.Omega.{arith}
+use borrow.Author.Needs.{needs}
+use Rattle.sums.proofs.Lasts.{step-none, step-theirs, step-both, step-ours}
+use Rattle.sums.proofs.join.last_row.Statement.{statement}
+use Rattle.sums.proofs.join.last_row.Tie as tie
+
+returns : tie.Need-returns
+returns c = let p = c .before .before .before .before .before .before .before .before .pre in step-none (p .0) (p .1 .0) (p .1 .1) (c .before .before .before .if1 .taken)
+
+returns-2 : tie.Need-returns-2
+returns-2 c =
+    let p = c .before .before .before .before .before .before .before .before .before .before .before .pre in
+    step-theirs (p .0) (p .1 .0) (p .1 .1) (omega arith) (sym (c .before .before .before .before .before .compare-rows .ensures) ∙ c .before .before .before .enum-told .given .1)
+
+returns-3 : tie.Need-returns-3
+returns-3 c =
+    let p = c .before .before .before .before .before .before .before .before .before .before .before .before .before .pre in
+    step-both (p .0) (p .1 .0) (p .1 .1) (omega arith) _ (c .saturating-add .ensures) (sym (c .before .before .before .before .before .before .before .compare-rows .ensures) ∙ c .before .before .before .before .before .enum-told2 .given .1)
+
+returns-4 : tie.Need-returns-4
+returns-4 c =
+    let p = c .before .before .before .before .before .before .before .before .before .before .before .pre in
+    step-ours (p .0) (p .1 .0) (p .1 .1) (omega arith) (sym (c .before .before .before .before .before .compare-rows .ensures) ∙ c .before .before .before .enum-told3 .given .1)
+
+pub last-row-spec : {M : Type 1} → statement M
+last-row-spec =
+    tie.close
+    (tie.spec
+    (λ c. search needs)
+    (λ c. search needs)
+    (λ c. search needs)
+    (λ c. search needs)
+    (λ c. search needs)
+    (λ c. search needs)
+    (λ c. search needs)
+    returns
+    (λ c. search needs)
+    (λ c κs. search needs)
+    (λ c. search needs)
+    (λ c. search needs)
+    (λ c. search needs)
+    (λ c. search needs)
+    (λ c. search needs)
+    (λ c. search needs)
+    (λ c. search needs)
+    (λ c. search needs)
+    (λ c. search needs)
+    (λ c. search needs)
+    (λ c. search needs)
+    (λ c. search needs)
+    (λ c. search needs)
+    (λ c. search needs)
+    (λ c. search needs)
+    (λ c. search needs)
+    (λ c κs. search needs)
+    (λ c. search needs)
+    (λ c. search needs)
+    (λ c. search needs)
+    (λ c. search needs)
+    (λ c. search needs)
+    (λ c. search needs)
+    (λ c. search needs)
+    returns-2
+    returns-3
+    returns-4)

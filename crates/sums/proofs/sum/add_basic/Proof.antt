@@ -1,0 +1,29 @@
+-- `sums::sum::add_basic` meets its contract: the number is one row, joined to ours. Assumes nothing.
+use mathlib.Core.Path.{ap, _∙_}
+use mathlib.Core.List.{List}
+use borrow.Author.Needs.{needs}
+use Rattle.rows.specs.Rows.{Row, tables}
+use Rattle.rows.specs.Removals.{sectioned}
+use Rattle.sums.specs.Calls.{placing}
+use Rattle.sums.proofs.Basics.{one-proper, one-joined}
+use Rattle.sums.proofs.sum.add_basic.Statement.{statement}
+use Rattle.sums.proofs.sum.add_basic.Tie as tie
+
+returns : tie.Need-returns
+returns c =
+    let b = c .before .before .before .before .before .before .before .before .before .before .before .before .before .before in
+    c .before .before .before .before .before .add-rows .ensures
+    ∙ ap (λ (l : List Row). placing (sectioned l) (tables (b .args .ids .now) (b .args .epochs .now) (b .args .bytes .now))) (one-joined (b .args .removed-bytes) (b .pre))
+
+pub add-basic-spec : {M : Type 1} → statement M
+add-basic-spec =
+    tie.close
+    (tie.spec
+    (λ c. search needs)
+    (λ c. search needs)
+    (λ c. search needs)
+    (λ c κs. (c .before .before .before .before .before .before .before .before .pre, one-proper (c .before .before .before .before .before .before .before .before .args .removed-bytes)))
+    (λ c. search needs)
+    (λ c. search needs)
+    (λ c. search needs)
+    returns)

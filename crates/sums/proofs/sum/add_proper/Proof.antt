@@ -1,0 +1,45 @@
+-- `sums::sum::add_proper` meets its contract, by the left state's cases. Assumes nothing.
+use mathlib.Core.Path.{sym, ap, _∙_}
+use borrow.Author.Needs.{needs}
+use Rattle.rows.specs.Rows.{Tables, tables}
+use Rattle.rows.specs.Removals.{removalOf}
+use Rattle.rows.specs.declared.removal.Removed.{Removed}
+use Rattle.rows.proofs.Removals.{proper-sectioned}
+use Rattle.sums.specs.Sums.{sum}
+use Rattle.sums.specs.Calls.{After, placing}
+use Rattle.sums.proofs.sum.add_proper.Statement.{statement}
+use Rattle.sums.proofs.sum.add_proper.Tie as tie
+
+-- ours and the right one's
+abbrev ours : tie.Start → Tables
+ours c = tables (c .args .ids .now) (c .args .epochs .now) (c .args .bytes .now)
+
+abbrev rhs : tie.Start → Tables
+rhs c = tables (c .args .rhs-ids .now) (c .args .rhs-epochs .now) (c .args .rhs-bytes .now)
+
+-- what is left where the left state is x
+abbrev left : tie.Start → Removed → After
+left c x = placing (sum (c .args .version) (removalOf x (ours c)) (removalOf (c .args .rhs) (rhs c))) (ours c)
+
+pub add-proper-spec : {M : Type 1} → statement M
+add-proper-spec =
+    tie.close
+    (tie.spec
+    (λ c. search needs)
+    (λ c κs. search needs)
+    (λ c. search needs)
+    (λ c κs. search needs)
+    (λ c. search needs)
+    (λ c κs. (proper-sectioned (c .before .before .before .before .before .before .before .before .before .before .args .lhs) _ (ours (c .before .before .before .before .before .before .before .before .before .before)) (c .before .before .before .before .before .before .before .before .before .before .pre .0) (c .before .before .before .before .lhs2 .given .1), c .before .before .before .before .before .before .before .before .before .before .pre .1))
+    (λ c. search needs)
+    (λ c. search needs)
+    (λ c. search needs)
+    (λ c. c .before .before .before .before .before .add-to-none .ensures ∙ ap (left (c .before .before .before .before .before .before .before .before .before .before .before .before .before .before .before)) (sym (c .before .before .before .before .before .before .before .before .before .enum-told .given .1)))
+    (λ c. search needs)
+    (λ c. search needs)
+    (λ c. search needs)
+    (λ c. c .before .before .before .before .before .add-to-basic .ensures ∙ ap (left (c .before .before .before .before .before .before .before .before .before .before .before .before .before .before .before .before)) (sym (c .before .before .before .before .before .before .before .before .before .before .lhs .given .1)))
+    (λ c. search needs)
+    (λ c. search needs)
+    (λ c. search needs)
+    (λ c. c .before .before .before .before .before .add-to-sectioned .ensures ∙ ap (left (c .before .before .before .before .before .before .before .before .before .before .before .before .before .before .before .before)) (sym (c .before .before .before .before .before .before .before .before .before .before .lhs2 .given .1))))

@@ -1,0 +1,48 @@
+-- `sums::sum::add_rows` meets its contract: the join is counted, and joined where it has room. Assumes nothing.
+use mathlib.Core.Path.{sym, _∙_}
+use borrow.Author.Needs.{needs}
+use Rattle.rows.specs.Rows.{Tables, tables, rowsIn}
+use Rattle.rows.proofs.Rows.{room-in}
+use Rattle.sums.specs.Joins.{joined}
+use Rattle.sums.proofs.Answering.{placing-fits, placing-short}
+use Rattle.sums.proofs.sum.add_rows.Statement.{statement}
+use Rattle.sums.proofs.sum.add_rows.Tie as tie
+
+-- ours and the right one's
+abbrev ours : tie.Start → Tables
+ours c = tables (c .args .ids .now) (c .args .epochs .now) (c .args .bytes .now)
+
+abbrev rhs : tie.Start → Tables
+rhs c = tables (c .args .rhs-ids .now) (c .args .rhs-epochs .now) (c .args .rhs-bytes .now)
+
+join-in-place-requires : tie.Need-join-in-place-requires
+join-in-place-requires c κs =
+    let b = c .before .before .before .before .before .before .before .before .before .before .before .before .before .before .before .before in
+    (b .pre .0, (b .pre .1, (c .before .before .before .before .before .before .before .before .count-joined .ensures, room-in _ (ours b) (sym (c .before .before .before .before .fit .ensures) ∙ c .before .before .before .if1 .taken))))
+
+returns : tie.Need-returns
+returns c =
+    let b = c .before .before .before .before .before .before .before .before .before .before .before .before .before .before .before .before .before .before .before .before .before .before in
+    placing-fits (joined (rowsIn (b .args .n) (ours b)) (rowsIn (b .args .m) (rhs b))) _ (ours b) (c .before .before .before .before .before .before .before .before .before .before .before .before .before .before .count-joined .ensures) _ (sym (c .before .before .before .before .before .before .before .before .before .before .fit .ensures) ∙ c .before .before .before .before .before .before .before .before .before .if1 .taken)
+    (c .before .before .before .before .before .join-in-place .ensures)
+
+returns-2 : tie.Need-returns-2
+returns-2 c =
+    let b = c .before .before .before .before .before .before .before .before .before .before .before .before .before in
+    placing-short (joined (rowsIn (b .args .n) (ours b)) (rowsIn (b .args .m) (rhs b))) _ (ours b) (c .before .before .before .before .before .count-joined .ensures) (sym (c .before .fit .ensures) ∙ c .if1 .left)
+
+pub add-rows-spec : {M : Type 1} → statement M
+add-rows-spec =
+    tie.close
+    (tie.spec
+    (λ c κs. search needs)
+    (λ c κs. search needs)
+    join-in-place-requires
+    (λ c. search needs)
+    (λ c. search needs)
+    (λ c. search needs)
+    returns
+    (λ c. search needs)
+    (λ c. search needs)
+    (λ c. search needs)
+    returns-2)

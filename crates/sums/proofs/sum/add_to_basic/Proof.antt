@@ -1,0 +1,46 @@
+-- `sums::sum::add_to_basic` meets its contract, by the right state's cases. Assumes nothing.
+use mathlib.Core.Path.{sym, ap, _∙_}
+use Prim.Native.Nat.{ℕ}
+use borrow.Author.Needs.{needs}
+use Rattle.rows.specs.Rows.{Tables, tables}
+use Rattle.rows.specs.Removals.{basic, removalOf}
+use Rattle.rows.specs.declared.removal.Removed.{Removed}
+use Rattle.rows.specs.declared.removal.Removed.the-variants.{Basic}
+use Rattle.rows.proofs.Removals.{proper-sectioned}
+use Rattle.sums.specs.Sums.{sum}
+use Rattle.sums.specs.Calls.{After, placing}
+use Rattle.sums.proofs.Answering.{done, placing-basic}
+use Rattle.sums.proofs.sum.add_to_basic.Statement.{statement}
+use Rattle.sums.proofs.sum.add_to_basic.Tie as tie
+
+-- ours and the right one's
+abbrev ours : tie.Start → Tables
+ours c = tables (c .args .ids .now) (c .args .epochs .now) (c .args .bytes .now)
+
+abbrev rhs : tie.Start → Tables
+rhs c = tables (c .args .rhs-ids .now) (c .args .rhs-epochs .now) (c .args .rhs-bytes .now)
+
+-- what is left where the right state is y
+abbrev left : tie.Start → Removed → After
+left c y = placing (sum (c .args .version) (basic (c .args .removed-bytes)) (removalOf y (rhs c))) (ours c)
+
+returns-2 : tie.Need-returns-2
+returns-2 c =
+    let b = c .before .before .before .before .before .before .before .before in
+    ap (λ (n : ℕ). done (Basic n) (ours b)) (c .saturating-add .ensures) ∙ placing-basic (ours b) _ ∙ ap (left b) (sym (c .before .before .rhs .given .1))
+
+pub add-to-basic-spec : {M : Type 1} → statement M
+add-to-basic-spec =
+    tie.close
+    (tie.spec
+    (λ c. search needs)
+    (λ c. search needs)
+    (λ c κs. search needs)
+    (λ c. search needs)
+    (λ c κs. proper-sectioned (c .before .before .before .before .before .before .before .before .before .before .args .rhs) _ (rhs (c .before .before .before .before .before .before .before .before .before .before)) (c .before .before .before .before .before .before .before .before .before .before .pre) (c .before .before .before .before .rhs2 .given .1))
+    (λ c. placing-basic (ours (c .before .before .before .before .before .before)) _ ∙ ap (left (c .before .before .before .before .before .before)) (sym (c .enum-told .given .1)))
+    returns-2
+    (λ c. search needs)
+    (λ c. search needs)
+    (λ c. search needs)
+    (λ c. c .before .before .before .before .before .add-rows-to-basic-for-version .ensures ∙ ap (left (c .before .before .before .before .before .before .before .before .before .before .before .before .before .before .before .before)) (sym (c .before .before .before .before .before .before .before .before .before .before .rhs2 .given .1))))

@@ -1,0 +1,46 @@
+-- `sums::sum::add_to_none` meets its contract, by the right state's cases. Assumes nothing.
+use mathlib.Core.Path.{sym, ap, _∙_}
+use mathlib.Core.List.{List}
+use borrow.Author.Needs.{needs}
+use Rattle.rows.specs.Rows.{Row, Tables, tables}
+use Rattle.rows.specs.Removals.{nothing, sectioned, removalOf}
+use Rattle.rows.specs.declared.removal.Removed.{Removed}
+use Rattle.rows.proofs.Rows.{proper-none}
+use Rattle.rows.proofs.Removals.{proper-sectioned}
+use Rattle.sums.specs.Sums.{sum}
+use Rattle.sums.specs.Calls.{After, placing}
+use Rattle.sums.proofs.Joining.{joined-nothing}
+use Rattle.sums.proofs.Answering.{placing-nothing, placing-basic}
+use Rattle.sums.proofs.sum.add_to_none.Statement.{statement}
+use Rattle.sums.proofs.sum.add_to_none.Tie as tie
+
+-- ours and the right one's
+abbrev ours : tie.Start → Tables
+ours c = tables (c .args .ids .now) (c .args .epochs .now) (c .args .bytes .now)
+
+abbrev rhs : tie.Start → Tables
+rhs c = tables (c .args .rhs-ids .now) (c .args .rhs-epochs .now) (c .args .rhs-bytes .now)
+
+-- what is left where the right state is y
+abbrev left : tie.Start → Removed → After
+left c y = placing (sum (c .args .version) nothing (removalOf y (rhs c))) (ours c)
+
+returns-3 : tie.Need-returns-3
+returns-3 c =
+    let b = c .before .before .before .before .before .before .before .before .before .before .before .before .before .before .before .before in
+    c .before .before .before .before .before .add-rows .ensures ∙ ap (λ (l : List Row). placing (sectioned l) (ours b)) (joined-nothing _) ∙ ap (left b) (sym (c .before .before .before .before .before .before .before .before .before .before .rhs2 .given .1))
+
+pub add-to-none-spec : {M : Type 1} → statement M
+add-to-none-spec =
+    tie.close
+    (tie.spec
+    (λ c. search needs)
+    (λ c. search needs)
+    (λ c. search needs)
+    (λ c κs. (proper-none _, proper-sectioned (c .before .before .before .before .before .before .before .before .before .before .args .rhs) _ (rhs (c .before .before .before .before .before .before .before .before .before .before)) (c .before .before .before .before .before .before .before .before .before .before .pre) (c .before .before .before .before .rhs2 .given .1)))
+    (λ c. placing-nothing (ours (c .before .before .before .before .before .before)) ∙ ap (left (c .before .before .before .before .before .before)) (sym (c .enum-told .given .1)))
+    (λ c. placing-basic (ours (c .before .before .before .before .before .before .before)) _ ∙ ap (left (c .before .before .before .before .before .before .before)) (sym (c .before .rhs .given .1)))
+    (λ c. search needs)
+    (λ c. search needs)
+    (λ c. search needs)
+    returns-3)

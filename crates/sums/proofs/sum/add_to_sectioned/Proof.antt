@@ -1,0 +1,42 @@
+-- `sums::sum::add_to_sectioned` meets its contract, by the right state's cases. Assumes nothing.
+use mathlib.Core.Path.{sym, ap, _∙_}
+use borrow.Author.Needs.{needs}
+use Rattle.rows.specs.Rows.{Tables, tables, rowsIn}
+use Rattle.rows.specs.Removals.{sectioned, removalOf}
+use Rattle.rows.specs.declared.removal.Removed.{Removed}
+use Rattle.rows.proofs.Removals.{proper-sectioned}
+use Rattle.sums.specs.Sums.{sum}
+use Rattle.sums.specs.Calls.{After, placing}
+use Rattle.sums.proofs.Answering.{placing-stays}
+use Rattle.sums.proofs.sum.add_to_sectioned.Statement.{statement}
+use Rattle.sums.proofs.sum.add_to_sectioned.Tie as tie
+
+-- ours and the right one's
+abbrev ours : tie.Start → Tables
+ours c = tables (c .args .ids .now) (c .args .epochs .now) (c .args .bytes .now)
+
+abbrev rhs : tie.Start → Tables
+rhs c = tables (c .args .rhs-ids .now) (c .args .rhs-epochs .now) (c .args .rhs-bytes .now)
+
+-- what is left where the right state is y
+abbrev left : tie.Start → Removed → After
+left c y = placing (sum (c .args .version) (sectioned (rowsIn (c .args .n) (ours c))) (removalOf y (rhs c))) (ours c)
+
+pub add-to-sectioned-spec : {M : Type 1} → statement M
+add-to-sectioned-spec =
+    tie.close
+    (tie.spec
+    (λ c. search needs)
+    (λ c. search needs)
+    (λ c κs. search needs)
+    (λ c. search needs)
+    (λ c κs. (c .before .before .before .before .before .before .before .before .before .before .pre .0, proper-sectioned (c .before .before .before .before .before .before .before .before .before .before .args .rhs) _ (rhs (c .before .before .before .before .before .before .before .before .before .before)) (c .before .before .before .before .before .before .before .before .before .before .pre .1) (c .before .before .before .before .rhs2 .given .1)))
+    (λ c. placing-stays (c .before .before .before .before .before .before .pre .0 .room) ∙ ap (left (c .before .before .before .before .before .before)) (sym (c .enum-told .given .1)))
+    (λ c. search needs)
+    (λ c. search needs)
+    (λ c. search needs)
+    (λ c. c .before .before .before .before .before .add-basic .ensures ∙ ap (left (c .before .before .before .before .before .before .before .before .before .before .before .before .before .before .before .before)) (sym (c .before .before .before .before .before .before .before .before .before .before .rhs .given .1)))
+    (λ c. search needs)
+    (λ c. search needs)
+    (λ c. search needs)
+    (λ c. c .before .before .before .before .before .add-rows .ensures ∙ ap (left (c .before .before .before .before .before .before .before .before .before .before .before .before .before .before .before .before)) (sym (c .before .before .before .before .before .before .before .before .before .before .rhs2 .given .1))))

@@ -1,0 +1,7 @@
+// The sum of two removals, in place.
+mod join;
+mod sum;
+
+pub use join::saturating_add;
+pub use sum::Summed;
+pub use sum::add_assign;
