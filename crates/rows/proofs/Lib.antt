@@ -5,3 +5,5 @@ pub mod Removals
 pub mod Columns
 pub mod Backing
 pub mod Only
+pub mod Under
+pub mod Over

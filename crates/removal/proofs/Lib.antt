@@ -1,0 +1,1 @@
+-- What the proofs share, and the crates above cite. Assumes nothing.

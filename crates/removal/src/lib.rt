@@ -1,0 +1,2 @@
+// The removing merge of flags.
+mod removing;
