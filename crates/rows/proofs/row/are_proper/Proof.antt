@@ -33,17 +33,17 @@ loop-again : tie.Need-loop-again Inv-loop μ-loop
 loop-again c =
     let l = c .before .before .before .before .loop in
     let r = l .inv .1 in
-    (omega arith, r, l .inv .2 ∙ asc-less r (l .i) (c .before .before .before .loop-test .taken) (sym (c .before .before .compare-rows .ensures) ∙ c .enum-told .given .1))
+    (omega arith, r, l .inv .2 ∙ asc-less r (l .i) (omega arith) (sym (c .before .before .compare-rows .ensures) ∙ c .enum-told .given .1))
 
 returns : tie.Need-returns Inv-loop μ-loop
 returns c =
     let l = c .before .before .before .before .loop in
-    sym (l .inv .2 ∙ asc-equal (l .inv .1) (l .i) (c .before .before .before .loop-test .taken) (sym (c .before .before .compare-rows .ensures) ∙ c .enum-told2 .given .1))
+    sym (l .inv .2 ∙ asc-equal (l .inv .1) (l .i) (omega arith) (sym (c .before .before .compare-rows .ensures) ∙ c .enum-told2 .given .1))
 
 returns-2 : tie.Need-returns-2 Inv-loop μ-loop
 returns-2 c =
     let l = c .before .before .before .before .loop in
-    sym (l .inv .2 ∙ asc-greater (l .inv .1) (l .i) (c .before .before .before .loop-test .taken) (sym (c .before .before .compare-rows .ensures) ∙ c .enum-told3 .given .1))
+    sym (l .inv .2 ∙ asc-greater (l .inv .1) (l .i) (omega arith) (sym (c .before .before .compare-rows .ensures) ∙ c .enum-told3 .given .1))
 
 returns-3 : tie.Need-returns-3 Inv-loop μ-loop
 returns-3 c =
