@@ -11,7 +11,7 @@ use borrow.Author.Tests.{ltb-true, ltb-false, le-leb, lt-leb}
 use Rattle.records.specs.Tables.{At, _⦂_, epochsOf, ascending, has, held, union}
 use Rattle.records.specs.Unions.{Stepped}
 use Rattle.records.specs.declared.table.Next.{Next}
-use Rattle.records.proofs.Tables.{epochs-none, epochs-cons}
+use Rattle.records.proofs.Tables.{epochs-cons}
 use Rattle.records.proofs.Rising.{asc-head, asc-tail, asc-cons, asc-lower}
 use Rattle.splitting.specs.Sections.{minimum}
 use Rattle.removal.specs.Removing.{lessened, minus}

@@ -1,20 +1,19 @@
 -- The removing merge by the tests of the code: the bases, our records, the owner, the removal, and whether all is proper.
 -- Assumes nothing.
-use mathlib.Core.Path.{_≡_, refl, sym, ap, _∙_}
+use mathlib.Core.Path.{_≡_, refl}
 use mathlib.Core.Bool.{true, false, and-false}
 use mathlib.Core.Option.{Option, none, some}
 use mathlib.Core.List.{List, [], _∷_}
-use Prim.Native.Nat.{ℕ, _≤_, _<_}
+use Prim.Native.Nat.{ℕ, _<_}
 use native.Mathlib.Omega.{arith}
 use lib.ListN.{length}
 use borrow.Author.Tests.{lt-ltb, le-ltb, eq-eqb, ne-eqb}
 use Rattle.records.specs.Tables.{At}
 use Rattle.records.specs.Flags.{Flags, flags, idOf, maybeOwner, flagsOf, proper}
-use Rattle.records.specs.Answers.{Answer, ok, refused, After, kept, placing}
+use Rattle.records.specs.Answers.{ok, refused, kept, placing}
 use Rattle.records.specs.declared.head.Head.{Head}
 use Rattle.flags.specs.Owners.{combinedOwner}
 use Rattle.flags.specs.Merging.{joined}
-use Rattle.flags.specs.Calls.{handedOn}
 use Rattle.flags.specs.declared.owners.MergingOwnersStrategy.{MergingOwnersStrategy}
 use Rattle.rows.specs.Rows.{Row, partsOf, Tables}
 use Rattle.rows.specs.Removals.{Removal, sectioned, removalOf, proper as properRemoval}
@@ -37,16 +36,18 @@ module _ (s : MergingOwnersStrategy) (x : Removal) (ours theirs : Flags) where
   unfolding removed
   removed-above p = simp (le-ltb (theirs .base) (ours .base) (omega arith), ne-eqb (ours .base) (theirs .base) (λ e. omega arith))
 
-  -- ---- equal bases
+-- ---- equal bases
 
+module _ (s : MergingOwnersStrategy) (ours theirs : Flags) where
   pub beside-disputed : combinedOwner s (ours .owner) (theirs .owner) ≡ refused 5 → removedBeside s ours theirs ≡ refused 5
   beside-disputed e = rw e
 
   pub beside-owned : (owner : Option (List ℕ)) → combinedOwner s (ours .owner) (theirs .owner) ≡ ok owner → removedBeside s ours theirs ≡ ok (joined ours theirs owner)
   beside-owned owner e = rw e
 
-  -- ---- incoming base higher
+-- ---- incoming base higher
 
+module _ (s : MergingOwnersStrategy) (x : Removal) (ours theirs : Flags) where
   -- ours without records comes back
   pub above-single : (rs : List At) → length rs ≡ 0 → removedAbove s x ours theirs rs ≡ ok ours
   above-single [] e = refl

@@ -8,7 +8,7 @@ use Prim.Native.Nat.{ℕ, _+_, _≤_, _<_}
 use native.Mathlib.Omega.{arith}
 use lib.ListN.{length, take, drop, getD}
 use lib.Seq.{length-take-le}
-use Rattle.records.specs.Tables.{At, recordsOf, epochsOf, rising, Table}
+use Rattle.records.specs.Tables.{At, epochsOf, rising, Table}
 use Rattle.records.specs.Flags.{same}
 use Rattle.records.proofs.Tables.{epochs-none, epochs-cons, epochs-records}
 use Rattle.records.proofs.Rising.{asc-none, asc-cons, asc-of-rises, rises-none, rises-cons}
@@ -79,7 +79,7 @@ under-rises i (x ∷ y ∷ rs) a u =
 pub under-table : {n : ℕ} {t : Tables} → Proper n t → (i : List ℕ) → onlyUnder i (rowsIn n t) ≡ true → Table (take n (t .epochs)) (take n (t .bytes))
 under-table {n} {t} p i h =
     let e : length (take n (t .epochs)) ≡ length (take n (t .bytes)) =
-        length-take-le n (t .epochs) (p .room .epochs-long) ∙ sym (length-take-le n (t .bytes) (p .room .bytes-long)) in
+    length-take-le n (t .epochs) (p .room .epochs-long) ∙ sym (length-take-le n (t .bytes) (p .room .bytes-long)) in
     record {
       even = e;
       rises = rw (parts-in (p .room), epochs-records (take n (t .epochs)) (take n (t .bytes)) e) at (under-rises i (rowsIn n t) (p .rises) (only-true i (rowsIn n t) h));

@@ -6,9 +6,8 @@ use mathlib.Core.Logic.{⊎-elim}
 use mathlib.Core.List.{List, [], _∷_}
 use Prim.Native.Nat.{ℕ, zero, suc, _≤_, _<_}
 use native.Mathlib.Nat.{le-of-suc-le-suc, not-suc-le-zero}
-use native.Mathlib.Omega.{arith}
 use lib.ListN.{length, take}
-use Rattle.records.specs.Tables.{At, _⦂_, recordsOf}
+use Rattle.records.specs.Tables.{At, recordsOf}
 use Rattle.records.proofs.Tables.{take-records}
 use Rattle.rows.specs.Rows.{Row, compared, partsOf, rowsUnder, Tables, rowsOf, rowsIn, Room}
 use Rattle.rows.specs.declared.order.Order.the-variants.{Less, Equal}

@@ -1,6 +1,6 @@
 -- `removal::remaining::remaining_into` meets its contract: what remains of what is left makes of the tables what all that remains makes of
 -- the tables lent. Assumes nothing.
-use mathlib.Core.Path.{_≡_, subst}
+use mathlib.Core.Path.{subst}
 use mathlib.Core.List.{List}
 use Prim.Native.Nat.{_+_, _-_, _<_}
 use native.Mathlib.Omega.{arith}

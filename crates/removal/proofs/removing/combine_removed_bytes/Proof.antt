@@ -1,79 +1,43 @@
+-- `removal::removing::combine_removed_bytes` meets its contract: both sides and the removal are proper, or one is not. Assumes nothing.
+use mathlib.Core.Path.{sym, _∙_}
 use borrow.Author.Needs.{needs}
+use Rattle.records.proofs.Answers.{refused-left}
+use Rattle.removal.proofs.Merging.{combined-proper, combined-removal-bad, combined-theirs-bad, combined-ours-bad}
 use Rattle.removal.proofs.removing.combine_removed_bytes.Statement.{statement}
 use Rattle.removal.proofs.removing.combine_removed_bytes.Tie as tie
-use Rattle.removal.proofs.removing.combine_removed_bytes.Reads as reads
-use Rattle.removal.proofs.removing.combine_removed_bytes.Lts as lts
-use Rattle.records.proofs.refused.Reads as refused-reads
-use Rattle.records.proofs.is_proper.Reads as table-is-proper-reads
-use Rattle.removal.proofs.removing.combine_proper.Reads as combine-proper-reads
-use Rattle.rows.proofs.is_proper.Reads as removal-is-proper-reads
 
--- src/removing.rt:327:8
-is-proper-requires : tie.Need-is-proper-requires
-is-proper-requires c κs = search needs
-
--- src/removing.rt:328:12
-is-proper-requires-2 : tie.Need-is-proper-requires-2
-is-proper-requires-2 c κs = search needs
-
--- src/removing.rt:329:16
-is-proper-requires-3 : tie.Need-is-proper-requires-3
-is-proper-requires-3 c κs = search needs
-
--- src/removing.rt:330:17
 combine-proper-requires : tie.Need-combine-proper-requires
-combine-proper-requires c κs = ?
+combine-proper-requires c κs =
+    (sym (c .before .before .before .before .before .before .before .is-proper .ensures) ∙ c .before .before .before .before .before .before .if1 .taken, (sym (c .before .before .before .before .before .is-proper2 .ensures) ∙ c .before .before .before .before .if2 .taken, sym (c .before .before .before .is-proper3 .ensures) ∙ c .before .before .if3 .taken))
 
--- src/removing.rt:330:17
-same-length : tie.Need-same-length
-same-length c = search needs
-
--- src/removing.rt:330:17
-same-length-2 : tie.Need-same-length-2
-same-length-2 c = search needs
-
--- src/removing.rt:330:17
 returns : tie.Need-returns
-returns c = ?
+returns c =
+    c .before .before .before .before .combine-proper .ensures
+    ∙ sym (combined-proper _ _ _ _ _ _ _ _ _ _ _ (sym (c .before .before .before .before .before .before .before .before .before .before .before .before .is-proper .ensures) ∙ c .before .before .before .before .before .before .before .before .before .before .before .if1 .taken) (sym (c .before .before .before .before .before .before .before .before .before .before .is-proper2 .ensures) ∙ c .before .before .before .before .before .before .before .before .before .if2 .taken) (sym (c .before .before .before .before .before .before .before .before .is-proper3 .ensures) ∙ c .before .before .before .before .before .before .before .if3 .taken))
 
--- src/removing.rt:346:13
-refused-requires : tie.Need-refused-requires
-refused-requires c κs = search needs
-
--- src/removing.rt:346:13
 returns-2 : tie.Need-returns-2
-returns-2 c = ?
+returns-2 c = refused-left _ _ _ _ (c .refused .ensures) ∙ sym (combined-removal-bad _ _ _ _ _ _ _ _ _ _ _ (sym (c .before .before .is-proper3 .ensures) ∙ c .before .if3 .left))
 
--- src/removing.rt:348:9
-refused-requires-2 : tie.Need-refused-requires-2
-refused-requires-2 c κs = search needs
-
--- src/removing.rt:348:9
 returns-3 : tie.Need-returns-3
-returns-3 c = ?
+returns-3 c = refused-left _ _ _ _ (c .refused2 .ensures) ∙ sym (combined-theirs-bad _ _ _ _ _ _ _ _ _ _ _ (sym (c .before .before .is-proper2 .ensures) ∙ c .before .if2 .left))
 
--- src/removing.rt:350:5
-refused-requires-3 : tie.Need-refused-requires-3
-refused-requires-3 c κs = search needs
-
--- src/removing.rt:309:1
 returns-4 : tie.Need-returns-4
-returns-4 c = ?
+returns-4 c = refused-left _ _ _ _ (c .refused3 .ensures) ∙ sym (combined-ours-bad _ _ _ _ _ _ _ _ _ _ _ (sym (c .before .before .is-proper .ensures) ∙ c .before .if1 .left))
 
 pub combine-removed-bytes-spec : {M : Type 1} → statement M
 combine-removed-bytes-spec =
     tie.close
     (tie.spec
-    is-proper-requires
-    is-proper-requires-2
-    is-proper-requires-3
+    (λ c κs. search needs)
+    (λ c κs. search needs)
+    (λ c κs. search needs)
     combine-proper-requires
-    same-length
-    same-length-2
+    (λ c. search needs)
+    (λ c. search needs)
     returns
-    refused-requires
+    (λ c κs. search needs)
     returns-2
-    refused-requires-2
+    (λ c κs. search needs)
     returns-3
-    refused-requires-3
+    (λ c κs. search needs)
     returns-4)

@@ -1,68 +1,60 @@
+-- `removal::removing::combine_same_base_epoch` meets its contract: the owner decides, then the union is placed. Assumes nothing.
+use mathlib.Core.Path.{sym, ap, _∙_}
+use lib.Seq.{length-take-le}
 use borrow.Author.Needs.{needs}
+use Rattle.records.specs.Flags.{Flags, ownerOf, flagsOf}
+use Rattle.records.specs.Answers.{Answer, placing}
+use Rattle.records.proofs.Proper.{IsProper, proper-inv, proper-table}
+use Rattle.records.proofs.Answers.{refused-placing}
+use Rattle.flags.specs.Owners.{combinedOwner}
+use Rattle.flags.proofs.Choosing.{answered-owner, refused-owner}
+use Rattle.removal.specs.Removing.{removedBeside}
+use Rattle.removal.proofs.Merging.{beside-disputed, beside-owned}
 use Rattle.removal.proofs.removing.combine_same_base_epoch.Statement.{statement}
 use Rattle.removal.proofs.removing.combine_same_base_epoch.Tie as tie
-use Rattle.removal.proofs.removing.combine_same_base_epoch.Reads as reads
-use Rattle.removal.proofs.removing.combine_same_base_epoch.Lts as lts
-use Rattle.flags.proofs.combine_owners.Reads as combine-owners-reads
-use Rattle.flags.proofs.place_union.Reads as place-union-reads
-use Rattle.records.proofs.refused.Reads as refused-reads
 
--- src/removing.rt:182:9
-combine-owners-requires : tie.Need-combine-owners-requires
-combine-owners-requires c κs = search needs
+-- ours and theirs
+abbrev ours : tie.Start → Flags
+ours c = flagsOf (c .args .ours) (c .args .our-epochs .now) (c .args .our-counts .now)
 
--- src/removing.rt:184:9
-refused-requires : tie.Need-refused-requires
-refused-requires c κs = search needs
+abbrev theirs : tie.Start → Flags
+theirs c = flagsOf (c .args .theirs) (c .args .their-epochs .now) (c .args .their-counts .now)
 
--- src/removing.rt:184:9
+our-proper : (c : tie.Start) → IsProper (c .args .ours) (c .args .our-epochs .now) (c .args .our-counts .now)
+our-proper c = proper-inv (c .args .ours) (c .args .our-epochs .now) (c .args .our-counts .now) (c .pre .0)
+
+their-proper : (c : tie.Start) → IsProper (c .args .theirs) (c .args .their-epochs .now) (c .args .their-counts .now)
+their-proper c = proper-inv (c .args .theirs) (c .args .their-epochs .now) (c .args .their-counts .now) (c .pre .1)
+
 returns : tie.Need-returns
-returns c = ?
+returns c =
+    let b = c .before .before .before .before .before .before .before .before .before in
+    let a = b .args in
+    refused-placing (c .refused .result) (a .epochs .now) (a .counts .now) (removedBeside (a .strategy) (ours b) (theirs b)) _ (c .refused .ensures)
+    (beside-disputed (a .strategy) (ours b) (theirs b)
+    (refused-owner _ (a .strategy) (ownerOf (a .ours)) (ownerOf (a .theirs)) (c .before .before .combine-owners .ensures) (c .before .if1 .taken)))
 
--- src/removing.rt:192:9
-slice-aggregate-place-union : tie.Need-slice-aggregate-place-union
-slice-aggregate-place-union c = ?
-
--- src/removing.rt:193:9
-slice-aggregate-place-union-2 : tie.Need-slice-aggregate-place-union-2
-slice-aggregate-place-union-2 c = ?
-
--- src/removing.rt:194:9
-slice-aggregate-place-union-3 : tie.Need-slice-aggregate-place-union-3
-slice-aggregate-place-union-3 c = ?
-
--- src/removing.rt:195:9
-slice-aggregate-place-union-4 : tie.Need-slice-aggregate-place-union-4
-slice-aggregate-place-union-4 c = ?
-
--- src/removing.rt:189:5
-place-union-requires : tie.Need-place-union-requires
-place-union-requires c κs = ?
-
--- src/removing.rt:167:1
-same-length : tie.Need-same-length
-same-length c = search needs
-
--- src/removing.rt:167:1
-same-length-2 : tie.Need-same-length-2
-same-length-2 c = search needs
-
--- src/removing.rt:167:1
 returns-2 : tie.Need-returns-2
-returns-2 c = ?
+returns-2 c =
+    let b = c .before .before .before .before .before .before .before .before .before .before .before .before .before .before .before .before .before .before .before .before in
+    let a = b .args in
+    c .before .before .before .before .place-union .ensures
+    ∙ sym (ap (λ (x : Answer Flags). placing x (a .epochs .now) (a .counts .now))
+    (beside-owned (a .strategy) (ours b) (theirs b) _
+    (answered-owner _ (combinedOwner (a .strategy) (ownerOf (a .ours)) (ownerOf (a .theirs))) (c .before .before .before .before .before .before .before .before .before .before .before .before .before .combine-owners .ensures) (c .before .before .before .before .before .before .before .before .before .before .before .before .if1 .left))))
 
 pub combine-same-base-epoch-spec : {M : Type 1} → statement M
 combine-same-base-epoch-spec =
     tie.close
     (tie.spec
-    combine-owners-requires
-    refused-requires
+    (λ c κs. search needs)
+    (λ c κs. search needs)
     returns
-    slice-aggregate-place-union
-    slice-aggregate-place-union-2
-    slice-aggregate-place-union-3
-    slice-aggregate-place-union-4
-    place-union-requires
-    same-length
-    same-length-2
+    (λ c. sym (length-take-le _ _ (our-proper (c .before .before .before .before .before .before .before .before .before .before) .epochs-long)))
+    (λ c. sym (length-take-le _ _ (our-proper (c .before .before .before .before .before .before .before .before .before .before .before) .counts-long)))
+    (λ c. sym (length-take-le _ _ (their-proper (c .before .before .before .before .before .before .before .before .before .before .before .before) .epochs-long)))
+    (λ c. sym (length-take-le _ _ (their-proper (c .before .before .before .before .before .before .before .before .before .before .before .before .before) .counts-long)))
+    (λ c κs. (proper-table (our-proper (c .before .before .before .before .before .before .before .before .before .before .before .before .before .before .before)), proper-table (their-proper (c .before .before .before .before .before .before .before .before .before .before .before .before .before .before .before))))
+    (λ c. search needs)
+    (λ c. search needs)
     returns-2)

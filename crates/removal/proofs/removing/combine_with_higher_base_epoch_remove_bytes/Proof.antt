@@ -1,97 +1,90 @@
+-- `removal::removing::combine_with_higher_base_epoch_remove_bytes` meets its contract: ours without records comes back, else the owner
+-- decides, then the removal is taken under our owner. Assumes nothing.
+use mathlib.Core.Path.{sym, ap, _∙_}
+use mathlib.Core.List.{List}
+use Prim.Native.Nat.{ℕ, _<_}
+use native.Mathlib.Omega.{arith}
+use lib.ListN.{length}
+use lib.Seq.{length-take-le}
 use borrow.Author.Needs.{needs}
-use Rattle.removal.proofs.removing.combine_with_higher_base_epoch_remove_bytes.Statement.{
-  statement,
-}
+use Rattle.records.specs.Flags.{Flags, ownerIf, ownerOf, flagsOf}
+use Rattle.records.specs.Answers.{Answer, placing}
+use Rattle.records.specs.declared.head.MaybeOwner.{MaybeOwner}
+use Rattle.records.proofs.Proper.{IsProper, proper-inv, proper-table, proper-long}
+use Rattle.records.proofs.Answers.{refused-placing}
+use Rattle.flags.specs.Owners.{combinedOwner}
+use Rattle.flags.specs.Merging.{joined}
+use Rattle.flags.proofs.Choosing.{answered-owner, refused-owner}
+use Rattle.rows.specs.Rows.{tables}
+use Rattle.rows.specs.Removals.{Removal, removalOf}
+use Rattle.removal.specs.Removing.{taken, removedAbove}
+use Rattle.removal.proofs.Merging.{above-single, above-disputed, above-owned, owner-id}
+use Rattle.removal.proofs.removing.combine_with_higher_base_epoch_remove_bytes.Statement.{statement}
 use Rattle.removal.proofs.removing.combine_with_higher_base_epoch_remove_bytes.Tie as tie
-use Rattle.removal.proofs.removing.combine_with_higher_base_epoch_remove_bytes.Reads as reads
-use Rattle.removal.proofs.removing.combine_with_higher_base_epoch_remove_bytes.Lts as lts
-use Rattle.flags.proofs.combine_owners.Reads as combine-owners-reads
-use Rattle.flags.proofs.hand_on.Reads as hand-on-reads
-use Rattle.records.proofs.refused.Reads as refused-reads
-use Rattle.records.proofs.head.Head.owner_id.Reads as owner-id-reads
-use Rattle.removal.proofs.removing.remove_bytes.Reads as remove-bytes-reads
 
--- src/removing.rt:225:9
-hand-on-requires : tie.Need-hand-on-requires
-hand-on-requires c κs = search needs
+-- ours, theirs and the removal
+abbrev ours : tie.Start → Flags
+ours c = flagsOf (c .args .ours) (c .args .our-epochs .now) (c .args .our-counts .now)
 
--- src/removing.rt:225:9
-same-length : tie.Need-same-length
-same-length c = search needs
+abbrev theirs : tie.Start → Flags
+theirs c = flagsOf (c .args .theirs) (c .args .their-epochs .now) (c .args .their-counts .now)
 
--- src/removing.rt:225:9
-same-length-2 : tie.Need-same-length-2
-same-length-2 c = search needs
+abbrev removal : tie.Start → Removal
+removal c = removalOf (c .args .removed) (tables (c .args .ids .now) (c .args .removed-epochs .now) (c .args .removed-bytes .now))
 
--- src/removing.rt:225:9
+our-proper : (c : tie.Start) → IsProper (c .args .ours) (c .args .our-epochs .now) (c .args .our-counts .now)
+our-proper c = proper-inv (c .args .ours) (c .args .our-epochs .now) (c .args .our-counts .now) (c .pre .0)
+
+their-proper : (c : tie.Start) → IsProper (c .args .theirs) (c .args .their-epochs .now) (c .args .their-counts .now)
+their-proper c = proper-inv (c .args .theirs) (c .args .their-epochs .now) (c .args .their-counts .now) (c .pre .1 .0)
+
 returns : tie.Need-returns
-returns c = ?
+returns c =
+    let b = c .before .before .before .before .before .before .before .before .before .before .before .before .before .before .before .before in
+    let a = b .args in
+    c .before .before .before .before .hand-on .ensures
+    ∙ sym (ap (λ (x : Answer Flags). placing x (a .epochs .now) (a .counts .now))
+    (above-single (a .strategy) (removal b) (ours b) (theirs b) (ours b .records) (proper-long (our-proper b) ∙ c .before .before .before .before .before .before .before .if1 .taken)))
 
--- src/removing.rt:227:9
-combine-owners-requires : tie.Need-combine-owners-requires
-combine-owners-requires c κs = search needs
-
--- src/removing.rt:229:9
-refused-requires : tie.Need-refused-requires
-refused-requires c κs = search needs
-
--- src/removing.rt:229:9
 returns-2 : tie.Need-returns-2
-returns-2 c = ?
+returns-2 c =
+    let b = c .before .before .before .before .before .before .before .before .before .before .before .before in
+    let a = b .args in
+    let p : 0 < length (ours b .records) = omega (arith, proper-long (our-proper b), c .before .before .before .if1 .left) in
+    refused-placing (c .refused .result) (a .epochs .now) (a .counts .now) (removedAbove (a .strategy) (removal b) (ours b) (theirs b) (ours b .records)) _ (c .refused .ensures)
+    (above-disputed (a .strategy) (removal b) (ours b) (theirs b) (ours b .records) p
+    (refused-owner _ (a .strategy) (ownerOf (a .ours)) (ownerOf (a .theirs)) (c .before .before .combine-owners .ensures) (c .before .if2 .taken)))
 
--- src/removing.rt:232:9
-owner-id-requires : tie.Need-owner-id-requires
-owner-id-requires c κs = search needs
-
--- src/removing.rt:238:9
-slice-aggregate-remove-bytes : tie.Need-slice-aggregate-remove-bytes
-slice-aggregate-remove-bytes c = ?
-
--- src/removing.rt:239:9
-slice-aggregate-remove-bytes-2 : tie.Need-slice-aggregate-remove-bytes-2
-slice-aggregate-remove-bytes-2 c = ?
-
--- src/removing.rt:240:9
-slice-aggregate-remove-bytes-3 : tie.Need-slice-aggregate-remove-bytes-3
-slice-aggregate-remove-bytes-3 c = ?
-
--- src/removing.rt:241:9
-slice-aggregate-remove-bytes-4 : tie.Need-slice-aggregate-remove-bytes-4
-slice-aggregate-remove-bytes-4 c = ?
-
--- src/removing.rt:235:5
-remove-bytes-requires : tie.Need-remove-bytes-requires
-remove-bytes-requires c κs = ?
-
--- src/removing.rt:203:1
-same-length-3 : tie.Need-same-length-3
-same-length-3 c = search needs
-
--- src/removing.rt:203:1
-same-length-4 : tie.Need-same-length-4
-same-length-4 c = search needs
-
--- src/removing.rt:203:1
 returns-3 : tie.Need-returns-3
-returns-3 c = ?
+returns-3 c =
+    let b = c .before .before .before .before .before .before .before .before .before .before .before .before .before .before .before .before .before .before .before .before .before .before .before .before .before in
+    let a = b .args in
+    let p : 0 < length (ours b .records) = omega (arith, proper-long (our-proper b), c .before .before .before .before .before .before .before .before .before .before .before .before .before .before .before .before .if1 .left) in
+    let w : MaybeOwner = c .before .before .before .before .before .before .before .before .before .before .before .before .before .before .before .combine-owners .result .owner in
+    let i = ap (λ (m : MaybeOwner). m .id) (c .before .before .before .before .before .before .before .before .before .before .before .before .owner-id .ensures) ∙ owner-id (ownerOf (a .ours)) in
+    c .before .before .before .before .remove-bytes .ensures
+    ∙ ap (λ (j : List ℕ). placing (taken j (removal b) (joined (ours b) (theirs b) (ownerIf (w .owned) (w .id)))) (a .epochs .now) (a .counts .now)) i
+    ∙ sym (ap (λ (x : Answer Flags). placing x (a .epochs .now) (a .counts .now))
+    (above-owned (a .strategy) (removal b) (ours b) (theirs b) (ours b .records) p _
+    (answered-owner _ (combinedOwner (a .strategy) (ownerOf (a .ours)) (ownerOf (a .theirs))) (c .before .before .before .before .before .before .before .before .before .before .before .before .before .before .before .combine-owners .ensures) (c .before .before .before .before .before .before .before .before .before .before .before .before .before .before .if2 .left))))
 
 pub combine-with-higher-base-epoch-remove-bytes-spec : {M : Type 1} → statement M
 combine-with-higher-base-epoch-remove-bytes-spec =
     tie.close
     (tie.spec
-    hand-on-requires
-    same-length
-    same-length-2
+    (λ c κs. c .before .before .before .before .before .before .before .before .before .before .before .pre .0)
+    (λ c. search needs)
+    (λ c. search needs)
     returns
-    combine-owners-requires
-    refused-requires
+    (λ c κs. search needs)
+    (λ c κs. search needs)
     returns-2
-    owner-id-requires
-    slice-aggregate-remove-bytes
-    slice-aggregate-remove-bytes-2
-    slice-aggregate-remove-bytes-3
-    slice-aggregate-remove-bytes-4
-    remove-bytes-requires
-    same-length-3
-    same-length-4
+    (λ c κs. search needs)
+    (λ c. sym (length-take-le _ _ (our-proper (c .before .before .before .before .before .before .before .before .before .before .before .before .before .before .before) .epochs-long)))
+    (λ c. sym (length-take-le _ _ (our-proper (c .before .before .before .before .before .before .before .before .before .before .before .before .before .before .before .before) .counts-long)))
+    (λ c. sym (length-take-le _ _ (their-proper (c .before .before .before .before .before .before .before .before .before .before .before .before .before .before .before .before .before) .epochs-long)))
+    (λ c. sym (length-take-le _ _ (their-proper (c .before .before .before .before .before .before .before .before .before .before .before .before .before .before .before .before .before .before) .counts-long)))
+    (λ c κs. (proper-table (our-proper (c .before .before .before .before .before .before .before .before .before .before .before .before .before .before .before .before .before .before .before .before)), (proper-table (their-proper (c .before .before .before .before .before .before .before .before .before .before .before .before .before .before .before .before .before .before .before .before)), c .before .before .before .before .before .before .before .before .before .before .before .before .before .before .before .before .before .before .before .before .pre .1 .1)))
+    (λ c. search needs)
+    (λ c. search needs)
     returns-3)

@@ -1,48 +1,24 @@
+-- `removal::removing::remove_from_absent` meets its contract: the removal is proper, or not. Assumes nothing.
+use mathlib.Core.Path.{sym, _∙_}
 use borrow.Author.Needs.{needs}
+use Rattle.records.proofs.Answers.{refused-left}
 use Rattle.removal.proofs.removing.remove_from_absent.Statement.{statement}
 use Rattle.removal.proofs.removing.remove_from_absent.Tie as tie
-use Rattle.removal.proofs.removing.remove_from_absent.Reads as reads
-use Rattle.removal.proofs.removing.remove_from_absent.Lts as lts
-use Rattle.flags.proofs.combine_absent.Reads as combine-absent-reads
-use Rattle.records.proofs.refused.Reads as refused-reads
-use Rattle.rows.proofs.is_proper.Reads as is-proper-reads
 
--- src/removing.rt:367:8
-is-proper-requires : tie.Need-is-proper-requires
-is-proper-requires c κs = search needs
-
--- src/removing.rt:368:9
-combine-absent-requires : tie.Need-combine-absent-requires
-combine-absent-requires c κs = search needs
-
--- src/removing.rt:368:9
-same-length : tie.Need-same-length
-same-length c = search needs
-
--- src/removing.rt:368:9
-same-length-2 : tie.Need-same-length-2
-same-length-2 c = search needs
-
--- src/removing.rt:368:9
 returns : tie.Need-returns
-returns c = ?
+returns c = rw (sym (c .before .before .before .before .before .before .before .before .is-proper .ensures) ∙ c .before .before .before .before .before .before .before .if1 .taken) (c .before .before .before .before .combine-absent .ensures)
 
--- src/removing.rt:370:5
-refused-requires : tie.Need-refused-requires
-refused-requires c κs = search needs
-
--- src/removing.rt:354:1
 returns-2 : tie.Need-returns-2
-returns-2 c = ?
+returns-2 c = rw (sym (c .before .before .is-proper .ensures) ∙ c .before .if1 .left) (refused-left _ _ _ _ (c .refused .ensures))
 
 pub remove-from-absent-spec : {M : Type 1} → statement M
 remove-from-absent-spec =
     tie.close
     (tie.spec
-    is-proper-requires
-    combine-absent-requires
-    same-length
-    same-length-2
+    (λ c κs. search needs)
+    (λ c κs. search needs)
+    (λ c. search needs)
+    (λ c. search needs)
     returns
-    refused-requires
+    (λ c κs. search needs)
     returns-2)

@@ -1,6 +1,5 @@
 -- `removal::sections::judge` meets its contract: the fault is that of the sections from the place on. Assumes nothing.
 use mathlib.Core.Path.{_≡_, refl, sym, ap, _∙_}
-use mathlib.Core.Option.{Option}
 use mathlib.Core.List.{List, []}
 use Prim.Native.Nat.{ℕ, _+_, _-_, _≤_}
 use native.Mathlib.Omega.{arith}
@@ -11,7 +10,6 @@ use Rattle.records.proofs.Tables.{length-recordsOf}
 use Rattle.records.proofs.Unions.{record-on}
 use Rattle.removal.specs.Removing.{fault}
 use Rattle.removal.specs.Findings.{faulted}
-use Rattle.removal.specs.declared.sections.Fault.{Fault}
 use Rattle.removal.proofs.Faults.{fault-none, fault-on, fault-at}
 use Rattle.removal.proofs.sections.judge.Statement.{statement}
 use Rattle.removal.proofs.sections.judge.Tie as tie
@@ -38,10 +36,11 @@ loop-again : tie.Need-loop-again Inv-loop μ-loop
 loop-again c =
     let b = c .before .before .before .before .before .before .before .before .before .before .before .before .before in
     let l = c .before .before .before .before .before .before .loop in
-    let d = record-on (b .pre .1 .1) (l .i) (c .before .before .before .before .before .loop-test .taken) in
-    (omega arith,
-    l .inv .1 ∙ ap (fault (b .args .base) (records b)) d
-    ∙ fault-on (b .args .base) (records b) (here b (l .i)) (drop (l .i + 1) (sections b)) (sym (c .before .before .judge-section .ensures) ∙ ap faulted (c .enum-told .given .1)))
+    let d = record-on (b .pre .1 .1) (l .i) (c .before .before .before .before .before .loop-test .taken) in (
+      omega arith,
+      l .inv .1 ∙ ap (fault (b .args .base) (records b)) d
+          ∙ fault-on (b .args .base) (records b) (here b (l .i)) (drop (l .i + 1) (sections b)) (sym (c .before .before .judge-section .ensures) ∙ ap faulted (c .enum-told .given .1)),
+    )
 
 returns : tie.Need-returns Inv-loop μ-loop
 returns c =

@@ -1,5 +1,5 @@
 -- `removal::sections::remove_from` meets its contract: the record's section, if it has one, decides what stays. Assumes nothing.
-use mathlib.Core.Path.{_≡_, sym, ap}
+use mathlib.Core.Path.{sym, ap}
 use mathlib.Core.Bool.{true, false}
 use mathlib.Core.List.{List}
 use Prim.Native.Nat.{ℕ, _-_, _≤_}
