@@ -2,4 +2,4 @@
 pub mod Comparing
 pub mod Rows
 pub mod Removals
-pub mod Under
+pub mod Parts

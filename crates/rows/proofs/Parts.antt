@@ -1,5 +1,4 @@
--- Rows without their identifiers: those of the tables, and those of sections under one identifier; and that rows of one identifier stand
--- as their epochs do. By cases on the rows.
+-- Rows without their identifiers, and those of the tables; and rows of one identifier, which stand as their epochs do. By cases on the rows.
 -- Assumes nothing.
 use mathlib.Core.Path.{_≡_, refl, sym, ap, _∙_}
 use mathlib.Core.Logic.{⊎-elim}
@@ -34,20 +33,11 @@ parts-first (suc n) (i ∷ is) (p ∷ ps) h = ap (λ (l : List At). p ∷ l) (pa
 pub parts-in : {n : ℕ} {t : Tables} → Room n t → partsOf (rowsIn n t) ≡ recordsOf (take n (t .epochs)) (take n (t .bytes))
 parts-in {n} {t} r = parts-first n (t .ids) (recordsOf (t .epochs) (t .bytes)) (r .ids-long) ∙ take-records n (t .epochs) (t .bytes)
 
--- ---- under one identifier
-
-pub under-none : (i : List ℕ) → rowsUnder i [] ≡ []
-unfolding rowsUnder
-under-none i = refl
+-- ---- of one identifier
 
 pub under-cons : (i : List ℕ) (s : At) (ss : List At) → rowsUnder i (s ∷ ss) ≡ record { identifier = i; part = s } ∷ rowsUnder i ss
 unfolding rowsUnder
 under-cons i s ss = refl
-
-pub parts-under : (i : List ℕ) (ss : List At) → partsOf (rowsUnder i ss) ≡ ss
-unfolding partsOf rowsUnder
-parts-under i [] = refl
-parts-under i (s ∷ ss) = ap (λ (l : List At). s ∷ l) (parts-under i ss)
 
 -- of two rows of one identifier the first has the lower epoch
 pub less-under : (a b : Row) → a .identifier ≡ b .identifier → compared a b ≡ Less → a .part .epoch < b .part .epoch
