@@ -9,12 +9,17 @@ use Prim.Native.Nat.{ℕ, _+_, _≤_, _<_}
 use lib.Dec.{eqb}
 use lib.ListN.{length, drop, getD, drop-of-length-le}
 use borrow.Author.Tests.{eqb-true, eq-eqb}
-use Rattle.records.specs.Flags.{ownerIf, maybeOwner, same}
+use Rattle.records.specs.Flags.{ownerIf, idOf, maybeOwner, same}
 use Rattle.records.proofs.Rising.{drop-next}
 
 pub owner-back : (o : Option (List ℕ)) → o ≡ ownerIf (maybeOwner o .owned) (maybeOwner o .id)
 owner-back none = refl
 owner-back (some o) = refl
+
+-- its bytes, or zeros
+pub owner-bytes : (o : Option (List ℕ)) → maybeOwner o .id ≡ idOf o
+owner-bytes none = refl
+owner-bytes (some o) = refl
 
 -- ---- the same owner
 

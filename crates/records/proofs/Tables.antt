@@ -2,12 +2,12 @@
 -- Assumes nothing.
 use mathlib.Core.Path.{_≡_, refl, sym, ap, _∙_}
 use mathlib.Core.List.{List, [], _∷_, _++_}
-use Prim.Native.Nat.{ℕ, zero, suc, _+_, _≤_, _<_}
+use Prim.Native.Nat.{ℕ, zero, suc, _+_, _-_, _≤_, _<_}
 use native.Mathlib.Nat.{add-zero, zero-add}
 use native.Mathlib.Numerals.{add-one}
 use native.Mathlib.Omega.{arith}
 use lib.ListN.{length, take, drop, getD, set, length-set, length-append, drop-of-length-le}
-use lib.Seq.{length-take-le, drop-cons, getD-take, sets, sets-eq}
+use lib.Seq.{length-take-le, drop-cons, getD-take, take-add, sets, sets-eq}
 use Rattle.records.specs.Tables.{At, _⦂_, recordsOf, epochsOf, countsOf, over, Placed}
 
 -- ---- records, and their epochs and counts
@@ -92,6 +92,15 @@ module _ (es cs : List ℕ) (n i : ℕ) (he : n ≤ length es) (hc : n ≤ lengt
   pub first-end : n ≤ i → drop i (take n (recordsOf es cs)) ≡ []
   unfolding recordsOf
   first-end p = simp (take-records, drop-records) (rw (drop-of-length-le (take n es) {i = i} (omega (arith, length-take-le n es he))))
+
+-- the first j: the record at the last of their places comes behind the others
+pub first-last : (es cs : List ℕ) (j : ℕ) → 0 < j → j ≤ length es → j ≤ length cs
+    → take j (recordsOf es cs) ≡ take (j - 1) (recordsOf es cs) ++ (getD es (j - 1) 0 ⦂ getD cs (j - 1) 0 ∷ [])
+first-last es cs j p he hc =
+    let z : (j - 1) + 1 ≡ j = omega arith in
+    let e = take-add (j - 1) 1 (recordsOf es cs) in
+    let d = drop-records (j - 1) es cs ∙ records-on es cs (j - 1) (omega arith) (omega arith) in
+    rw z at (e ∙ ap (λ (l : List At). take (j - 1) (recordsOf es cs) ++ take 1 l) d)
 
 -- ---- written one after another
 

@@ -9,7 +9,7 @@ use native.Mathlib.Omega.{arith}
 use lib.ListN.{length}
 use borrow.Author.Tests.{lt-ltb, le-ltb, eq-eqb, ne-eqb}
 use Rattle.records.specs.Tables.{At}
-use Rattle.records.specs.Flags.{Flags, flags, idOf, maybeOwner, flagsOf, proper}
+use Rattle.records.specs.Flags.{Flags, flags, idOf, flagsOf, proper}
 use Rattle.records.specs.Answers.{ok, refused, kept, placing}
 use Rattle.records.specs.declared.head.Head.{Head}
 use Rattle.flags.specs.Owners.{combinedOwner}
@@ -78,11 +78,6 @@ module _ (ss : List At) (f : Flags) where
 
   pub less-fine : fault (f .base) (f .records) ss ≡ none → lessSections ss f ≡ ok (flags (f .base) (f .owner) (minus (f .records) ss))
   less-fine e = rw e
-
--- the identifier of an owner or none, as the code has it
-pub owner-id : (o : Option (List ℕ)) → maybeOwner o .id ≡ idOf o
-owner-id none = refl
-owner-id (some o) = refl
 
 -- ---- whether all is proper
 

@@ -6,9 +6,7 @@ ghost use Rattle.removal.specs.Removing.{onlyUnder, fault, lessened};
 ghost use Rattle.removal.specs.Findings.{found, faulted, faultOf, rested};
 use records::OwnerId;
 use records::Refusal;
-
-// With so much left or less a record is dropped.
-const MINIMUM_NON_BASE_FLAGS_SIZE: u32 = 3;
+use splitting::MINIMUM_NON_BASE_FLAGS_SIZE;
 
 // Whether a record stands at an epoch, and its count.
 pub struct Found {

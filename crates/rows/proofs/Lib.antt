@@ -2,4 +2,7 @@
 pub mod Comparing
 pub mod Rows
 pub mod Removals
+pub mod Columns
+pub mod Backing
+pub mod Under
 pub mod Parts

@@ -1,18 +1,17 @@
 -- What the rows of a removal come to from a place on, and the calls by their tests.
 -- Assumes nothing.
-use mathlib.Core.Path.{_≡_, refl, sym, ap, _∙_}
+use mathlib.Core.Path.{_≡_, sym, ap, _∙_}
 use Prim.Native.Nat.{ℕ, _+_, _≤_, _<_}
-use native.Mathlib.Omega.{arith}
-use mathlib.Core.Bool.{Bool, true, false}
+use mathlib.Core.Bool.{true, false}
 use lib.ListN.{drop, getD}
 use borrow.Author.Tests.{le-leb, lt-leb, lt-ltb, le-ltb}
 use Rattle.fields.specs.Varint.{largest}
-use Rattle.records.specs.Answers.{Answer, ok, refused}
+use Rattle.records.specs.Answers.{ok, refused}
 use Rattle.rows.specs.Rows.{Tables, rowsIn, Room, Proper}
 use Rattle.rows.specs.Removals.{Removal, removalOf, proper, totalRows, total, anyBytes, has}
 use Rattle.rows.specs.Calls.{within, hasRemoval, totalRemoved}
 use Rattle.rows.specs.declared.removal.Removed.{Removed}
-use Rattle.rows.specs.declared.removal.Removed.the-variants.{None, Basic, Sectioned}
+use Rattle.rows.specs.declared.removal.Removed.the-variants.{Sectioned}
 use Rattle.rows.proofs.Rows.{rows-on, rows-end, proper-rows}
 
 module _ {n : ℕ} {t : Tables} (r : Room n t) (i : ℕ) where

@@ -6,7 +6,7 @@ use mathlib.Core.Bool.{Bool, true, false, cond}
 use mathlib.Core.List.{List, [], _∷_}
 use lib.Dec.{ltb}
 use lib.ListN.{length}
-use Rattle.rows.specs.Rows.{Row, Tables, rowsIn, properRows, overRows}
+use Rattle.rows.specs.Rows.{Row, Tables, rowsIn, properRows}
 use Rattle.rows.specs.declared.removal.Removed.{Removed}
 use Rattle.rows.specs.declared.removal.Removed.the-variants.{None, Basic, Sectioned}
 

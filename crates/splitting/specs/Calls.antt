@@ -1,8 +1,8 @@
 -- What `split_storage_removed_bytes` answers and leaves.
 -- Assumes nothing.
 use Prim.Native.Nat.{ℕ, zero, suc}
+use mathlib.Core.Path.{_≡_}
 use mathlib.Core.Bool.{cond, _&&_}
-use mathlib.Core.Option.{Option}
 use mathlib.Core.List.{List, [], _∷_}
 use lib.ListN.{length}
 use Rattle.records.specs.Refusals.{number}
@@ -23,22 +23,29 @@ pub record Split : Type 0 where
   pub value : Removal
   pub visited : ℕ
 
--- n bytes in sections under our owner, or 32 zero bytes; no bytes make no removal
-abbrev pub removalOf : Option (List ℕ) → ℕ → List At → Removal
-removalOf owner zero ss = nothing
-removalOf owner (suc n) ss = sectioned (rowsUnder (idOf owner) ss)
+-- n bytes in sections under an identifier; no bytes make no removal
+abbrev pub removalOf : List ℕ → ℕ → List At → Removal
+removalOf i zero ss = nothing
+removalOf i (suc n) ss = sectioned (rowsUnder i ss)
 
--- key bytes make one section at the base; value bytes are split, 8 where they are too many
+-- a removal's state was answered, and its rows stand at the start of the tables
+pub record PlacedRemoval (r : Removal) (x : Removed) (t t′ : Tables) : Type 0 where
+  pub state : x ≡ stateOf r
+  pub rows : t′ ≡ overRows (rowsOfRemoval r) t
+
+-- key bytes make one section at the base; value bytes are split; both stand under one identifier
+abbrev pub parted : List ℕ → ℕ → List At → ℕ → ℕ → Split
+parted i base rs keyBytes valueBytes =
+    record {
+      key = removalOf i keyBytes (base ⦂ keyBytes ∷ []);
+      value = removalOf i valueBytes (split base rs valueBytes);
+      visited = length (sections rs valueBytes);
+    }
+
+-- the split under our owner, or 32 zero bytes; 8 where the value bytes are too many
 abbrev pub splitOf : Flags → ℕ → ℕ → Answer Split
 splitOf f keyBytes valueBytes =
-    cond (allowed (f .records) valueBytes)
-    (ok
-    (record {
-      key = removalOf (f .owner) keyBytes (f .base ⦂ keyBytes ∷ []);
-      value = removalOf (f .owner) valueBytes (split (f .base) (f .records) valueBytes);
-      visited = length (sections (f .records) valueBytes);
-    }))
-    (refused 8)
+    cond (allowed (f .records) valueBytes) (ok (parted (idOf (f .owner)) (f .base) (f .records) keyBytes valueBytes)) (refused 8)
 
 -- ---- what the call leaves
 

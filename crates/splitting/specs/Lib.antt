@@ -1,2 +1,3 @@
 pub mod Sections
+pub mod Visits
 pub mod Calls

@@ -10,6 +10,7 @@ use borrow.Author.Needs.{needs}
 use Rattle.records.specs.Flags.{Flags, ownerIf, ownerOf, flagsOf}
 use Rattle.records.specs.Answers.{Answer, placing}
 use Rattle.records.specs.declared.head.MaybeOwner.{MaybeOwner}
+use Rattle.records.proofs.Owners.{owner-bytes}
 use Rattle.records.proofs.Proper.{IsProper, proper-inv, proper-table, proper-long}
 use Rattle.records.proofs.Answers.{refused-placing}
 use Rattle.flags.specs.Owners.{combinedOwner}
@@ -18,7 +19,7 @@ use Rattle.flags.proofs.Choosing.{answered-owner, refused-owner}
 use Rattle.rows.specs.Rows.{tables}
 use Rattle.rows.specs.Removals.{Removal, removalOf}
 use Rattle.removal.specs.Removing.{taken, removedAbove}
-use Rattle.removal.proofs.Merging.{above-single, above-disputed, above-owned, owner-id}
+use Rattle.removal.proofs.Merging.{above-single, above-disputed, above-owned}
 use Rattle.removal.proofs.removing.combine_with_higher_base_epoch_remove_bytes.Statement.{statement}
 use Rattle.removal.proofs.removing.combine_with_higher_base_epoch_remove_bytes.Tie as tie
 
@@ -61,7 +62,7 @@ returns-3 c =
     let a = b .args in
     let p : 0 < length (ours b .records) = omega (arith, proper-long (our-proper b), c .before .before .before .before .before .before .before .before .before .before .before .before .before .before .before .before .if1 .left) in
     let w : MaybeOwner = c .before .before .before .before .before .before .before .before .before .before .before .before .before .before .before .combine-owners .result .owner in
-    let i = ap (λ (m : MaybeOwner). m .id) (c .before .before .before .before .before .before .before .before .before .before .before .before .owner-id .ensures) ∙ owner-id (ownerOf (a .ours)) in
+    let i = ap (λ (m : MaybeOwner). m .id) (c .before .before .before .before .before .before .before .before .before .before .before .before .owner-id .ensures) ∙ owner-bytes (ownerOf (a .ours)) in
     c .before .before .before .before .remove-bytes .ensures
     ∙ ap (λ (j : List ℕ). placing (taken j (removal b) (joined (ours b) (theirs b) (ownerIf (w .owned) (w .id)))) (a .epochs .now) (a .counts .now)) i
     ∙ sym (ap (λ (x : Answer Flags). placing x (a .epochs .now) (a .counts .now))

@@ -12,7 +12,7 @@ use Rattle.records.specs.Answers.{Answer, placing}
 use Rattle.records.proofs.Answers.{refused-placing}
 use Rattle.rows.specs.Rows.{Row, Tables, tables, rowsIn}
 use Rattle.rows.specs.Removals.{sectioned}
-use Rattle.rows.proofs.Under.{parts-in}
+use Rattle.rows.proofs.Parts.{parts-in}
 use Rattle.removal.specs.Removing.{onlyUnder, taken}
 use Rattle.removal.proofs.Under.{under-table}
 use Rattle.removal.proofs.Merging.{taken-others, taken-under}
