@@ -4,3 +4,4 @@ pub mod Faults
 pub mod Lessening
 pub mod Under
 pub mod Merging
+pub mod Marked
