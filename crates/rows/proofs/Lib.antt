@@ -5,4 +5,5 @@ pub mod Removals
 pub mod Columns
 pub mod Backing
 pub mod Under
+pub mod Over
 pub mod Parts

@@ -4,3 +4,10 @@ pub mod Visiting
 pub mod Placing
 pub mod Counting
 pub mod Calls
+pub mod Latest
+pub mod Sums
+pub mod Ascending
+pub mod Given
+pub mod Accepted
+pub mod Only
+pub mod Marked

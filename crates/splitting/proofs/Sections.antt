@@ -52,7 +52,7 @@ split-base base n = rw (asked-all n, sections-end n) (append-nil (section base n
 
 -- ---- the last record
 
-spare-append : (xs ys : List At) → spare (xs ++ ys) ≡ spare xs + spare ys
+pub spare-append : (xs ys : List At) → spare (xs ++ ys) ≡ spare xs + spare ys
 unfolding spare
 spare-append [] ys = omega arith
 spare-append (x ∷ xs) ys = omega (arith, spare-append xs ys)

@@ -41,6 +41,11 @@ sections (r ∷ rs) n = section (r .epoch) (asked n rs) (above r) ++ sections rs
 unfoldable pub split : ℕ → List At → ℕ → List At
 split base rs n = section base (asked n rs) (asked n rs) ++ sections rs n
 
+-- the sections that do not stand at the base
+unfoldable pub besideBase : ℕ → List At → List At
+besideBase base [] = []
+besideBase base (s ∷ ss) = cond (eqb (s .epoch) base) (besideBase base ss) (s ∷ besideBase base ss)
+
 -- whether a value split takes so much: not limited without records
 abbrev pub allowed : List At → ℕ → Bool
 allowed [] n = true
