@@ -4,4 +4,5 @@ pub mod Faults
 pub mod Lessening
 pub mod Under
 pub mod Merging
+pub mod OwnSplit
 pub mod Marked
