@@ -1,7 +1,7 @@
 -- The removing merge by the tests of the code: the bases, our records, the owner, the removal, and whether all is proper.
 -- Assumes nothing.
 use mathlib.Core.Path.{_≡_, refl}
-use mathlib.Core.Bool.{true, false, and-false}
+use mathlib.Core.Bool.{Bool, true, false, and-false}
 use mathlib.Core.Option.{Option, none, some}
 use mathlib.Core.List.{List, [], _∷_}
 use Prim.Native.Nat.{ℕ, _<_}
@@ -14,12 +14,13 @@ use Rattle.records.specs.Answers.{ok, refused, kept, placing}
 use Rattle.records.specs.declared.head.Head.{Head}
 use Rattle.flags.specs.Owners.{combinedOwner}
 use Rattle.flags.specs.Merging.{joined}
+use Rattle.flags.specs.Calls.{handedOn}
 use Rattle.flags.specs.declared.owners.MergingOwnersStrategy.{MergingOwnersStrategy}
 use Rattle.rows.specs.Rows.{Row, partsOf, Tables}
 use Rattle.rows.specs.Removals.{Removal, sectioned, removalOf, proper as properRemoval}
 use Rattle.rows.specs.declared.removal.Removed.{Removed}
 use Rattle.removal.specs.Removing.{onlyUnder, fault, minus, lessSections, taken, removedAbove, removedBeside, removed}
-use Rattle.removal.specs.Calls.{combinedRemoved}
+use Rattle.removal.specs.Calls.{combinedRemoved, optionalCombinedRemoved}
 
 -- ---- by the bases
 
@@ -98,3 +99,14 @@ module _ (ours : Head) (oes ocs : List ℕ) (theirs : Head) (tes tcs : List ℕ)
   pub combined-ours-bad : proper ours oes ocs ≡ false → combinedRemoved ours oes ocs theirs tes tcs x t s es cs ≡ kept 11 es cs
   unfolding combinedRemoved
   combined-ours-bad p = simp p
+
+  module _ (present : Bool) where
+    pub optional-present : present ≡ true
+        → optionalCombinedRemoved present ours oes ocs theirs tes tcs x t s es cs ≡ combinedRemoved ours oes ocs theirs tes tcs x t s es cs
+    optional-present e = rw e
+
+    pub optional-absent : present ≡ false → properRemoval x t ≡ true → optionalCombinedRemoved present ours oes ocs theirs tes tcs x t s es cs ≡ handedOn theirs tes tcs es cs
+    optional-absent e r = simp (e, r)
+
+    pub optional-bad : present ≡ false → properRemoval x t ≡ false → optionalCombinedRemoved present ours oes ocs theirs tes tcs x t s es cs ≡ kept 11 es cs
+    optional-bad e r = simp (e, r)

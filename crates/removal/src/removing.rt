@@ -1,10 +1,9 @@
 // The removing merge, with the Rust's names where it has them.
 ghost use mathlib.Core.Path.{_≡_};
-ghost use mathlib.Core.Bool.{true, cond};
+ghost use mathlib.Core.Bool.{true};
 ghost use Rattle.records.specs.Tables.{recordsOf, union, Table};
 ghost use Rattle.records.specs.Flags.{flags, ownerIf, flagsOf, proper};
-ghost use Rattle.records.specs.Answers.{shown, kept, placing};
-ghost use Rattle.flags.specs.Calls.{handedOn};
+ghost use Rattle.records.specs.Answers.{shown, placing};
 ghost use Rattle.rows.specs.Rows.{tables, rowsIn, Proper};
 ghost use Rattle.rows.specs.Removals.{sectioned, removalOf, proper as properRemoval};
 ghost use Rattle.removal.specs.Removing.{lessSections, taken, removedAbove, removedBeside, removed as merged};
@@ -350,27 +349,8 @@ pub fn combine_removed_bytes(
     records::refused(Refusal::BadTable)
 }
 
-// Hands the incoming flags on, where ours is absent; the removal is tested all the same.
-fn remove_from_absent(
-    theirs: Head,
-    their_epochs: &[u16],
-    their_counts: &[u32],
-    removed: Removed,
-    ids: &[[u8; 32]],
-    removed_epochs: &[u16],
-    removed_bytes: &[u32],
-    epochs: &mut [u16],
-    counts: &mut [u32],
-) -> Answered
-    ensures { λ r. ⌜ shown r (now (epochs .exit)) (now (counts .exit)) ≡ cond (properRemoval removed (tables (now (ids .entry)) (now («removed_epochs» .entry)) (now («removed_bytes» .entry)))) (handedOn theirs (now («their_epochs» .entry)) (now («their_counts» .entry)) (now (epochs .entry)) (now (counts .entry))) (kept 11 (now (epochs .entry)) (now (counts .entry))) ⌝ }
-{
-    if rows::is_proper(removed, ids, removed_epochs, removed_bytes) {
-        return flags::combine_absent(theirs, their_epochs, their_counts, epochs, counts);
-    }
-    records::refused(Refusal::BadTable)
-}
-
-// `combine_removed_bytes` where ours may be absent: then ours is not looked at, and the incoming flags are handed on.
+// `combine_removed_bytes` where ours may be absent: then ours is not looked at, and the incoming flags are handed on; the removal is tested
+// all the same.
 pub fn optional_combine_removed_bytes(
     present: bool,
     ours: Head,
@@ -407,15 +387,8 @@ pub fn optional_combine_removed_bytes(
         );
     }
     let removed = removal.removed;
-    remove_from_absent(
-        theirs,
-        their_epochs,
-        their_counts,
-        removed,
-        ids,
-        removed_epochs,
-        removed_bytes,
-        epochs,
-        counts,
-    )
+    if rows::is_proper(removed, ids, removed_epochs, removed_bytes) {
+        return flags::combine_absent(theirs, their_epochs, their_counts, epochs, counts);
+    }
+    records::refused(Refusal::BadTable)
 }

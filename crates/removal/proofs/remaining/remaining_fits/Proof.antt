@@ -31,7 +31,7 @@ returns : tie.Need-returns
 returns c =
     let b = c .before .before .before .before .before .before .before .before in
     let a = b .args in
-    sym (room-less (length (a .our-epochs .now) + length (a .their-epochs .now)) (a .epochs-len) (a .counts-len) (number b) (longest b) (sym (c .before .fit .ensures) ∙ c .if1 .taken))
+    sym (room-less _ (a .epochs-len) (a .counts-len) (number b) (longest b) (sym (c .before .fit .ensures) ∙ c .if1 .taken))
 
 returns-2 : tie.Need-returns-2
 returns-2 c =
