@@ -13,7 +13,7 @@ returns c = c .before .before .before .before .combine-removed-bytes .ensures �
 returns-2 : tie.Need-returns-2
 returns-2 c =
     let a = c .before .before .before .before .before .before .before .before .before .before .before .before .before .before .before .before .before .before .args in
-    c .before .before .before .before .combine-absent .ensures ∙ sym (optional-absent (a .ours) (a .our-epochs .now) (a .our-counts .now) _ _ _ _ _ (a .strategy) _ _ _ (c .before .before .before .before .before .before .before .before .before .if1 .left) (sym (c .before .before .before .before .before .before .before .before .is-proper .ensures) ∙ c .before .before .before .before .before .before .before .if2 .taken))
+    c .before .before .before .before .combine-absent .ensures ∙ sym (optional-absent (a .ours) (a .our-epochs .now) (a .our-counts .now) (a .theirs) (a .their-epochs .now) (a .their-counts .now) _ _ (a .strategy) _ _ _ (c .before .before .before .before .before .before .before .before .before .if1 .left) (sym (c .before .before .before .before .before .before .before .before .is-proper .ensures) ∙ c .before .before .before .before .before .before .before .if2 .taken))
 
 returns-3 : tie.Need-returns-3
 returns-3 c =
