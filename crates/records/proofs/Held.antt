@@ -6,7 +6,7 @@ use mathlib.Core.Bool.{Bool, true, false, cond}
 use Prim.Native.Nat.{ℕ, _≤_}
 use native.Mathlib.Omega.{arith}
 use lib.Dec.{eqb}
-use borrow.Author.Tests.{eqb-true, eq-eqb, ne-eqb}
+use borrow.Author.Tests.{eqb-true, ne-eqb}
 use Rattle.records.specs.Tables.{At, epochsOf, ascending, has, held, put, union}
 use Rattle.records.proofs.Rising.{asc-head, asc-tail}
 use Rattle.records.proofs.Unions.{put-cases}
@@ -69,25 +69,6 @@ module _ (e : ℕ) (os : List At) where
       by : (a : Bool) → cond a (t .bytes) (cond (has e ts) (held e ts) (held e os)) ≡ cond (cond a true (has e ts)) (cond a (t .bytes) (held e ts)) (held e os)
       by true = refl
       by false = refl
-
--- ---- one record after another
-
-module _ (e : ℕ) (r : At) (rs : List At) where
-  pub has-here : e ≡ r .epoch → has e (r ∷ rs) ≡ true
-  unfolding has
-  has-here p = rw (eq-eqb e (r .epoch) p)
-
-  pub has-past : (e ≡ r .epoch → ⊥) → has e (r ∷ rs) ≡ has e rs
-  unfolding has
-  has-past d = rw (ne-eqb e (r .epoch) d)
-
-  pub held-here : e ≡ r .epoch → held e (r ∷ rs) ≡ r .bytes
-  unfolding held
-  held-here p = rw (eq-eqb e (r .epoch) p)
-
-  pub held-past : (e ≡ r .epoch → ⊥) → held e (r ∷ rs) ≡ held e rs
-  unfolding held
-  held-past d = rw (ne-eqb e (r .epoch) d)
 
 pub has-none : (e : ℕ) → has e [] ≡ false
 unfolding has
