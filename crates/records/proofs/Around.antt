@@ -4,17 +4,18 @@
 use mathlib.Core.Path.{_≡_, refl, sym, ap, _∙_}
 use mathlib.Core.List.{List, [], _∷_, _++_}
 use mathlib.Core.Bool.{true}
-use Prim.Native.Nat.{ℕ, suc, _+_, _≤_, _<_}
+use Prim.Native.Nat.{ℕ, suc, _+_, _≤_, _<_, compare·suc-suc}
 use native.Mathlib.Numerals.{add-one}
 use native.Mathlib.Omega.{arith}
+use lib.Dec.{ltb}
 use lib.ListN.{length, take, drop, getD}
 use borrow.Author.Tests.{lt-ltb, le-ltb, eq-eqb, ne-eqb}
-use Rattle.records.specs.Tables.{At, _⦂_, recordsOf, epochsOf, ascending, rising, placeOf, held, union, Table}
+use Rattle.records.specs.Tables.{At, _⦂_, recordsOf, epochsOf, ascending, rising, placeOf, has, held, union, Table}
 use Rattle.records.specs.Unions.{spotOf}
 use Rattle.records.proofs.Rising.{Side, side, lower, equal, higher, asc-none, asc-head, asc-cons, asc-rises}
 use Rattle.records.proofs.Unions.{next-ours, next-theirs, next-both}
 use Rattle.records.proofs.Tables.{epochs-records}
-use Rattle.records.proofs.Held.{held-above}
+use Rattle.records.proofs.Held.{has-above, held-above}
 
 -- ---- the place of an epoch
 
@@ -140,3 +141,21 @@ module _ {es cs : List ℕ} (t : Table es cs) (e k : ℕ) (f : k ≡ placeOf e e
   spot-off d =
       let l = lacks e es cs (t .even) (t .rises) (λ p q. d (rw f p) (rw f q)) in
       rw (l .next, l .count, f)
+
+-- a record stands at e exactly if fewer are below it than at most there
+has-place : (e : ℕ) (es cs : List ℕ) → length es ≡ length cs → rising es ≡ true → has e (recordsOf es cs) ≡ ltb (placeOf e es) (placeOf (suc e) es)
+unfolding placeOf has recordsOf rising
+has-place e [] cs h r = refl
+has-place e (x ∷ xs) [] h r = absurd (omega arith)
+has-place e (x ∷ xs) (c ∷ cs) h r = by (side x e) (has-place e xs cs (omega arith) (asc-rises x xs r))
+  where
+    by : Side x e → has e (recordsOf xs cs) ≡ ltb (placeOf e xs) (placeOf (suc e) xs) → has e (recordsOf (x ∷ xs) (c ∷ cs)) ≡ ltb (placeOf e (x ∷ xs)) (placeOf (suc e) (x ∷ xs))
+    by (lower l) ih = rw (ne-eqb e x (λ d. omega arith), lt-ltb x e l, lt-ltb x (suc e) (omega arith), compare·suc-suc) ih
+    by (equal l) ih =
+        rw (eq-eqb e x (sym l), le-ltb x e (omega arith), lt-ltb x (suc e) (omega arith)) (sym (lt-ltb 0 (suc (placeOf (suc e) xs)) (omega arith)))
+    by (higher l) ih =
+        rw (ne-eqb e x (λ d. omega arith), le-ltb x e (omega arith), le-ltb x (suc e) (omega arith))
+        (has-above e x (recordsOf xs cs) (omega arith) (rw (epochs-records xs cs (omega arith)) r))
+
+pub spot-has : {es cs : List ℕ} → Table es cs → (e : ℕ) → has e (recordsOf es cs) ≡ ltb (spotOf e es cs .below) (spotOf e es cs .upto)
+spot-has {es} {cs} t e = has-place e es cs (t .even) (t .rises)

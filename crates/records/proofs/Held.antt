@@ -70,6 +70,10 @@ module _ (e : ℕ) (os : List At) where
       by true = refl
       by false = refl
 
+pub has-none : (e : ℕ) → has e [] ≡ false
+unfolding has
+has-none e = refl
+
 -- ---- records above an epoch
 
 module _ (e : ℕ) where

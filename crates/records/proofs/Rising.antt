@@ -54,6 +54,18 @@ unfolding rising
 asc-rises b [] h = refl
 asc-rises b (e ∷ es) h = asc-tail b e es h
 
+pub rises-none : rising [] ≡ true
+unfolding rising
+rises-none = refl
+
+pub asc-of-rises : (e : ℕ) (es : List ℕ) → rising (e ∷ es) ≡ true → ascending e es ≡ true
+unfolding rising
+asc-of-rises e es h = h
+
+pub rises-cons : (e : ℕ) (es : List ℕ) → ascending e es ≡ true → rising (e ∷ es) ≡ true
+unfolding rising
+rises-cons e es h = h
+
 -- ---- from a place on
 
 pub drop-next : (es : List ℕ) (i : ℕ) → i < length es → drop i es ≡ getD es i 0 ∷ drop (i + 1) es

@@ -46,6 +46,14 @@ unfolding recordsOf epochsOf countsOf
 records-back [] = refl
 records-back (r ∷ rs) = rw (records-back rs)
 
+pub epochs-none : epochsOf [] ≡ []
+unfolding epochsOf
+epochs-none = refl
+
+pub epochs-cons : (r : At) (rs : List At) → epochsOf (r ∷ rs) ≡ r .epoch ∷ epochsOf rs
+unfolding epochsOf
+epochs-cons r rs = refl
+
 -- ---- from a place on
 
 no-counts : (es : List ℕ) → recordsOf es [] ≡ []

@@ -59,6 +59,11 @@ put-above b r (s ∷ ss) p h =
     (λ q. asc-cons b (r .epoch) (epochsOf ss) p (rw q behind))
     (λ q. asc-cons b (s .epoch) (epochsOf (put r ss)) (asc-head b (s .epoch) (epochsOf ss) h) (put-above (s .epoch) r ss q behind))
 
+-- none of theirs
+pub union-none : (os : List At) → union os [] ≡ os
+unfolding union
+union-none os = refl
+
 -- one more of theirs is one more record put in
 pub union-put : (t : At) (os ts : List At) → union os (t ∷ ts) ≡ put t (union os ts)
 unfolding union

@@ -1,2 +1,3 @@
 pub mod Removing
+pub mod Findings
 pub mod Calls

@@ -53,25 +53,27 @@ minus (r ∷ rs) ss = lessened ss r ++ minus rs ss
 
 -- ---- the removing merge
 
--- flags less sections, unless one is at fault
+-- flags, unless there is a fault
 abbrev pub unlessFault : Option ℕ → Flags → Answer Flags
 unlessFault none f = ok f
 unlessFault (some n) f = refused n
 
--- flags less a removal, of which only sections are read: 5 where they are not our owner's alone, or 32 zero bytes' if unowned
-abbrev pub taken : Option (List ℕ) → Removal → Flags → Answer Flags
-taken ours nothing f = ok f
-taken ours (basic n) f = ok f
-taken ours (sectioned rows) f =
-    cond (onlyUnder (idOf ours) rows)
-    (unlessFault (fault (f .base) (f .records) (partsOf rows)) (flags (f .base) (f .owner) (minus (f .records) (partsOf rows))))
-    (refused 5)
+-- flags less sections, or the refusal of the first at fault
+abbrev pub lessSections : List At → Flags → Answer Flags
+lessSections ss f = unlessFault (fault (f .base) (f .records) ss) (flags (f .base) (f .owner) (minus (f .records) ss))
 
--- incoming base higher: ours of kind 0 or 2 comes back unchanged, even where owners differ; else the owner rule, the union, the removal
+-- flags less a removal, of which only sections are read: 5 where they are not this identifier's alone
+abbrev pub taken : List ℕ → Removal → Flags → Answer Flags
+taken i nothing f = ok f
+taken i (basic n) f = ok f
+taken i (sectioned rows) f = cond (onlyUnder i rows) (lessSections (partsOf rows) f) (refused 5)
+
+-- incoming base higher: ours of kind 0 or 2 comes back unchanged, even where owners differ; else the owner rule, the union, the removal,
+-- whose sections are our owner's, or 32 zero bytes' if unowned
 abbrev pub removedAbove : MergingOwnersStrategy → Removal → Flags → Flags → List At → Answer Flags
 removedAbove s removal ours theirs [] = ok ours
 removedAbove s removal ours theirs (r ∷ rs) =
-    owning (combinedOwner s (ours .owner) (theirs .owner)) (λ owner. taken (ours .owner) removal (joined ours theirs owner))
+    owning (combinedOwner s (ours .owner) (theirs .owner)) (λ owner. taken (idOf (ours .owner)) removal (joined ours theirs owner))
 
 -- equal bases: the owner rule, then the union; the removal is not read
 abbrev pub removedBeside : MergingOwnersStrategy → Flags → Flags → Answer Flags

@@ -67,7 +67,7 @@ module _ (x y : ℕ) (n : Order) where
       by-cases (λ o. by y x (flip n) ≡ flip o) (λ p. let q : x ≤ y = omega arith in rw (le-ltb y x q, lt-ltb x y p)) (λ p. rw (lt-ltb y x p))
       (λ p. let q : x ≤ y = omega arith in let r : y ≤ x = omega arith in rw (le-ltb y x q, le-ltb x y r))
 
-  by-less-inv : by x y n ≡ Less → (x < y) ⊎ ((x ≡ y) × (n ≡ Less))
+  pub by-less-inv : by x y n ≡ Less → (x < y) ⊎ ((x ≡ y) × (n ≡ Less))
   by-less-inv = by-cases (λ o. o ≡ Less → (x < y) ⊎ ((x ≡ y) × (n ≡ Less))) (λ p e. inl p) (λ p e. absurd (greater-less e)) (λ p e. inr (p, e))
 
   by-equal-inv : by x y n ≡ Equal → (x ≡ y) × (n ≡ Equal)

@@ -7,3 +7,4 @@ pub mod Backing
 pub mod Only
 pub mod Under
 pub mod Over
+pub mod Parts

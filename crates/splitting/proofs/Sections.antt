@@ -22,6 +22,11 @@ unfolding section
 section-one e zero most p = absurd (omega arith)
 section-one e (suc n) most p = refl
 
+-- the base's section, and those at the records
+pub split-parts : (base : ℕ) (rs : List At) (n : ℕ) → split base rs n ≡ section base (asked n rs) (asked n rs) ++ sections rs n
+unfolding split
+split-parts base rs n = refl
+
 -- ---- nothing is asked
 
 pub asked-none : (rs : List At) → asked 0 rs ≡ 0

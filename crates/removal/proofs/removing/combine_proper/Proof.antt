@@ -1,0 +1,61 @@
+-- `removal::removing::combine_proper` meets its contract: the bases decide. Assumes nothing.
+use mathlib.Core.Path.{sym, ap, _∙_}
+use Prim.Native.Nat.{_<_}
+use native.Mathlib.Omega.{arith}
+use borrow.Author.Needs.{needs}
+use Rattle.records.specs.Flags.{Flags, flagsOf}
+use Rattle.records.specs.Answers.{Answer, placing}
+use Rattle.records.proofs.Answers.{refused-placing}
+use Rattle.rows.specs.Rows.{tables}
+use Rattle.rows.specs.Removals.{Removal, removalOf}
+use Rattle.removal.specs.Removing.{removed}
+use Rattle.removal.proofs.Merging.{removed-lower, removed-beside, removed-above}
+use Rattle.removal.proofs.removing.combine_proper.Statement.{statement}
+use Rattle.removal.proofs.removing.combine_proper.Tie as tie
+
+-- ours, theirs and the removal
+abbrev ours : tie.Start → Flags
+ours c = flagsOf (c .args .ours) (c .args .our-epochs .now) (c .args .our-counts .now)
+
+abbrev theirs : tie.Start → Flags
+theirs c = flagsOf (c .args .theirs) (c .args .their-epochs .now) (c .args .their-counts .now)
+
+abbrev removal : tie.Start → Removal
+removal c = removalOf (c .args .removed) (tables (c .args .ids .now) (c .args .removed-epochs .now) (c .args .removed-bytes .now))
+
+returns : tie.Need-returns
+returns c =
+    let b = c .before .before .before .before .before .before .before .before .before .before in
+    let a = b .args in
+    refused-placing (c .refused .result) (a .epochs .now) (a .counts .now) (removed (a .strategy) (removal b) (ours b) (theirs b)) _ (c .refused .ensures)
+    (removed-lower (a .strategy) (removal b) (ours b) (theirs b) (c .before .if1 .taken))
+
+returns-2 : tie.Need-returns-2
+returns-2 c =
+    let b = c .before .before .before .before .before .before .before .before .before .before .before .before .before .before .before .before .before in
+    let a = b .args in
+    c .before .before .before .before .combine-same-base-epoch .ensures
+    ∙ sym (ap (λ (x : Answer Flags). placing x (a .epochs .now) (a .counts .now)) (removed-beside (a .strategy) (removal b) (ours b) (theirs b) (c .before .before .before .before .before .before .before .if2 .taken)))
+
+returns-3 : tie.Need-returns-3
+returns-3 c =
+    let b = c .before .before .before .before .before .before .before .before .before .before .before .before .before .before .before .before .before in
+    let a = b .args in
+    let p : a .ours .base < a .theirs .base = omega (arith, c .before .before .before .before .before .before .before .before .if1 .left, c .before .before .before .before .before .before .before .if2 .left) in
+    c .before .before .before .before .combine-with-higher-base-epoch-remove-bytes .ensures
+    ∙ sym (ap (λ (x : Answer Flags). placing x (a .epochs .now) (a .counts .now)) (removed-above (a .strategy) (removal b) (ours b) (theirs b) p))
+
+pub combine-proper-spec : {M : Type 1} → statement M
+combine-proper-spec =
+    tie.close
+    (tie.spec
+    (λ c κs. search needs)
+    returns
+    (λ c κs. (c .before .before .before .before .before .before .before .before .before .before .before .before .pre .0, c .before .before .before .before .before .before .before .before .before .before .before .before .pre .1 .0))
+    (λ c. search needs)
+    (λ c. search needs)
+    returns-2
+    (λ c κs. c .before .before .before .before .before .before .before .before .before .before .before .before .pre)
+    (λ c. search needs)
+    (λ c. search needs)
+    returns-3)

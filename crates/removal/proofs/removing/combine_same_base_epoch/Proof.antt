@@ -1,0 +1,60 @@
+-- `removal::removing::combine_same_base_epoch` meets its contract: the owner decides, then the union is placed. Assumes nothing.
+use mathlib.Core.Path.{sym, ap, _∙_}
+use lib.Seq.{length-take-le}
+use borrow.Author.Needs.{needs}
+use Rattle.records.specs.Flags.{Flags, ownerOf, flagsOf}
+use Rattle.records.specs.Answers.{Answer, placing}
+use Rattle.records.proofs.Proper.{IsProper, proper-inv, proper-table}
+use Rattle.records.proofs.Answers.{refused-placing}
+use Rattle.flags.specs.Owners.{combinedOwner}
+use Rattle.flags.proofs.Choosing.{answered-owner, refused-owner}
+use Rattle.removal.specs.Removing.{removedBeside}
+use Rattle.removal.proofs.Merging.{beside-disputed, beside-owned}
+use Rattle.removal.proofs.removing.combine_same_base_epoch.Statement.{statement}
+use Rattle.removal.proofs.removing.combine_same_base_epoch.Tie as tie
+
+-- ours and theirs
+abbrev ours : tie.Start → Flags
+ours c = flagsOf (c .args .ours) (c .args .our-epochs .now) (c .args .our-counts .now)
+
+abbrev theirs : tie.Start → Flags
+theirs c = flagsOf (c .args .theirs) (c .args .their-epochs .now) (c .args .their-counts .now)
+
+our-proper : (c : tie.Start) → IsProper (c .args .ours) (c .args .our-epochs .now) (c .args .our-counts .now)
+our-proper c = proper-inv (c .args .ours) (c .args .our-epochs .now) (c .args .our-counts .now) (c .pre .0)
+
+their-proper : (c : tie.Start) → IsProper (c .args .theirs) (c .args .their-epochs .now) (c .args .their-counts .now)
+their-proper c = proper-inv (c .args .theirs) (c .args .their-epochs .now) (c .args .their-counts .now) (c .pre .1)
+
+returns : tie.Need-returns
+returns c =
+    let b = c .before .before .before .before .before .before .before .before .before in
+    let a = b .args in
+    refused-placing (c .refused .result) (a .epochs .now) (a .counts .now) (removedBeside (a .strategy) (ours b) (theirs b)) _ (c .refused .ensures)
+    (beside-disputed (a .strategy) (ours b) (theirs b)
+    (refused-owner _ (a .strategy) (ownerOf (a .ours)) (ownerOf (a .theirs)) (c .before .before .combine-owners .ensures) (c .before .if1 .taken)))
+
+returns-2 : tie.Need-returns-2
+returns-2 c =
+    let b = c .before .before .before .before .before .before .before .before .before .before .before .before .before .before .before .before .before .before .before .before in
+    let a = b .args in
+    c .before .before .before .before .place-union .ensures
+    ∙ sym (ap (λ (x : Answer Flags). placing x (a .epochs .now) (a .counts .now))
+    (beside-owned (a .strategy) (ours b) (theirs b) _
+    (answered-owner _ (combinedOwner (a .strategy) (ownerOf (a .ours)) (ownerOf (a .theirs))) (c .before .before .before .before .before .before .before .before .before .before .before .before .before .combine-owners .ensures) (c .before .before .before .before .before .before .before .before .before .before .before .before .if1 .left))))
+
+pub combine-same-base-epoch-spec : {M : Type 1} → statement M
+combine-same-base-epoch-spec =
+    tie.close
+    (tie.spec
+    (λ c κs. search needs)
+    (λ c κs. search needs)
+    returns
+    (λ c. sym (length-take-le _ _ (our-proper (c .before .before .before .before .before .before .before .before .before .before) .epochs-long)))
+    (λ c. sym (length-take-le _ _ (our-proper (c .before .before .before .before .before .before .before .before .before .before .before) .counts-long)))
+    (λ c. sym (length-take-le _ _ (their-proper (c .before .before .before .before .before .before .before .before .before .before .before .before) .epochs-long)))
+    (λ c. sym (length-take-le _ _ (their-proper (c .before .before .before .before .before .before .before .before .before .before .before .before .before) .counts-long)))
+    (λ c κs. (proper-table (our-proper (c .before .before .before .before .before .before .before .before .before .before .before .before .before .before .before)), proper-table (their-proper (c .before .before .before .before .before .before .before .before .before .before .before .before .before .before .before))))
+    (λ c. search needs)
+    (λ c. search needs)
+    returns-2)

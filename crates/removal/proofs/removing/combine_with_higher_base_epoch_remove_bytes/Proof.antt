@@ -1,0 +1,91 @@
+-- `removal::removing::combine_with_higher_base_epoch_remove_bytes` meets its contract: ours without records comes back, else the owner
+-- decides, then the removal is taken under our owner. Assumes nothing.
+use mathlib.Core.Path.{sym, ap, _∙_}
+use mathlib.Core.List.{List}
+use Prim.Native.Nat.{ℕ, _<_}
+use native.Mathlib.Omega.{arith}
+use lib.ListN.{length}
+use lib.Seq.{length-take-le}
+use borrow.Author.Needs.{needs}
+use Rattle.records.specs.Flags.{Flags, ownerIf, ownerOf, flagsOf}
+use Rattle.records.specs.Answers.{Answer, placing}
+use Rattle.records.specs.declared.head.MaybeOwner.{MaybeOwner}
+use Rattle.records.proofs.Owners.{owner-bytes}
+use Rattle.records.proofs.Proper.{IsProper, proper-inv, proper-table, proper-long}
+use Rattle.records.proofs.Answers.{refused-placing}
+use Rattle.flags.specs.Owners.{combinedOwner}
+use Rattle.flags.specs.Merging.{joined}
+use Rattle.flags.proofs.Choosing.{answered-owner, refused-owner}
+use Rattle.rows.specs.Rows.{tables}
+use Rattle.rows.specs.Removals.{Removal, removalOf}
+use Rattle.removal.specs.Removing.{taken, removedAbove}
+use Rattle.removal.proofs.Merging.{above-single, above-disputed, above-owned}
+use Rattle.removal.proofs.removing.combine_with_higher_base_epoch_remove_bytes.Statement.{statement}
+use Rattle.removal.proofs.removing.combine_with_higher_base_epoch_remove_bytes.Tie as tie
+
+-- ours, theirs and the removal
+abbrev ours : tie.Start → Flags
+ours c = flagsOf (c .args .ours) (c .args .our-epochs .now) (c .args .our-counts .now)
+
+abbrev theirs : tie.Start → Flags
+theirs c = flagsOf (c .args .theirs) (c .args .their-epochs .now) (c .args .their-counts .now)
+
+abbrev removal : tie.Start → Removal
+removal c = removalOf (c .args .removed) (tables (c .args .ids .now) (c .args .removed-epochs .now) (c .args .removed-bytes .now))
+
+our-proper : (c : tie.Start) → IsProper (c .args .ours) (c .args .our-epochs .now) (c .args .our-counts .now)
+our-proper c = proper-inv (c .args .ours) (c .args .our-epochs .now) (c .args .our-counts .now) (c .pre .0)
+
+their-proper : (c : tie.Start) → IsProper (c .args .theirs) (c .args .their-epochs .now) (c .args .their-counts .now)
+their-proper c = proper-inv (c .args .theirs) (c .args .their-epochs .now) (c .args .their-counts .now) (c .pre .1 .0)
+
+returns : tie.Need-returns
+returns c =
+    let b = c .before .before .before .before .before .before .before .before .before .before .before .before .before .before .before .before in
+    let a = b .args in
+    c .before .before .before .before .hand-on .ensures
+    ∙ sym (ap (λ (x : Answer Flags). placing x (a .epochs .now) (a .counts .now))
+    (above-single (a .strategy) (removal b) (ours b) (theirs b) (ours b .records) (proper-long (our-proper b) ∙ c .before .before .before .before .before .before .before .if1 .taken)))
+
+returns-2 : tie.Need-returns-2
+returns-2 c =
+    let b = c .before .before .before .before .before .before .before .before .before .before .before .before in
+    let a = b .args in
+    let p : 0 < length (ours b .records) = omega (arith, proper-long (our-proper b), c .before .before .before .if1 .left) in
+    refused-placing (c .refused .result) (a .epochs .now) (a .counts .now) (removedAbove (a .strategy) (removal b) (ours b) (theirs b) (ours b .records)) _ (c .refused .ensures)
+    (above-disputed (a .strategy) (removal b) (ours b) (theirs b) (ours b .records) p
+    (refused-owner _ (a .strategy) (ownerOf (a .ours)) (ownerOf (a .theirs)) (c .before .before .combine-owners .ensures) (c .before .if2 .taken)))
+
+returns-3 : tie.Need-returns-3
+returns-3 c =
+    let b = c .before .before .before .before .before .before .before .before .before .before .before .before .before .before .before .before .before .before .before .before .before .before .before .before .before in
+    let a = b .args in
+    let p : 0 < length (ours b .records) = omega (arith, proper-long (our-proper b), c .before .before .before .before .before .before .before .before .before .before .before .before .before .before .before .before .if1 .left) in
+    let w : MaybeOwner = c .before .before .before .before .before .before .before .before .before .before .before .before .before .before .before .combine-owners .result .owner in
+    let i = ap (λ (m : MaybeOwner). m .id) (c .before .before .before .before .before .before .before .before .before .before .before .before .owner-id .ensures) ∙ owner-bytes (ownerOf (a .ours)) in
+    c .before .before .before .before .remove-bytes .ensures
+    ∙ ap (λ (j : List ℕ). placing (taken j (removal b) (joined (ours b) (theirs b) (ownerIf (w .owned) (w .id)))) (a .epochs .now) (a .counts .now)) i
+    ∙ sym (ap (λ (x : Answer Flags). placing x (a .epochs .now) (a .counts .now))
+    (above-owned (a .strategy) (removal b) (ours b) (theirs b) (ours b .records) p _
+    (answered-owner _ (combinedOwner (a .strategy) (ownerOf (a .ours)) (ownerOf (a .theirs))) (c .before .before .before .before .before .before .before .before .before .before .before .before .before .before .before .combine-owners .ensures) (c .before .before .before .before .before .before .before .before .before .before .before .before .before .before .if2 .left))))
+
+pub combine-with-higher-base-epoch-remove-bytes-spec : {M : Type 1} → statement M
+combine-with-higher-base-epoch-remove-bytes-spec =
+    tie.close
+    (tie.spec
+    (λ c κs. c .before .before .before .before .before .before .before .before .before .before .before .pre .0)
+    (λ c. search needs)
+    (λ c. search needs)
+    returns
+    (λ c κs. search needs)
+    (λ c κs. search needs)
+    returns-2
+    (λ c κs. search needs)
+    (λ c. sym (length-take-le _ _ (our-proper (c .before .before .before .before .before .before .before .before .before .before .before .before .before .before .before) .epochs-long)))
+    (λ c. sym (length-take-le _ _ (our-proper (c .before .before .before .before .before .before .before .before .before .before .before .before .before .before .before .before) .counts-long)))
+    (λ c. sym (length-take-le _ _ (their-proper (c .before .before .before .before .before .before .before .before .before .before .before .before .before .before .before .before .before) .epochs-long)))
+    (λ c. sym (length-take-le _ _ (their-proper (c .before .before .before .before .before .before .before .before .before .before .before .before .before .before .before .before .before .before) .counts-long)))
+    (λ c κs. (proper-table (our-proper (c .before .before .before .before .before .before .before .before .before .before .before .before .before .before .before .before .before .before .before .before)), (proper-table (their-proper (c .before .before .before .before .before .before .before .before .before .before .before .before .before .before .before .before .before .before .before .before)), c .before .before .before .before .before .before .before .before .before .before .before .before .before .before .before .before .before .before .before .before .pre .1 .1)))
+    (λ c. search needs)
+    (λ c. search needs)
+    returns-3)

@@ -1,0 +1,38 @@
+-- `removal::removing::optional_combine_removed_bytes` meets its contract: ours is there, or absent with a proper removal or not.
+-- Assumes nothing.
+use mathlib.Core.Path.{sym, _∙_}
+use borrow.Author.Needs.{needs}
+use Rattle.records.proofs.Answers.{refused-left}
+use Rattle.removal.proofs.Merging.{optional-present, optional-absent, optional-bad}
+use Rattle.removal.proofs.removing.optional_combine_removed_bytes.Statement.{statement}
+use Rattle.removal.proofs.removing.optional_combine_removed_bytes.Tie as tie
+
+returns : tie.Need-returns
+returns c = c .before .before .before .before .combine-removed-bytes .ensures ∙ sym (optional-present _ _ _ _ _ _ _ _ _ _ _ _ (c .before .before .before .before .before .before .before .if1 .taken))
+
+returns-2 : tie.Need-returns-2
+returns-2 c =
+    let a = c .before .before .before .before .before .before .before .before .before .before .before .before .before .before .before .before .before .before .args in
+    c .before .before .before .before .combine-absent .ensures ∙ sym (optional-absent (a .ours) (a .our-epochs .now) (a .our-counts .now) (a .theirs) (a .their-epochs .now) (a .their-counts .now) _ _ (a .strategy) _ _ _ (c .before .before .before .before .before .before .before .before .before .if1 .left) (sym (c .before .before .before .before .before .before .before .before .is-proper .ensures) ∙ c .before .before .before .before .before .before .before .if2 .taken))
+
+returns-3 : tie.Need-returns-3
+returns-3 c =
+    let a = c .before .before .before .before .before .before .before .before .before .before .before .before .args in
+    refused-left _ _ _ _ (c .refused .ensures)
+    ∙ sym (optional-bad (a .ours) (a .our-epochs .now) (a .our-counts .now) (a .theirs) (a .their-epochs .now) (a .their-counts .now) _ _ (a .strategy) _ _ _ (c .before .before .before .if1 .left) (sym (c .before .before .is-proper .ensures) ∙ c .before .if2 .left))
+
+pub optional-combine-removed-bytes-spec : {M : Type 1} → statement M
+optional-combine-removed-bytes-spec =
+    tie.close
+    (tie.spec
+    (λ c κs. search needs)
+    (λ c. search needs)
+    (λ c. search needs)
+    returns
+    (λ c κs. search needs)
+    (λ c κs. search needs)
+    (λ c. search needs)
+    (λ c. search needs)
+    returns-2
+    (λ c κs. search needs)
+    returns-3)

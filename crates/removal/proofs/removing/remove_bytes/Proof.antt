@@ -1,0 +1,59 @@
+-- `removal::removing::remove_bytes` meets its contract: of a removal only rows are read. Assumes nothing.
+use mathlib.Core.Path.{sym, ap, _∙_}
+use borrow.Author.Needs.{needs}
+use Rattle.records.specs.Tables.{recordsOf, union}
+use Rattle.records.specs.Flags.{Flags, flags, ownerIf}
+use Rattle.records.specs.Answers.{After, placing}
+use Rattle.rows.specs.Rows.{Tables, tables}
+use Rattle.rows.specs.Removals.{removalOf}
+use Rattle.rows.specs.declared.removal.Removed.{Removed}
+use Rattle.rows.proofs.Removals.{proper-sectioned}
+use Rattle.removal.specs.Removing.{taken}
+use Rattle.removal.proofs.removing.remove_bytes.Statement.{statement}
+use Rattle.removal.proofs.removing.remove_bytes.Tie as tie
+
+-- the flags with the union, the tables, and what a state leaves
+abbrev joined : tie.Start → Flags
+joined c =
+    flags (c .args .base) (ownerIf (c .args .owner .owned) (c .args .owner .id))
+    (union (recordsOf (c .args .our-epochs .now) (c .args .our-counts .now)) (recordsOf (c .args .their-epochs .now) (c .args .their-counts .now)))
+
+abbrev lent : tie.Start → Tables
+lent c = tables (c .args .ids .now) (c .args .removed-epochs .now) (c .args .removed-bytes .now)
+
+abbrev left : tie.Start → Removed → After
+left c x = placing (taken (c .args .id) (removalOf x (lent c)) (joined c)) (c .args .epochs .now) (c .args .counts .now)
+
+returns : tie.Need-returns
+returns c = c .before .before .before .before .place-union .ensures ∙ sym (ap (left (c .before .before .before .before .before .before .before .before .before .before .before .before .before .before .before .before .before)) (c .before .before .before .before .before .before .before .enum-told .given .1))
+
+returns-2 : tie.Need-returns-2
+returns-2 c = c .before .before .before .before .place-union2 .ensures ∙ sym (ap (left (c .before .before .before .before .before .before .before .before .before .before .before .before .before .before .before .before .before)) (c .before .before .before .before .before .before .before .enum-told2 .given .1))
+
+returns-3 : tie.Need-returns-3
+returns-3 c = c .before .before .before .before .remove-rows .ensures ∙ sym (ap (left (c .before .before .before .before .before .before .before .before .before .before .before .before .before .before .before .before .before .before)) (c .before .before .before .before .before .before .before .before .removed .given .1))
+
+remove-rows-requires : tie.Need-remove-rows-requires
+remove-rows-requires c κs =
+    let b = c .before .before .before .before .before .before .before .before .before .before .before .before .before in
+    (b .pre .0, (b .pre .1 .0, proper-sectioned (b .args .removed) _ (lent b) (b .pre .1 .1) (c .before .before .before .removed .given .1)))
+
+pub remove-bytes-spec : {M : Type 1} → statement M
+remove-bytes-spec =
+    tie.close
+    (tie.spec
+    (λ c. search needs)
+    (λ c κs. (c .before .before .before .before .before .before .before .before .before .before .before .before .pre .0, c .before .before .before .before .before .before .before .before .before .before .before .before .pre .1 .0))
+    (λ c. search needs)
+    (λ c κs. (c .before .before .before .before .before .before .before .before .before .before .before .before .pre .0, c .before .before .before .before .before .before .before .before .before .before .before .before .pre .1 .0))
+    (λ c. search needs)
+    remove-rows-requires
+    (λ c. search needs)
+    (λ c. search needs)
+    returns
+    (λ c. search needs)
+    (λ c. search needs)
+    returns-2
+    (λ c. search needs)
+    (λ c. search needs)
+    returns-3)

@@ -1,0 +1,67 @@
+-- `removal::removing::remove_rows` meets its contract: the rows are the identifier's alone, and then a table of sections; or not.
+-- Assumes nothing.
+use mathlib.Core.Path.{_≡_, sym, ap, _∙_}
+use mathlib.Core.Bool.{true}
+use mathlib.Core.List.{List}
+use lib.ListN.{take}
+use lib.Seq.{length-take-le}
+use borrow.Author.Needs.{needs}
+use Rattle.records.specs.Tables.{recordsOf, union}
+use Rattle.records.specs.Flags.{Flags, flags, ownerIf}
+use Rattle.records.specs.Answers.{Answer, placing}
+use Rattle.records.proofs.Answers.{refused-placing}
+use Rattle.rows.specs.Rows.{Row, Tables, tables, rowsIn}
+use Rattle.rows.specs.Removals.{sectioned}
+use Rattle.rows.proofs.Parts.{parts-in}
+use Rattle.removal.specs.Removing.{onlyUnder, taken}
+use Rattle.removal.proofs.Under.{under-table}
+use Rattle.removal.proofs.Merging.{taken-others, taken-under}
+use Rattle.removal.proofs.removing.remove_rows.Statement.{statement}
+use Rattle.removal.proofs.removing.remove_rows.Tie as tie
+
+-- the flags with the union, the tables, and the rows
+abbrev joined : tie.Start → Flags
+joined c =
+    flags (c .args .base) (ownerIf (c .args .owner .owned) (c .args .owner .id))
+    (union (recordsOf (c .args .our-epochs .now) (c .args .our-counts .now)) (recordsOf (c .args .their-epochs .now) (c .args .their-counts .now)))
+
+abbrev lent : tie.Start → Tables
+lent c = tables (c .args .ids .now) (c .args .removed-epochs .now) (c .args .removed-bytes .now)
+
+abbrev rows : tie.Start → List Row
+rows c = rowsIn (c .args .n) (lent c)
+
+remove-sections-requires : tie.Need-remove-sections-requires
+remove-sections-requires c κs =
+    let b = c .before .before .before .before .before .before .before .before .before .before .before .before .before .before in
+    (b .pre .0, (b .pre .1 .0, under-table (b .pre .1 .1) (b .args .id) (sym (c .before .before .before .before .before .only-under .ensures) ∙ c .before .before .before .before .if1 .taken)))
+
+returns : tie.Need-returns
+returns c =
+    let b = c .before .before .before .before .before .before .before .before .before .before .before .before .before .before .before .before .before .before .before in
+    let a = b .args in
+    let h : onlyUnder (a .id) (rows b) ≡ true = sym (c .before .before .before .before .before .before .before .before .before .before .only-under .ensures) ∙ c .before .before .before .before .before .before .before .before .before .if1 .taken in
+    c .before .before .before .before .remove-sections .ensures
+    ∙ sym (ap (λ (x : Answer Flags). placing x (a .epochs .now) (a .counts .now))
+    (taken-under (a .id) (rows b) (joined b) (recordsOf (take (a .n) (a .removed-epochs .now)) (take (a .n) (a .removed-bytes .now))) h (parts-in (b .pre .1 .1 .room))))
+
+returns-2 : tie.Need-returns-2
+returns-2 c =
+    let b = c .before .before .before .before .before .before .before .before .before .before .before in
+    let a = b .args in
+    refused-placing (c .refused .result) (a .epochs .now) (a .counts .now) (taken (a .id) (sectioned (rows b)) (joined b)) _ (c .refused .ensures)
+    (taken-others (a .id) (rows b) (joined b) (sym (c .before .before .only-under .ensures) ∙ c .before .if1 .left))
+
+pub remove-rows-spec : {M : Type 1} → statement M
+remove-rows-spec =
+    tie.close
+    (tie.spec
+    (λ c κs. c .before .before .before .before .before .before .before .before .pre .1 .1 .room)
+    (λ c. sym (length-take-le _ _ (c .before .before .before .before .before .before .before .before .before .before .before .pre .1 .1 .room .epochs-long)))
+    (λ c. sym (length-take-le _ _ (c .before .before .before .before .before .before .before .before .before .before .before .before .pre .1 .1 .room .bytes-long)))
+    remove-sections-requires
+    (λ c. search needs)
+    (λ c. search needs)
+    returns
+    (λ c κs. search needs)
+    returns-2)

@@ -1,0 +1,154 @@
+// Putting what remains of a union after the sections into the lent tables, where they have room.
+ghost use mathlib.Core.Path.{_≡_};
+ghost use mathlib.Core.Option.{some};
+ghost use Prim.Native.Nat.{_≤_};
+ghost use lib.ListN.{length};
+ghost use Rattle.records.specs.Tables.{recordsOf, union, Table, Placed};
+ghost use Rattle.records.specs.Flags.{flags, ownerIf};
+ghost use Rattle.records.specs.Answers.{ok, shown, roomFor, after};
+ghost use Rattle.removal.specs.Removing.{minus};
+use crate::sections::remove_from;
+use records::Answered;
+use records::Head;
+use records::MaybeOwner;
+use records::Refusal;
+
+// How many records remain.
+fn remaining_len(
+    our_epochs: &[u16],
+    our_counts: &[u32],
+    their_epochs: &[u16],
+    their_counts: &[u32],
+    removed_epochs: &[u16],
+    removed_bytes: &[u32],
+) -> usize
+    requires { ⌜ Table (now «our_epochs») (now «our_counts») ⌝ }
+    requires { ⌜ Table (now «their_epochs») (now «their_counts») ⌝ }
+    requires { ⌜ Table (now «removed_epochs») (now «removed_bytes») ⌝ }
+    ensures { λ r. ⌜ r ≡ length (minus (union (recordsOf (now («our_epochs» .entry)) (now («our_counts» .entry))) (recordsOf (now («their_epochs» .entry)) (now («their_counts» .entry)))) (recordsOf (now («removed_epochs» .entry)) (now («removed_bytes» .entry)))) ⌝ }
+{
+    let end = our_epochs.len() + their_epochs.len();
+    let mut a: usize = 0;
+    let mut b: usize = 0;
+    let mut n: usize = 0;
+    while a + b < end {
+        let next = records::next_record(our_epochs, our_counts, a, their_epochs, their_counts, b);
+        let rest = remove_from(removed_epochs, removed_bytes, next.epoch, next.count);
+        a = next.i;
+        b = next.j;
+        if rest.stays {
+            n += 1;
+        }
+    }
+    n
+}
+
+// Whether what remains has room. It is counted only where the room is not surely enough.
+fn remaining_fits(
+    our_epochs: &[u16],
+    our_counts: &[u32],
+    their_epochs: &[u16],
+    their_counts: &[u32],
+    removed_epochs: &[u16],
+    removed_bytes: &[u32],
+    epochs_len: usize,
+    counts_len: usize,
+) -> bool
+    requires { ⌜ Table (now «our_epochs») (now «our_counts») ⌝ }
+    requires { ⌜ Table (now «their_epochs») (now «their_counts») ⌝ }
+    requires { ⌜ Table (now «removed_epochs») (now «removed_bytes») ⌝ }
+    ensures { λ r. ⌜ r ≡ roomFor (length (minus (union (recordsOf (now («our_epochs» .entry)) (now («our_counts» .entry))) (recordsOf (now («their_epochs» .entry)) (now («their_counts» .entry)))) (recordsOf (now («removed_epochs» .entry)) (now («removed_bytes» .entry))))) «epochs_len» «counts_len» ⌝ }
+{
+    let most = our_epochs.len() + their_epochs.len();
+    if flags::fit(most, epochs_len, counts_len) {
+        return true;
+    }
+    let n = remaining_len(
+        our_epochs,
+        our_counts,
+        their_epochs,
+        their_counts,
+        removed_epochs,
+        removed_bytes,
+    );
+    flags::fit(n, epochs_len, counts_len)
+}
+
+// Puts what remains into the two tables lent for it; answers the place behind it.
+fn remaining_into(
+    our_epochs: &[u16],
+    our_counts: &[u32],
+    their_epochs: &[u16],
+    their_counts: &[u32],
+    removed_epochs: &[u16],
+    removed_bytes: &[u32],
+    epochs: &mut [u16],
+    counts: &mut [u32],
+) -> usize
+    requires { ⌜ Table (now «our_epochs») (now «our_counts») ⌝ }
+    requires { ⌜ Table (now «their_epochs») (now «their_counts») ⌝ }
+    requires { ⌜ Table (now «removed_epochs») (now «removed_bytes») ⌝ }
+    requires { ⌜ length (minus (union (recordsOf (now «our_epochs») (now «our_counts»)) (recordsOf (now «their_epochs») (now «their_counts»))) (recordsOf (now «removed_epochs») (now «removed_bytes»))) ≤ length (now epochs) ⌝ }
+    requires { ⌜ length (minus (union (recordsOf (now «our_epochs») (now «our_counts»)) (recordsOf (now «their_epochs») (now «their_counts»))) (recordsOf (now «removed_epochs») (now «removed_bytes»))) ≤ length (now counts) ⌝ }
+    ensures { λ r. ⌜ Placed (minus (union (recordsOf (now («our_epochs» .entry)) (now («our_counts» .entry))) (recordsOf (now («their_epochs» .entry)) (now («their_counts» .entry)))) (recordsOf (now («removed_epochs» .entry)) (now («removed_bytes» .entry)))) 0 r (now (epochs .entry)) (now (counts .entry)) (now (epochs .exit)) (now (counts .exit)) ⌝ }
+{
+    let end = our_epochs.len() + their_epochs.len();
+    let mut a: usize = 0;
+    let mut b: usize = 0;
+    let mut k: usize = 0;
+    while a + b < end {
+        let next = records::next_record(our_epochs, our_counts, a, their_epochs, their_counts, b);
+        let rest = remove_from(removed_epochs, removed_bytes, next.epoch, next.count);
+        if rest.stays {
+            epochs[k] = next.epoch;
+            counts[k] = rest.count;
+            k += 1;
+        }
+        a = next.i;
+        b = next.j;
+    }
+    k
+}
+
+// Flags with what remains.
+pub fn place_remaining(
+    owner: MaybeOwner,
+    base: u16,
+    our_epochs: &[u16],
+    our_counts: &[u32],
+    their_epochs: &[u16],
+    their_counts: &[u32],
+    removed_epochs: &[u16],
+    removed_bytes: &[u32],
+    epochs: &mut [u16],
+    counts: &mut [u32],
+) -> Answered
+    requires { ⌜ Table (now «our_epochs») (now «our_counts») ⌝ }
+    requires { ⌜ Table (now «their_epochs») (now «their_counts») ⌝ }
+    requires { ⌜ Table (now «removed_epochs») (now «removed_bytes») ⌝ }
+    ensures { λ r. ⌜ shown r (now (epochs .exit)) (now (counts .exit)) ≡ after (ok (some (flags base (ownerIf (owner .owned) (owner .id)) (minus (union (recordsOf (now («our_epochs» .entry)) (now («our_counts» .entry))) (recordsOf (now («their_epochs» .entry)) (now («their_counts» .entry)))) (recordsOf (now («removed_epochs» .entry)) (now («removed_bytes» .entry))))))) (now (epochs .entry)) (now (counts .entry)) ⌝ }
+{
+    if remaining_fits(
+        our_epochs,
+        our_counts,
+        their_epochs,
+        their_counts,
+        removed_epochs,
+        removed_bytes,
+        epochs.len(),
+        counts.len(),
+    ) {
+        let n = remaining_into(
+            our_epochs,
+            our_counts,
+            their_epochs,
+            their_counts,
+            removed_epochs,
+            removed_bytes,
+            epochs,
+            counts,
+        );
+        return records::present(Head::new(base, owner, n));
+    }
+    records::refused(Refusal::NoRoom)
+}

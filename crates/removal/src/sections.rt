@@ -1,0 +1,164 @@
+// The sections of a removal beside the records: whose they are, which is at fault, and what stays of a record.
+ghost use mathlib.Core.Path.{_≡_};
+ghost use Rattle.records.specs.Tables.{_⦂_, recordsOf, union, Table};
+ghost use Rattle.rows.specs.Rows.{tables, rowsIn, Room};
+ghost use Rattle.removal.specs.Removing.{onlyUnder, fault, lessened};
+ghost use Rattle.removal.specs.Findings.{found, faulted, faultOf, rested};
+use records::OwnerId;
+use records::Refusal;
+use splitting::MINIMUM_NON_BASE_FLAGS_SIZE;
+
+// Whether a record stands at an epoch, and its count.
+pub struct Found {
+    pub stands: bool,
+    pub count: u32,
+}
+
+// The fault of sections, if there is one.
+pub enum Fault {
+    Nowhere,
+    At(Refusal),
+}
+
+// Whether a record stays, and its count.
+pub struct Rest {
+    pub stays: bool,
+    pub count: u32,
+}
+
+// Whether the first n rows have one identifier, and it is this.
+pub fn only_under(id: OwnerId, n: usize, ids: &[[u8; 32]], epochs: &[u16], bytes: &[u32]) -> bool
+    requires { ⌜ Room n (tables (now ids) (now epochs) (now bytes)) ⌝ }
+    ensures { λ r. ⌜ r ≡ onlyUnder id (rowsIn n (tables (now (ids .entry)) (now (epochs .entry)) (now (bytes .entry)))) ⌝ }
+{
+    if n == 0 {
+        return false;
+    }
+    let mut i: usize = 0;
+    while i < n {
+        if records::same_owner(ids[i], id) {
+            i += 1;
+        } else {
+            return false;
+        }
+    }
+    true
+}
+
+// What stands at an epoch.
+pub fn find_at(epochs: &[u16], counts: &[u32], epoch: u16) -> Found
+    requires { ⌜ Table (now epochs) (now counts) ⌝ }
+    ensures { λ r. ⌜ r ≡ found epoch (recordsOf (now (epochs .entry)) (now (counts .entry))) ⌝ }
+{
+    let spot = records::look_up(epochs, counts, epoch);
+    Found {
+        stands: spot.below < spot.upto,
+        count: spot.count,
+    }
+}
+
+// What stands at an epoch of the union: theirs, else ours.
+fn find_in_union(
+    our_epochs: &[u16],
+    our_counts: &[u32],
+    their_epochs: &[u16],
+    their_counts: &[u32],
+    epoch: u16,
+) -> Found
+    requires { ⌜ Table (now «our_epochs») (now «our_counts») ⌝ }
+    requires { ⌜ Table (now «their_epochs») (now «their_counts») ⌝ }
+    ensures { λ r. ⌜ r ≡ found epoch (union (recordsOf (now («our_epochs» .entry)) (now («our_counts» .entry))) (recordsOf (now («their_epochs» .entry)) (now («their_counts» .entry)))) ⌝ }
+{
+    let theirs = find_at(their_epochs, their_counts, epoch);
+    if theirs.stands {
+        return theirs;
+    }
+    find_at(our_epochs, our_counts, epoch)
+}
+
+// The fault of one section, the base skipped: there is no record at its epoch, or the record holds less.
+fn judge_section(
+    base: u16,
+    our_epochs: &[u16],
+    our_counts: &[u32],
+    their_epochs: &[u16],
+    their_counts: &[u32],
+    epoch: u16,
+    bytes: u32,
+) -> Fault
+    requires { ⌜ Table (now «our_epochs») (now «our_counts») ⌝ }
+    requires { ⌜ Table (now «their_epochs») (now «their_counts») ⌝ }
+    ensures { λ r. ⌜ faulted r ≡ faultOf base (union (recordsOf (now («our_epochs» .entry)) (now («our_counts» .entry))) (recordsOf (now («their_epochs» .entry)) (now («their_counts» .entry)))) (epoch ⦂ bytes) ⌝ }
+{
+    if epoch == base {
+        return Fault::Nowhere;
+    }
+    let found = find_in_union(our_epochs, our_counts, their_epochs, their_counts, epoch);
+    if found.stands {
+        if bytes <= found.count {
+            return Fault::Nowhere;
+        }
+        return Fault::At(Refusal::Overflow);
+    }
+    Fault::At(Refusal::NoStorageAtEpoch)
+}
+
+// The fault of the first section at fault, in ascending epoch order.
+pub fn judge(
+    base: u16,
+    our_epochs: &[u16],
+    our_counts: &[u32],
+    their_epochs: &[u16],
+    their_counts: &[u32],
+    epochs: &[u16],
+    bytes: &[u32],
+) -> Fault
+    requires { ⌜ Table (now «our_epochs») (now «our_counts») ⌝ }
+    requires { ⌜ Table (now «their_epochs») (now «their_counts») ⌝ }
+    requires { ⌜ Table (now epochs) (now bytes) ⌝ }
+    ensures { λ r. ⌜ faulted r ≡ fault base (union (recordsOf (now («our_epochs» .entry)) (now («our_counts» .entry))) (recordsOf (now («their_epochs» .entry)) (now («their_counts» .entry)))) (recordsOf (now (epochs .entry)) (now (bytes .entry))) ⌝ }
+{
+    let mut i: usize = 0;
+    while i < epochs.len() {
+        match judge_section(
+            base,
+            our_epochs,
+            our_counts,
+            their_epochs,
+            their_counts,
+            epochs[i],
+            bytes[i],
+        ) {
+            Fault::Nowhere => {
+                i += 1;
+            }
+            Fault::At(refusal) => {
+                return Fault::At(refusal);
+            }
+        }
+    }
+    Fault::Nowhere
+}
+
+// What stays of a record after its section, if it has one, also one of 0: with 3 or less left it is dropped.
+pub fn remove_from(epochs: &[u16], bytes: &[u32], epoch: u16, count: u32) -> Rest
+    requires { ⌜ Table (now epochs) (now bytes) ⌝ }
+    ensures { λ r. ⌜ rested epoch r ≡ lessened (recordsOf (now (epochs .entry)) (now (bytes .entry))) (epoch ⦂ count) ⌝ }
+{
+    let section = find_at(epochs, bytes, epoch);
+    if section.stands {
+        let taken = section.count;
+        if count <= taken {
+            return Rest {
+                stays: false,
+                count: 0,
+            };
+        }
+        let left = count - taken;
+        return Rest {
+            stays: MINIMUM_NON_BASE_FLAGS_SIZE < left,
+            count: left,
+        };
+    }
+    Rest { stays: true, count }
+}
