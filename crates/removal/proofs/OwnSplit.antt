@@ -29,11 +29,12 @@ use Rattle.rows.specs.Removals.{Removal, removalOf, totalRows, proper as proper
 use Rattle.rows.specs.declared.removal.Removed.{Removed}
 use Rattle.rows.proofs.Under.{parts-under, total-none}
 use Rattle.splitting.specs.Sections.{asked, section, sections, split}
-use Rattle.splitting.specs.Calls.{removalOf as removalOfSplit}
+use Rattle.splitting.specs.Calls.{removalOf as removalOfSplit, Told, splitRemoved}
 use Rattle.splitting.proofs.Sections.{section-none, section-one, split-parts, split-none}
 use Rattle.splitting.proofs.Ascending.{sections-ascend}
 use Rattle.splitting.proofs.Given.{Within, sections-within}
 use Rattle.splitting.proofs.Sums.{split-sum}
+use Rattle.splitting.proofs.Accepted.{flags-proper, value-stands, accepted}
 use Rattle.removal.specs.Removing.{onlyUnder, fault, minus, taken, removedAbove, removed}
 use Rattle.removal.specs.Calls.{combinedRemoved}
 use Rattle.removal.proofs.Faults.{fault-base, fault-within, fault-none, fault-on}
@@ -135,7 +136,7 @@ module _ (s : MergingOwnersStrategy) (f theirs : Flags) (n : ℕ) (h : ascending
 
 -- the same of the call: ours, theirs and a removal that stands for the split's are proper, and our records have room
 module _ (ours : Head) (oes ocs : List ℕ) (theirs : Head) (tes tcs : List ℕ) (x : Removed) (t : Tables) (s : MergingOwnersStrategy) (es cs : List ℕ) (n : ℕ) where
-  pub own-call : proper ours oes ocs ≡ true → proper theirs tes tcs ≡ true → properRemoval x t ≡ true
+  own-call : proper ours oes ocs ≡ true → proper theirs tes tcs ≡ true → properRemoval x t ≡ true
       → removalOf x t ≡ ownRemoval (flagsOf ours oes ocs) n → Incoming (flagsOf ours oes ocs) (flagsOf theirs tes tcs)
       → ours .records ≤ length es → ours .records ≤ length cs
       → combinedRemoved ours oes ocs theirs tes tcs x t s es cs ≡ placed (rest (flagsOf ours oes ocs) n) es cs
@@ -147,6 +148,17 @@ module _ (ours : Head) (oes ocs : List ℕ) (theirs : Head) (tes tcs : List ℕ)
       combined-proper ours oes ocs theirs tes tcs x t s es cs p q r
       ∙ ap (λ (y : Removal). placing (removed s y f (flagsOf theirs tes tcs)) es cs) e
       ∙ own-placed s f (flagsOf theirs tes tcs) n h w es cs (omega arith) (omega arith)
+
+-- THE MERGE OF WHAT AN ACCEPTED SPLIT LEFT IS NEVER REFUSED: the value's state and rows are handed on as the split left them
+module _ (ours : Head) (oes ocs : List ℕ) (keyBytes valueBytes : ℕ) (kt vt : Tables) (t : Told) (theirs : Head) (tes tcs : List ℕ) (s : MergingOwnersStrategy) (es cs : List ℕ) where
+  pub split-merged : splitRemoved ours oes ocs keyBytes valueBytes kt vt .answer ≡ ok t → proper theirs tes tcs ≡ true
+      → Incoming (flagsOf ours oes ocs) (flagsOf theirs tes tcs) → ours .records ≤ length es → ours .records ≤ length cs
+      → combinedRemoved ours oes ocs theirs tes tcs (t .value) (splitRemoved ours oes ocs keyBytes valueBytes kt vt .value-rows) s es cs
+      ≡ placed (rest (flagsOf ours oes ocs) valueBytes) es cs
+  split-merged a q w he hc =
+      own-call ours oes ocs theirs tes tcs (t .value) (splitRemoved ours oes ocs keyBytes valueBytes kt vt .value-rows) s es cs valueBytes
+      (flags-proper ours oes ocs keyBytes valueBytes kt vt t a) q (accepted ours oes ocs keyBytes valueBytes kt vt t a .value-proper)
+      (value-stands ours oes ocs keyBytes valueBytes kt vt t a) w he hc
 
 -- ---- no record left
 

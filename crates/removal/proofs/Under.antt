@@ -16,7 +16,8 @@ use Rattle.records.proofs.Owners.{same-self, same-equal}
 use Rattle.rows.specs.Rows.{Row, ascends, partsOf, rowsUnder, Tables, rowsIn, Room, Proper}
 use Rattle.rows.proofs.Rows.{rows-on, rows-end, length-rows, asc-before, asc-tail}
 use Rattle.rows.proofs.Under.{under-none}
-use Rattle.rows.proofs.Parts.{parts-none, parts-cons, parts-in, under-cons, less-under}
+use Rattle.rows.proofs.Under.{under-cons}
+use Rattle.rows.proofs.Parts.{parts-none, parts-cons, parts-in, less-under}
 use Rattle.removal.specs.Removing.{allUnder, onlyUnder}
 
 -- ---- from a place on

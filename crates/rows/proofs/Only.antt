@@ -1,7 +1,7 @@
 -- The statements of `has_removal` and `total_removed_bytes` leave no choice: what is told of an answer tells it.
 -- Assumes nothing.
 use mathlib.Core.Path.{_≡_, refl, sym, ap, _∙_}
-use mathlib.Core.Bool.{Bool, true, false, cond}
+use mathlib.Core.Bool.{Bool, cond}
 use Prim.Native.Nat.{ℕ}
 use Rattle.records.specs.Answers.{Answer, ok, refused}
 use Rattle.records.proofs.Only.{same-only, named, named-back}

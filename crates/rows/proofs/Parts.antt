@@ -8,7 +8,7 @@ use native.Mathlib.Nat.{le-of-suc-le-suc, not-suc-le-zero}
 use lib.ListN.{length, take}
 use Rattle.records.specs.Tables.{At, recordsOf}
 use Rattle.records.proofs.Tables.{take-records}
-use Rattle.rows.specs.Rows.{Row, compared, partsOf, rowsUnder, Tables, rowsOf, rowsIn, Room}
+use Rattle.rows.specs.Rows.{Row, compared, partsOf, Tables, rowsOf, rowsIn, Room}
 use Rattle.rows.specs.declared.order.Order.the-variants.{Less, Equal}
 use Rattle.rows.proofs.Comparing.{compared-under, by-less-inv, equal-less}
 
@@ -34,10 +34,6 @@ pub parts-in : {n : ℕ} {t : Tables} → Room n t → partsOf (rowsIn n t) ≡ 
 parts-in {n} {t} r = parts-first n (t .ids) (recordsOf (t .epochs) (t .bytes)) (r .ids-long) ∙ take-records n (t .epochs) (t .bytes)
 
 -- ---- of one identifier
-
-pub under-cons : (i : List ℕ) (s : At) (ss : List At) → rowsUnder i (s ∷ ss) ≡ record { identifier = i; part = s } ∷ rowsUnder i ss
-unfolding rowsUnder
-under-cons i s ss = refl
 
 -- of two rows of one identifier the first has the lower epoch
 pub less-under : (a b : Row) → a .identifier ≡ b .identifier → compared a b ≡ Less → a .part .epoch < b .part .epoch

@@ -19,6 +19,10 @@ module _ (i : List ℕ) where
   unfolding rowsUnder
   under-none = refl
 
+  pub under-cons : (s : At) (ss : List At) → rowsUnder i (s ∷ ss) ≡ record { identifier = i; part = s } ∷ rowsUnder i ss
+  unfolding rowsUnder
+  under-cons s ss = refl
+
   pub under-one : (e n : ℕ) → rowsUnder i (e ⦂ n ∷ []) ≡ row i e n ∷ []
   unfolding rowsUnder
   under-one e n = refl

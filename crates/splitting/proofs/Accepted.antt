@@ -97,9 +97,12 @@ module _ (h : Head) (es cs : List ℕ) (keyBytes valueBytes : ℕ) (kt vt : Tabl
   abbrev left : After
   left = splitRemoved h es cs keyBytes valueBytes kt vt
 
+  pub flags-proper : proper h es cs ≡ true
+  flags-proper = accepted-left h es cs keyBytes valueBytes kt vt t e .0
+
   rises : ascending (h .base) (epochsOf (flagsOf h es cs .records)) ≡ true
   rises =
-      let p = proper-above (proper-inv h es cs (accepted-left h es cs keyBytes valueBytes kt vt t e .0)) in
+      let p = proper-above (proper-inv h es cs flags-proper) in
       ap (ascending (h .base)) (epochs-records _ _ (p .even)) ∙ p .ascends
 
   -- the states, and the rows beside them, stand for the removals of the split

@@ -1,14 +1,14 @@
 -- What `add_assign` leaves, by its tests: whether the operands are proper and whether the rows have room.
 -- Assumes nothing.
-use mathlib.Core.Path.{_≡_, refl, sym, ap, _∙_}
+use mathlib.Core.Path.{_≡_, sym, ap}
 use mathlib.Core.Bool.{true, false, and-false}
-use mathlib.Core.List.{List, []}
+use mathlib.Core.List.{List}
 use Prim.Native.Nat.{ℕ}
 use native.Mathlib.Omega.{arith}
 use lib.ListN.{length}
 use Rattle.records.specs.Answers.{ok}
 use Rattle.rows.specs.Rows.{Row, Tables, rowsIn, roomIn, overRows, Room}
-use Rattle.rows.specs.Removals.{Removal, nothing, basic, sectioned, removalOf, proper}
+use Rattle.rows.specs.Removals.{nothing, basic, sectioned, removalOf, proper}
 use Rattle.rows.specs.declared.removal.Removed.{Removed}
 use Rattle.rows.specs.declared.removal.Removed.the-variants.{None, Basic, Sectioned}
 use Rattle.rows.proofs.Rows.{length-rows, has-room}

@@ -1,7 +1,7 @@
 -- From version 1 on a sum keeps the exact total wherever nothing saturates. For a row added, for rows joined, then for removals.
 -- Assumes nothing.
 use mathlib.Core.Path.{_≡_, refl, sym, ap, _∙_}
-use mathlib.Core.Bool.{true, cond, _&&_, and-eq-true-iff}
+use mathlib.Core.Bool.{true, cond, and-eq-true-iff}
 use mathlib.Core.List.{List, [], _∷_}
 use Prim.Native.Nat.{ℕ, _+_, _≤_}
 use native.Mathlib.Omega.{arith}
@@ -9,14 +9,14 @@ use lib.Dec.{leb}
 use borrow.Author.Tests.{leb-true}
 use Rattle.fields.specs.Varint.{largest}
 use Rattle.rows.specs.Rows.{Row, compared, ascends}
-use Rattle.rows.specs.Removals.{Removal, nothing, basic, sectioned, totalRows, total}
+use Rattle.rows.specs.Removals.{Removal, nothing, basic, sectioned, rowsOfRemoval, totalRows, total}
 use Rattle.rows.specs.declared.order.Order.{Order}
 use Rattle.rows.specs.declared.order.Order.the-variants.{Less, Equal, Greater}
 use Rattle.rows.proofs.Rows.{asc-tail}
 use Rattle.rows.proofs.Removals.{total-cons, total-none}
 use Rattle.sums.specs.Joins.{plus, addRow, joined}
 use Rattle.sums.specs.Sums.{unknown, sum, isEqual, bytesAt, fits, exact}
-use Rattle.sums.proofs.Adding.{add-cases, add-none, left-same}
+use Rattle.sums.proofs.Adding.{add-cases, add-none, right-same}
 use Rattle.sums.proofs.Joining.{AllAfter, all-after}
 use Rattle.sums.proofs.Losing.{basic-later}
 
@@ -33,12 +33,9 @@ bytes-behind x a (b ∷ l) e =
     let ih = bytes-behind x a l e in
     add-cases (λ (m : List Row). bytesAt x m ≡ bytesAt x (b ∷ l)) a b l
     (λ o. bytes-at x a (b ∷ l) Less e)
-    (λ o. bytes-at x (plus a b) l Less e ∙ sym (bytes-at x b l Less (same x a b o e)))
+    (λ o. bytes-at x (plus a b) l Less e ∙ sym (bytes-at x b l Less (sym (right-same x a b o) ∙ e)))
     (λ o. kept x b l (addRow a l) ih)
   where
-    same : (x a b : Row) → compared a b ≡ Equal → compared x a ≡ Less → compared x b ≡ Less
-    same x a b o e = sym (Rattle.sums.proofs.Adding.right-same x a b o) ∙ e
-
     kept : (x b : Row) (l m : List Row) → bytesAt x m ≡ bytesAt x l → bytesAt x (b ∷ m) ≡ bytesAt x (b ∷ l)
     kept x b l m e =
         bytes-at x b m (compared x b) refl ∙ ap (cond (isEqual (compared x b)) (b .part .bytes)) e ∙ sym (bytes-at x b l (compared x b) refl)
@@ -78,14 +75,8 @@ total-joined (x ∷ xs) ys s h =
 
 -- ---- removals
 
--- the rows of a removal ascend
-abbrev pub Ascending : Removal → Type 0
-Ascending nothing = Unit {0}
-Ascending (basic n) = Unit {0}
-Ascending (sectioned rs) = ascends rs ≡ true
-
 -- FROM VERSION 1 ON THE EXACT TOTAL IS KEPT WHEREVER NOTHING SATURATES
-pub sum-exact : (v : ℕ) → 1 ≤ v → (x y : Removal) → Ascending x → exact x y ≡ true → total (sum v x y) ≡ total x + total y
+pub sum-exact : (v : ℕ) → 1 ≤ v → (x y : Removal) → ascends (rowsOfRemoval x) ≡ true → exact x y ≡ true → total (sum v x y) ≡ total x + total y
 sum-exact v h nothing y p e = omega arith
 sum-exact v h (basic m) nothing p e = omega arith
 sum-exact v h (basic m) (basic n) p e = let f = leb-true (m + n) largest e in omega arith

@@ -1,19 +1,18 @@
 -- The last row of a join over tables, from the tests that find it, and what the loops over a join keep.
 -- Assumes nothing.
-use mathlib.Core.Path.{_≡_, refl, sym, ap, _∙_, subst}
-use mathlib.Core.Bool.{true}
+use mathlib.Core.Path.{_≡_, sym, ap, _∙_, subst}
 use mathlib.Core.List.{List, [], _∷_, _++_}
-use Prim.Native.Nat.{ℕ, suc, _+_, _-_, _≤_, _<_}
+use Prim.Native.Nat.{ℕ, _+_, _-_, _≤_, _<_}
 use native.Mathlib.Omega.{arith}
 use lib.ListN.{length, getD, length-append}
 use Rattle.rows.specs.Rows.{Row, row, compared, ascends, Tables, rowsIn, rowAt, overRows, setRow, Room, Proper}
 use Rattle.rows.specs.declared.order.Order.the-variants.{Less, Equal, Greater}
 use Rattle.rows.proofs.Rows.{length-rows, rows-last, room-less, proper-first}
 use Rattle.rows.proofs.Backing.{Backing, backing-start, backing-fits, backing-first, backing-room, backing-step, backing-stays}
-use Rattle.sums.specs.Joins.{capped, plus, joined, Last}
+use Rattle.sums.specs.Joins.{capped, joined, Last}
 use Rattle.sums.specs.declared.join.LastRow.{LastRow}
 use Rattle.sums.proofs.Adding.{flipped}
-use Rattle.sums.proofs.Joining.{AllBefore, all-before, all-later, all-and-last, joined-nothing, joined-none, more-left, last-left, last-right, last-both}
+use Rattle.sums.proofs.Joining.{AllBefore, all-before, all-later, all-and-last, joined-none, more-left, last-left, last-right, last-both}
 
 -- the rows before the last are before it
 before-last : {n : ℕ} {t : Tables} → Proper n t → 0 < n → AllBefore (rowAt t (n - 1)) (rowsIn (n - 1) t)

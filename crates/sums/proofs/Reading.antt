@@ -1,26 +1,25 @@
 -- What an accepted `add_assign` leaves reads back as the sum, and is proper again.
 -- Assumes nothing.
 use mathlib.Core.Path.{_≡_, refl, sym, ap, _∙_}
-use mathlib.Core.Bool.{Bool, true, false, cond}
+use mathlib.Core.Bool.{Bool, true, false, cond, _&&_}
 use mathlib.Core.List.{List, [], _∷_}
 use Prim.Native.Nat.{ℕ}
 use native.Mathlib.Omega.{arith}
 use lib.Dec.{leb}
 use lib.ListN.{length}
 use Rattle.records.specs.Answers.{Answer, ok, refused}
-use Rattle.rows.specs.Rows.{Row, compared, ascends, Tables, rowsIn, roomIn, properRows, overRows}
+use Rattle.rows.specs.Rows.{Row, compared, ascends, Tables, roomIn, overRows}
 use Rattle.rows.specs.Removals.{Removal, nothing, basic, sectioned, removalOf, proper, rowsOfRemoval, stateOf}
 use Rattle.rows.specs.declared.order.Order.the-variants.{Less}
 use Rattle.rows.specs.declared.removal.Removed.{Removed}
 use Rattle.rows.specs.declared.removal.Removed.the-variants.{None, Basic, Sectioned}
-use Rattle.rows.proofs.Rows.{Before, asc-before, asc-tail, asc-cons, proper-room, proper-rows}
-use Rattle.rows.proofs.Columns.{over-rows, rows-back}
+use Rattle.rows.proofs.Rows.{Before, asc-none, asc-before, asc-tail, asc-cons, proper-rows}
+use Rattle.rows.proofs.Over.{removal-over, proper-over}
 use Rattle.sums.specs.Joins.{addRow}
 use Rattle.sums.specs.Sums.{unknown, ofNone, anyOfNone, withoutNone, basicPlus, sum}
 use Rattle.sums.specs.Calls.{After, kept, placing, summed}
 use Rattle.sums.proofs.Adding.{less-trans, add-ascends}
 use Rattle.sums.proofs.Joining.{joined-ascends}
-use Rattle.sums.proofs.Exact.{Ascending}
 
 -- ---- a sum of ascending rows ascends, at every version
 
@@ -56,10 +55,10 @@ basic-ascends v n l s = go (leb 1 v) (anyOfNone l)
     go false false = add-ascends (unknown n) l s
 
 -- A SUM OF PROPER REMOVALS IS PROPER
-pub sum-ascends : (v : ℕ) (x y : Removal) → Ascending x → Ascending y → Ascending (sum v x y)
+pub sum-ascends : (v : ℕ) (x y : Removal) → ascends (rowsOfRemoval x) ≡ true → ascends (rowsOfRemoval y) ≡ true → ascends (rowsOfRemoval (sum v x y)) ≡ true
 sum-ascends v nothing y p q = q
-sum-ascends v (basic m) nothing p q = tt
-sum-ascends v (basic m) (basic n) p q = tt
+sum-ascends v (basic m) nothing p q = p
+sum-ascends v (basic m) (basic n) p q = p
 sum-ascends v (basic m) (sectioned ys) p q = basic-ascends v m ys q
 sum-ascends v (sectioned xs) nothing p q = p
 sum-ascends v (sectioned xs) (basic n) p q = add-ascends (unknown n) xs p
@@ -67,22 +66,10 @@ sum-ascends v (sectioned xs) (sectioned ys) p q = joined-ascends xs ys q
 
 -- ---- what is left in the tables
 
-pub proper-ascends : (x : Removed) (t : Tables) → proper x t ≡ true → Ascending (removalOf x t)
-proper-ascends None t h = tt
-proper-ascends (Basic n) t h = tt
+proper-ascends : (x : Removed) (t : Tables) → proper x t ≡ true → ascends (rowsOfRemoval (removalOf x t)) ≡ true
+proper-ascends None t h = asc-none
+proper-ascends (Basic n) t h = asc-none
 proper-ascends (Sectioned n) t h = proper-rows n t h .rises
-
--- a removal over the tables that hold its rows
-module _ (t : Tables) where
-  pub left-reads : (r : Removal) → removalOf (stateOf r) (overRows (rowsOfRemoval r) t) ≡ r
-  left-reads nothing = refl
-  left-reads (basic n) = refl
-  left-reads (sectioned rs) = ap sectioned (rows-back rs t)
-
-  pub left-proper : (r : Removal) → Ascending r → proper (stateOf r) (overRows (rowsOfRemoval r) t) ≡ true
-  left-proper nothing h = refl
-  left-proper (basic n) h = refl
-  left-proper (sectioned rs) h = proper-room (over-rows rs t) ∙ ap ascends (rows-back rs t) ∙ h
 
 ok-same : (x y : Removed) → _≡_ {A = Answer Removed} (ok x) (ok y) → x ≡ y
 ok-same x y e = cc
@@ -108,14 +95,14 @@ sum-read v x t y u s h = go (proper x t) refl (proper y u) refl (roomIn (length 
     placed = record { answer = ok (stateOf all); rows = overRows (rowsOfRemoval all) t }
 
     go : (p : Bool) → proper x t ≡ p → (q : Bool) → proper y u ≡ q → (f : Bool)
-        → cond (mathlib.Core.Bool._&&_ p q) (cond f placed (kept 10 t)) (kept 11 t) .answer ≡ ok s
-        → Read v x t y u s (cond (mathlib.Core.Bool._&&_ p q) (cond f placed (kept 10 t)) (kept 11 t))
+        → cond (p && q) (cond f placed (kept 10 t)) (kept 11 t) .answer ≡ ok s
+        → Read v x t y u s (cond (p && q) (cond f placed (kept 10 t)) (kept 11 t))
     go true ep true eq true k =
         let e : stateOf all ≡ s = ok-same (stateOf all) s k in
         record {
-          is-sum = ap (λ (z : Removed). removalOf z (placed .rows)) (sym e) ∙ left-reads t all;
+          is-sum = ap (λ (z : Removed). removalOf z (placed .rows)) (sym e) ∙ removal-over all t;
           is-proper = ap (λ (z : Removed). proper z (placed .rows)) (sym e)
-              ∙ left-proper t all (sum-ascends v (removalOf x t) (removalOf y u) (proper-ascends x t ep) (proper-ascends y u eq));
+              ∙ proper-over all t (sum-ascends v (removalOf x t) (removalOf y u) (proper-ascends x t ep) (proper-ascends y u eq));
         }
     go true ep true eq false k = absurd (refused-ok 10 s k)
     go true ep false eq f k = absurd (refused-ok 11 s k)

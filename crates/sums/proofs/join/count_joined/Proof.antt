@@ -1,7 +1,6 @@
 -- `sums::join::count_joined` meets its contract: what was counted, and the join of what is left, make the join. Assumes nothing.
 use Prim.Native.Nat.{_+_}
 use native.Mathlib.Omega.{arith}
-use borrow.Author.Needs.{needs}
 use Rattle.rows.specs.Rows.{tables}
 use Rattle.rows.proofs.Rows.{proper-first}
 use Rattle.sums.proofs.Lasts.{Counting, counting-start, counting-step, counting-done}

@@ -1,9 +1,7 @@
 -- `sums::join::join_in_place` meets its contract: from place k on the tables are as they end, and before it as they began. Assumes nothing.
-use mathlib.Core.Path.{sym, ap, _∙_}
 use Prim.Native.Nat.{_+_}
 use native.Mathlib.Omega.{arith}
-use borrow.Author.Needs.{needs}
-use Rattle.rows.specs.Rows.{Tables, tables}
+use Rattle.rows.specs.Rows.{tables}
 use Rattle.rows.proofs.Backing.{backing-long}
 use Rattle.sums.proofs.Lasts.{Walking, walking-start, walking-ours, walking-theirs, walking-room, walking-step, walking-done}
 use Rattle.sums.proofs.join.join_in_place.Statement.{statement}

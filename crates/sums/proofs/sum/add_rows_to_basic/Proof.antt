@@ -1,9 +1,8 @@
 -- `sums::sum::add_rows_to_basic` meets its contract: the rows are put into our tables, and the number's row is joined to them. Assumes nothing.
 use mathlib.Core.Path.{sym, ap, _∙_}
-use mathlib.Core.List.{List}
 use borrow.Author.Needs.{needs}
 use lib.ListN.{length}
-use Rattle.rows.specs.Rows.{Row, Tables, tables, rowsIn, Proper, Room}
+use Rattle.rows.specs.Rows.{Row, Tables, tables, rowsIn}
 use Rattle.rows.proofs.Rows.{length-rows, room-in, proper-none}
 use Rattle.sums.specs.Joins.{addRow}
 use Rattle.sums.specs.Sums.{unknown}
