@@ -8,3 +8,4 @@ pub mod Only
 pub mod Under
 pub mod Over
 pub mod Parts
+pub mod Marked
