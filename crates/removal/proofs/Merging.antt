@@ -18,7 +18,7 @@ use Rattle.flags.specs.Calls.{handedOn}
 use Rattle.flags.specs.declared.owners.MergingOwnersStrategy.{MergingOwnersStrategy}
 use Rattle.rows.specs.Rows.{Row, partsOf, Tables}
 use Rattle.rows.specs.Removals.{Removal, sectioned, removalOf, proper as properRemoval}
-use Rattle.rows.specs.declared.removal.Removed.{Removed}
+use Rattle.rows.specs.declared.removed.Removed.{Removed}
 use Rattle.removal.specs.Removing.{onlyUnder, fault, minus, lessSections, taken, removedAbove, removedBeside, removed}
 use Rattle.removal.specs.Calls.{combinedRemoved, optionalCombinedRemoved}
 

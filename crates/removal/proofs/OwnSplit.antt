@@ -26,7 +26,7 @@ use Rattle.flags.specs.Owners.{combinedOwner}
 use Rattle.flags.specs.declared.owners.MergingOwnersStrategy.{MergingOwnersStrategy}
 use Rattle.rows.specs.Rows.{Tables, rowsUnder}
 use Rattle.rows.specs.Removals.{Removal, removalOf, totalRows, proper as properRemoval}
-use Rattle.rows.specs.declared.removal.Removed.{Removed}
+use Rattle.rows.specs.declared.removed.Removed.{Removed}
 use Rattle.rows.proofs.Under.{parts-under, total-none}
 use Rattle.splitting.specs.Sections.{asked, section, sections, split}
 use Rattle.splitting.specs.Calls.{removalOf as removalOfSplit, Told, splitRemoved}

@@ -10,7 +10,7 @@ use Rattle.flags.specs.Calls.{handedOn}
 use Rattle.flags.specs.declared.owners.MergingOwnersStrategy.{MergingOwnersStrategy}
 use Rattle.rows.specs.Rows.{Tables}
 use Rattle.rows.specs.Removals.{removalOf, proper as properRemoval}
-use Rattle.rows.specs.declared.removal.Removed.{Removed}
+use Rattle.rows.specs.declared.removed.Removed.{Removed}
 use Rattle.removal.specs.Removing.{removed}
 
 -- `combine_removed_bytes`: 11 where either side or the removal is not proper, before all else

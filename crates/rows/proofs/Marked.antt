@@ -12,8 +12,8 @@ use Rattle.rows.specs.Order.{order}
 use Rattle.rows.specs.Rows.{ascends, Tables, tables, rowsOf, properRows}
 use Rattle.rows.specs.Removals.{totalRows, anyBytes}
 use Rattle.rows.specs.Calls.{hasRemoval, totalRemoved}
-use Rattle.rows.specs.declared.removal.Removed.{Removed}
-use Rattle.rows.specs.declared.removal.Removed.the-variants.{None, Basic, Sectioned}
+use Rattle.rows.specs.declared.removed.Removed.{Removed}
+use Rattle.rows.specs.declared.removed.Removed.the-variants.{None, Basic, Sectioned}
 
 -- a removal in its tables, and the two answers
 pub record Example : Type 0 where

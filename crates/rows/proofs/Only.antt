@@ -6,10 +6,10 @@ use Prim.Native.Nat.{ℕ}
 use Rattle.records.specs.Answers.{Answer, ok, refused}
 use Rattle.records.proofs.Only.{same-only, named, named-back}
 use Rattle.rows.specs.Calls.{told, totalled}
-use Rattle.rows.specs.declared.removal.Total.{Total}
-use Rattle.rows.specs.declared.removal.Total.the-variants.{Bytes, Refused}
-use Rattle.rows.specs.declared.removal.HasRemoval.{HasRemoval}
-use Rattle.rows.specs.declared.removal.HasRemoval.the-variants.{Yes, No, Refused as NotTold}
+use Rattle.rows.specs.declared.removed.Total.{Total}
+use Rattle.rows.specs.declared.removed.Total.the-variants.{Bytes, Refused}
+use Rattle.rows.specs.declared.removed.HasRemoval.{HasRemoval}
+use Rattle.rows.specs.declared.removed.HasRemoval.the-variants.{Yes, No, Refused as NotTold}
 
 -- the answer that a truth or a refusal's number tells
 abbrev toldAs : Answer Bool → HasRemoval

@@ -11,8 +11,8 @@ use Rattle.records.specs.Answers.{ok, refused}
 use Rattle.rows.specs.Rows.{Row, Tables, rowsIn, Room, Proper}
 use Rattle.rows.specs.Removals.{Removal, removalOf, proper, totalRows, total, anyBytes, has}
 use Rattle.rows.specs.Calls.{within, hasRemoval, totalRemoved}
-use Rattle.rows.specs.declared.removal.Removed.{Removed}
-use Rattle.rows.specs.declared.removal.Removed.the-variants.{Sectioned}
+use Rattle.rows.specs.declared.removed.Removed.{Removed}
+use Rattle.rows.specs.declared.removed.Removed.the-variants.{Sectioned}
 use Rattle.rows.proofs.Rows.{rows-on, rows-end, proper-rows}
 
 module _ {n : ℕ} {t : Tables} (r : Room n t) (i : ℕ) where

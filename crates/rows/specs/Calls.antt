@@ -8,11 +8,11 @@ use Rattle.records.specs.Refusals.{number}
 use Rattle.records.specs.Answers.{Answer, ok, refused}
 use Rattle.rows.specs.Rows.{Tables}
 use Rattle.rows.specs.Removals.{removalOf, proper, total, has}
-use Rattle.rows.specs.declared.removal.Removed.{Removed}
-use Rattle.rows.specs.declared.removal.Total.{Total}
-use Rattle.rows.specs.declared.removal.Total.the-variants.{Bytes, Refused}
-use Rattle.rows.specs.declared.removal.HasRemoval.{HasRemoval}
-use Rattle.rows.specs.declared.removal.HasRemoval.the-variants.{Yes, No, Refused as NotTold}
+use Rattle.rows.specs.declared.removed.Removed.{Removed}
+use Rattle.rows.specs.declared.removed.Total.{Total}
+use Rattle.rows.specs.declared.removed.Total.the-variants.{Bytes, Refused}
+use Rattle.rows.specs.declared.removed.HasRemoval.{HasRemoval}
+use Rattle.rows.specs.declared.removed.HasRemoval.the-variants.{Yes, No, Refused as NotTold}
 
 -- yes or no, or a refusal, as the code told it
 abbrev pub told : HasRemoval → Answer Bool

@@ -11,7 +11,7 @@ use Rattle.records.specs.Answers.{ok}
 use Rattle.records.specs.declared.head.Head.{Head}
 use Rattle.rows.specs.Rows.{Tables, roomIn, Room}
 use Rattle.rows.specs.Removals.{rowsOfRemoval}
-use Rattle.rows.specs.declared.removal.Removed.{Removed}
+use Rattle.rows.specs.declared.removed.Removed.{Removed}
 use Rattle.rows.proofs.Rows.{room-in}
 use Rattle.splitting.specs.Sections.{sections, split, allowed}
 use Rattle.splitting.specs.Visits.{visits, rowsAtBase}

@@ -10,8 +10,8 @@ use Rattle.records.specs.Tables.{At, _⦂_, recordsOf, epochsOf, countsOf, asce
 use Rattle.records.specs.Flags.{flags, idOf, headFor, proper}
 use Rattle.records.specs.Answers.{ok}
 use Rattle.rows.specs.Rows.{Tables, tables, idsOf, partsOf, rowsUnder, overRows}
-use Rattle.rows.specs.declared.removal.Removed.{Removed}
-use Rattle.rows.specs.declared.removal.Removed.the-variants.{None, Sectioned}
+use Rattle.rows.specs.declared.removed.Removed.{Removed}
+use Rattle.rows.specs.declared.removed.Removed.the-variants.{None, Sectioned}
 use Rattle.splitting.specs.Sections.{spare, section, sections, split}
 use Rattle.splitting.specs.Calls.{After, kept, placing, splitRemoved}
 

@@ -9,7 +9,7 @@ use lib.ListN.{length, take, getD}
 use Rattle.records.specs.Tables.{At, _⦂_, recordsOf}
 use Rattle.rows.specs.Rows.{Row, row, rowsUnder, Tables, overRows, setRow, Room}
 use Rattle.rows.specs.Removals.{Removal, nothing, sectioned, rowsOfRemoval, stateOf}
-use Rattle.rows.specs.declared.removal.Removed.the-variants.{None, Sectioned}
+use Rattle.rows.specs.declared.removed.Removed.the-variants.{None, Sectioned}
 use Rattle.rows.proofs.Columns.{over-nothing}
 use Rattle.rows.proofs.Backing.{Backing, backing-start, backing-room, backing-step, backing-done}
 use Rattle.rows.proofs.Under.{under-none, under-one, under-last, length-under}

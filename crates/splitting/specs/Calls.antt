@@ -12,7 +12,7 @@ use Rattle.records.specs.Answers.{Answer, ok, refused}
 use Rattle.records.specs.declared.head.Head.{Head}
 use Rattle.rows.specs.Rows.{Tables, rowsUnder, roomIn, overRows}
 use Rattle.rows.specs.Removals.{Removal, nothing, sectioned, rowsOfRemoval, stateOf}
-use Rattle.rows.specs.declared.removal.Removed.{Removed}
+use Rattle.rows.specs.declared.removed.Removed.{Removed}
 use Rattle.splitting.specs.Sections.{sections, split, allowed}
 use Rattle.splitting.specs.declared.split.Splitting.{Splitting}
 use Rattle.splitting.specs.declared.split.Splitting.the-variants.{Done, Refused}

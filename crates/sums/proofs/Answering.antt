@@ -9,8 +9,8 @@ use lib.ListN.{length}
 use Rattle.records.specs.Answers.{ok}
 use Rattle.rows.specs.Rows.{Row, Tables, rowsIn, roomIn, overRows, Room}
 use Rattle.rows.specs.Removals.{nothing, basic, sectioned, removalOf, proper}
-use Rattle.rows.specs.declared.removal.Removed.{Removed}
-use Rattle.rows.specs.declared.removal.Removed.the-variants.{None, Basic, Sectioned}
+use Rattle.rows.specs.declared.removed.Removed.{Removed}
+use Rattle.rows.specs.declared.removed.Removed.the-variants.{None, Basic, Sectioned}
 use Rattle.rows.proofs.Rows.{length-rows, has-room}
 use Rattle.rows.proofs.Columns.{over-nothing}
 use Rattle.rows.proofs.Backing.{rows-stay}

@@ -11,7 +11,7 @@ use Rattle.records.specs.Answers.{ok}
 use Rattle.rows.specs.Order.{order}
 use Rattle.rows.specs.Rows.{Row, row, ascends, idsOf, partsOf, Tables, tables, rowsOf, properRows, overRows}
 use Rattle.rows.specs.Removals.{Removal, nothing, basic, sectioned, rowsOfRemoval, stateOf}
-use Rattle.rows.specs.declared.removal.Removed.{Removed}
+use Rattle.rows.specs.declared.removed.Removed.{Removed}
 use Rattle.sums.specs.Joins.{addRow, joined}
 use Rattle.sums.specs.Sums.{anyOfNone, withoutNone, basicPlus}
 use Rattle.sums.specs.Calls.{After, kept, placing, summed}

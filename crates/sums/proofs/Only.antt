@@ -4,7 +4,7 @@ use mathlib.Core.Path.{_≡_, refl, sym, ap, _∙_}
 use Rattle.records.specs.Answers.{Answer, ok, refused}
 use Rattle.records.proofs.Only.{same-only, named, named-back}
 use Rattle.rows.specs.Rows.{Tables}
-use Rattle.rows.specs.declared.removal.Removed.{Removed}
+use Rattle.rows.specs.declared.removed.Removed.{Removed}
 use Rattle.sums.specs.Calls.{After, told, shown}
 use Rattle.sums.specs.declared.sum.Summed.{Summed}
 use Rattle.sums.specs.declared.sum.Summed.the-variants.{Sum, Refused}

@@ -11,8 +11,8 @@ use Rattle.records.specs.Answers.{Answer, ok, refused}
 use Rattle.rows.specs.Rows.{Row, compared, ascends, Tables, roomIn, overRows}
 use Rattle.rows.specs.Removals.{Removal, nothing, basic, sectioned, removalOf, proper, rowsOfRemoval, stateOf}
 use Rattle.rows.specs.declared.order.Order.the-variants.{Less}
-use Rattle.rows.specs.declared.removal.Removed.{Removed}
-use Rattle.rows.specs.declared.removal.Removed.the-variants.{None, Basic, Sectioned}
+use Rattle.rows.specs.declared.removed.Removed.{Removed}
+use Rattle.rows.specs.declared.removed.Removed.the-variants.{None, Basic, Sectioned}
 use Rattle.rows.proofs.Rows.{Before, asc-none, asc-before, asc-tail, asc-cons, proper-rows}
 use Rattle.rows.proofs.Over.{removal-over, proper-over}
 use Rattle.sums.specs.Joins.{addRow}

@@ -7,7 +7,7 @@ use Rattle.records.specs.Refusals.{number}
 use Rattle.records.specs.Answers.{Answer, ok, refused}
 use Rattle.rows.specs.Rows.{Tables, roomIn, overRows}
 use Rattle.rows.specs.Removals.{Removal, removalOf, proper, rowsOfRemoval, stateOf}
-use Rattle.rows.specs.declared.removal.Removed.{Removed}
+use Rattle.rows.specs.declared.removed.Removed.{Removed}
 use Rattle.sums.specs.Sums.{sum}
 use Rattle.sums.specs.declared.sum.Summed.{Summed}
 use Rattle.sums.specs.declared.sum.Summed.the-variants.{Sum, Refused}

@@ -6,7 +6,7 @@ use Rattle.records.specs.Flags.{Flags, flags, ownerIf}
 use Rattle.records.specs.Answers.{After, placing}
 use Rattle.rows.specs.Rows.{Tables, tables}
 use Rattle.rows.specs.Removals.{removalOf}
-use Rattle.rows.specs.declared.removal.Removed.{Removed}
+use Rattle.rows.specs.declared.removed.Removed.{Removed}
 use Rattle.rows.proofs.Removals.{proper-sectioned}
 use Rattle.removal.specs.Removing.{taken}
 use Rattle.removal.proofs.removing.remove_bytes.Statement.{statement}

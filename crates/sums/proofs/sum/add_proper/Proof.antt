@@ -3,7 +3,7 @@ use mathlib.Core.Path.{sym, ap, _∙_}
 use borrow.Author.Needs.{needs}
 use Rattle.rows.specs.Rows.{Tables, tables}
 use Rattle.rows.specs.Removals.{removalOf}
-use Rattle.rows.specs.declared.removal.Removed.{Removed}
+use Rattle.rows.specs.declared.removed.Removed.{Removed}
 use Rattle.rows.proofs.Removals.{proper-sectioned}
 use Rattle.sums.specs.Sums.{sum}
 use Rattle.sums.specs.Calls.{After, placing}

@@ -4,8 +4,8 @@ use Prim.Native.Nat.{ℕ}
 use borrow.Author.Needs.{needs}
 use Rattle.rows.specs.Rows.{Tables, tables}
 use Rattle.rows.specs.Removals.{basic, removalOf}
-use Rattle.rows.specs.declared.removal.Removed.{Removed}
-use Rattle.rows.specs.declared.removal.Removed.the-variants.{Basic}
+use Rattle.rows.specs.declared.removed.Removed.{Removed}
+use Rattle.rows.specs.declared.removed.Removed.the-variants.{Basic}
 use Rattle.rows.proofs.Removals.{proper-sectioned}
 use Rattle.sums.specs.Sums.{sum}
 use Rattle.sums.specs.Calls.{After, placing}

@@ -4,7 +4,7 @@ use mathlib.Core.List.{List}
 use borrow.Author.Needs.{needs}
 use Rattle.rows.specs.Rows.{Row, Tables, tables}
 use Rattle.rows.specs.Removals.{nothing, sectioned, removalOf}
-use Rattle.rows.specs.declared.removal.Removed.{Removed}
+use Rattle.rows.specs.declared.removed.Removed.{Removed}
 use Rattle.rows.proofs.Rows.{proper-none}
 use Rattle.rows.proofs.Removals.{proper-sectioned}
 use Rattle.sums.specs.Sums.{sum}

@@ -1,4 +1,4 @@
--- `rows::removal::any_bytes` meets its contract: the answer is that for the rows from the place on. Assumes nothing.
+-- `rows::removed::any_bytes` meets its contract: the answer is that for the rows from the place on. Assumes nothing.
 use mathlib.Core.Path.{_≡_, refl, sym, _∙_}
 use Prim.Native.Nat.{_-_, _≤_}
 use native.Mathlib.Omega.{arith}
@@ -7,8 +7,8 @@ use lib.ListN.{drop}
 use Rattle.rows.specs.Rows.{tables, rowsIn}
 use Rattle.rows.specs.Removals.{anyBytes}
 use Rattle.rows.proofs.Removals.{any-here, any-next, any-end}
-use Rattle.rows.proofs.removal.any_bytes.Statement.{statement}
-use Rattle.rows.proofs.removal.any_bytes.Tie as tie
+use Rattle.rows.proofs.removed.any_bytes.Statement.{statement}
+use Rattle.rows.proofs.removed.any_bytes.Tie as tie
 
 abbrev Inv-loop : tie.InvT-loop
 Inv-loop n ids epochs bytes i₀ i =

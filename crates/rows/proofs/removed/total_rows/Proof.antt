@@ -1,4 +1,4 @@
--- `rows::removal::total_rows` meets its contract: what was added, and the rows from the place on, make the total. Assumes nothing.
+-- `rows::removed::total_rows` meets its contract: what was added, and the rows from the place on, make the total. Assumes nothing.
 use mathlib.Core.Path.{_≡_, sym, ap, _∙_}
 use Prim.Native.Nat.{ℕ, _+_, _-_, _≤_}
 use native.Mathlib.Omega.{arith}
@@ -9,8 +9,8 @@ use Rattle.records.specs.Answers.{ok}
 use Rattle.rows.specs.Rows.{tables, rowsIn}
 use Rattle.rows.specs.Removals.{totalRows}
 use Rattle.rows.proofs.Removals.{total-on, total-end, within-over, within-fits}
-use Rattle.rows.proofs.removal.total_rows.Statement.{statement}
-use Rattle.rows.proofs.removal.total_rows.Tie as tie
+use Rattle.rows.proofs.removed.total_rows.Statement.{statement}
+use Rattle.rows.proofs.removed.total_rows.Tie as tie
 
 abbrev Inv-loop : tie.InvT-loop
 Inv-loop n ids epochs bytes total₀ i₀ total i =

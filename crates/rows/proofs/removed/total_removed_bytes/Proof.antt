@@ -1,12 +1,12 @@
--- `rows::removal::total_removed_bytes` meets its contract, by the state's cases. Assumes nothing.
+-- `rows::removed::total_removed_bytes` meets its contract, by the state's cases. Assumes nothing.
 use mathlib.Core.Path.{sym, _∙_}
 use native.Mathlib.Omega.{arith}
 use borrow.Author.Needs.{needs}
 use Rattle.rows.specs.Rows.{tables}
-use Rattle.rows.specs.declared.removal.Removed.the-variants.{None, Basic, Sectioned}
+use Rattle.rows.specs.declared.removed.Removed.the-variants.{None, Basic, Sectioned}
 use Rattle.rows.proofs.Removals.{proper-sectioned, within-fits, total-bad, total-proper}
-use Rattle.rows.proofs.removal.total_removed_bytes.Statement.{statement}
-use Rattle.rows.proofs.removal.total_removed_bytes.Tie as tie
+use Rattle.rows.proofs.removed.total_removed_bytes.Statement.{statement}
+use Rattle.rows.proofs.removed.total_removed_bytes.Tie as tie
 
 total-rows-requires : tie.Need-total-rows-requires
 total-rows-requires c κs =

@@ -1,11 +1,11 @@
--- `rows::removal::is_proper` meets its contract, by the state's cases. Assumes nothing.
+-- `rows::removed::is_proper` meets its contract, by the state's cases. Assumes nothing.
 use mathlib.Core.Path.{sym, ap, _∙_}
 use borrow.Author.Needs.{needs}
 use Rattle.rows.specs.Rows.{tables}
 use Rattle.rows.specs.Removals.{proper}
-use Rattle.rows.specs.declared.removal.Removed.{Removed}
-use Rattle.rows.proofs.removal.is_proper.Statement.{statement}
-use Rattle.rows.proofs.removal.is_proper.Tie as tie
+use Rattle.rows.specs.declared.removed.Removed.{Removed}
+use Rattle.rows.proofs.removed.is_proper.Statement.{statement}
+use Rattle.rows.proofs.removed.is_proper.Tie as tie
 
 returns-3 : tie.Need-returns-3
 returns-3 c =

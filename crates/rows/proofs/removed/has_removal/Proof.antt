@@ -1,12 +1,12 @@
--- `rows::removal::has_removal` meets its contract, by the state's cases. Assumes nothing.
+-- `rows::removed::has_removal` meets its contract, by the state's cases. Assumes nothing.
 use mathlib.Core.Path.{sym, ap, _∙_}
 use borrow.Author.Needs.{needs}
 use Rattle.records.specs.Answers.{ok}
 use Rattle.rows.specs.Rows.{tables}
-use Rattle.rows.specs.declared.removal.Removed.the-variants.{None, Basic, Sectioned}
+use Rattle.rows.specs.declared.removed.Removed.the-variants.{None, Basic, Sectioned}
 use Rattle.rows.proofs.Removals.{proper-sectioned, has-bad, has-proper}
-use Rattle.rows.proofs.removal.has_removal.Statement.{statement}
-use Rattle.rows.proofs.removal.has_removal.Tie as tie
+use Rattle.rows.proofs.removed.has_removal.Statement.{statement}
+use Rattle.rows.proofs.removed.has_removal.Tie as tie
 
 any-bytes-requires : tie.Need-any-bytes-requires
 any-bytes-requires c κs =
