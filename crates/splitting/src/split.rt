@@ -145,12 +145,8 @@ fn split_allowed(
     let visits = visit(epochs, counts, removed_value_bytes);
     let visited = visits.records;
     let rows = visited + rows_at_base(visits.left);
-    if rows::fit(
-        rows_at_base(removed_key_bytes),
-        key_ids,
-        key_epochs,
-        key_bytes,
-    ) {
+    let key_rows = rows_at_base(removed_key_bytes);
+    if rows::fit(key_rows, key_ids, key_epochs, key_bytes) {
         if rows::fit(rows, value_ids, value_epochs, value_bytes) {
             let key = single_storage_removal(
                 removed_key_bytes,
