@@ -20,6 +20,10 @@ use Rattle.records.specs.declared.answer.Counted.the-variants.{Count, Re
 pub same-only : {A : Type 0} (x y d : A) → x ≡ d → y ≡ d → x ≡ y
 same-only x y d p q = p ∙ sym q
 
+-- ONE LAW FOR ALL ANSWERS: where what is told of an answer gives the answer back, two answers of which the same is told are one
+pub back-only : {T A : Type 0} (told : T → A) (back : A → T) → ((t : T) → back (told t) ≡ t) → (a b : T) (x : A) → told a ≡ x → told b ≡ x → a ≡ b
+back-only told back same a b x p q = sym (same a) ∙ ap back (same-only (told a) (told b) x p q) ∙ same b
+
 -- ---- refusals
 
 -- the refusal that a number names
@@ -47,9 +51,6 @@ named-back TotalTooLarge = refl
 named-back NoRoom = refl
 named-back BadTable = refl
 
-pub number-only : (r s : Refusal) → number r ≡ number s → r ≡ s
-number-only r s h = sym (named-back r) ∙ ap named h ∙ named-back s
-
 -- ---- answers
 
 -- the number that a call answered, or its refusal
@@ -62,7 +63,7 @@ counted-back (Count n) = refl
 counted-back (NotCounted r) = ap NotCounted (named-back r)
 
 pub counted-only : (c d : Counted) (x : Answer ℕ) → counted c ≡ x → counted d ≡ x → c ≡ d
-counted-only c d x p q = sym (counted-back c) ∙ ap countedAs (same-only _ _ x p q) ∙ counted-back d
+counted-only = back-only counted countedAs counted-back
 
 pub wrote-only : (c d : Counted) (o o′ : List ℕ) (x : Written) → wrote c o ≡ x → wrote d o′ ≡ x → (c ≡ d) × (o ≡ o′)
 wrote-only c d o o′ x p q = (

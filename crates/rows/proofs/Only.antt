@@ -1,10 +1,10 @@
 -- The statements of `has_removal` and `total_removed_bytes` leave no choice: what is told of an answer tells it.
 -- Assumes nothing.
-use mathlib.Core.Path.{_≡_, refl, sym, ap, _∙_}
+use mathlib.Core.Path.{_≡_, refl, ap}
 use mathlib.Core.Bool.{Bool, cond}
 use Prim.Native.Nat.{ℕ}
 use Rattle.records.specs.Answers.{Answer, ok, refused}
-use Rattle.records.proofs.Only.{same-only, named, named-back}
+use Rattle.records.proofs.Only.{back-only, named, named-back}
 use Rattle.rows.specs.Calls.{told, totalled}
 use Rattle.rows.specs.declared.removed.Total.{Total}
 use Rattle.rows.specs.declared.removed.Total.the-variants.{Bytes, Refused}
@@ -22,7 +22,7 @@ told-back No = refl
 told-back (NotTold r) = ap NotTold (named-back r)
 
 pub told-only : (h k : HasRemoval) (x : Answer Bool) → told h ≡ x → told k ≡ x → h ≡ k
-told-only h k x p q = sym (told-back h) ∙ ap toldAs (same-only _ _ x p q) ∙ told-back k
+told-only = back-only told toldAs told-back
 
 -- the answer that a number or a refusal's number tells
 abbrev totalledAs : Answer ℕ → Total
@@ -34,4 +34,4 @@ totalled-back (Bytes n) = refl
 totalled-back (Refused r) = ap Refused (named-back r)
 
 pub totalled-only : (t u : Total) (x : Answer ℕ) → totalled t ≡ x → totalled u ≡ x → t ≡ u
-totalled-only t u x p q = sym (totalled-back t) ∙ ap totalledAs (same-only _ _ x p q) ∙ totalled-back u
+totalled-only = back-only totalled totalledAs totalled-back

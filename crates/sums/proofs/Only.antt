@@ -1,8 +1,8 @@
 -- The statement of `add_assign` leaves no choice: what is shown of an outcome tells it.
 -- Assumes nothing.
-use mathlib.Core.Path.{_≡_, refl, sym, ap, _∙_}
+use mathlib.Core.Path.{_≡_, refl, ap}
 use Rattle.records.specs.Answers.{Answer, ok, refused}
-use Rattle.records.proofs.Only.{same-only, named, named-back}
+use Rattle.records.proofs.Only.{same-only, back-only, named, named-back}
 use Rattle.rows.specs.Rows.{Tables}
 use Rattle.rows.specs.declared.removed.Removed.{Removed}
 use Rattle.sums.specs.Calls.{After, told, shown}
@@ -19,6 +19,7 @@ told-back (Sum s) = refl
 told-back (Refused r) = ap Refused (named-back r)
 
 pub shown-only : (a b : Summed) (t u : Tables) (x : After) → shown a t ≡ x → shown b u ≡ x → (a ≡ b) × (t ≡ u)
-shown-only a b t u x p q =
-    let e = same-only _ _ x p q in
-    (sym (told-back a) ∙ ap (λ (w : After). toldAs (w .answer)) e ∙ told-back b, ap (λ (w : After). w .rows) e)
+shown-only a b t u x p q = (
+  back-only told toldAs told-back a b (x .answer) (ap (λ (w : After). w .answer) p) (ap (λ (w : After). w .answer) q),
+  ap (λ (w : After). w .rows) (same-only (shown a t) (shown b u) x p q),
+)
