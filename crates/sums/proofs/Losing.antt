@@ -16,7 +16,7 @@ use Rattle.rows.specs.declared.order.Order.the-variants.{Less, Equal, Greater}
 use Rattle.rows.proofs.Comparing.{order-same, order-self, compared-parts, greater-less, greater-equal}
 use Rattle.rows.proofs.Rows.{rows-on, rows-end, asc-drop}
 use Rattle.sums.specs.Joins.{addRow}
-use Rattle.sums.specs.Sums.{unknown, ofNone, anyOfNone, withoutNone, basicPlus, Lost}
+use Rattle.sums.specs.Sums.{unknown, ofZeros, anyOfZeros, withoutZeros, basicPlus, Lost}
 use Rattle.sums.proofs.Joining.{AllAfter, all-after}
 
 -- ---- one identifier
@@ -32,7 +32,7 @@ zero-other i h = go (same i zeros) refl
     go false e = refl
 
 -- behind a row above the zeros none has the zero identifier
-later-other : (a b : Row) → length (a .identifier) ≡ 32 → order (a .identifier) zeros ≡ Greater → compared a b ≡ Less → ofNone b ≡ false
+later-other : (a b : Row) → length (a .identifier) ≡ 32 → order (a .identifier) zeros ≡ Greater → compared a b ≡ Less → ofZeros b ≡ false
 later-other a b l h k = go (same (b .identifier) zeros) refl
   where
     go : (x : Bool) → same (b .identifier) zeros ≡ x → x ≡ false
@@ -45,37 +45,37 @@ later-other a b l h k = go (same (b .identifier) zeros) refl
 -- ---- all rows
 
 module _ (a : Row) (rs : List Row) where
-  without-zero : ofNone a ≡ true → withoutNone (a ∷ rs) ≡ withoutNone rs
-  unfolding withoutNone
+  without-zero : ofZeros a ≡ true → withoutZeros (a ∷ rs) ≡ withoutZeros rs
+  unfolding withoutZeros
   without-zero z = rw z
 
-  without-other : ofNone a ≡ false → withoutNone (a ∷ rs) ≡ a ∷ withoutNone rs
-  unfolding withoutNone
+  without-other : ofZeros a ≡ false → withoutZeros (a ∷ rs) ≡ a ∷ withoutZeros rs
+  unfolding withoutZeros
   without-other z = rw z
 
-  any-zero : ofNone a ≡ true → anyOfNone (a ∷ rs) ≡ true
-  unfolding anyOfNone
+  any-zero : ofZeros a ≡ true → anyOfZeros (a ∷ rs) ≡ true
+  unfolding anyOfZeros
   any-zero z = rw z
 
-  any-other : ofNone a ≡ false → anyOfNone (a ∷ rs) ≡ anyOfNone rs
-  unfolding anyOfNone
+  any-other : ofZeros a ≡ false → anyOfZeros (a ∷ rs) ≡ anyOfZeros rs
+  unfolding anyOfZeros
   any-other z = rw z
 
 module _ (a : Row) (l : length (a .identifier) ≡ 32) (h : order (a .identifier) zeros ≡ Greater) where
-  none-lost : (rs : List Row) → AllAfter a rs → withoutNone rs ≡ rs
-  unfolding withoutNone
+  none-lost : (rs : List Row) → AllAfter a rs → withoutZeros rs ≡ rs
+  unfolding withoutZeros
   none-lost [] k = refl
   none-lost (b ∷ rs) k = without-other b rs (later-other a b l h (k .0)) ∙ ap (λ (m : List Row). b ∷ m) (none-lost rs (k .1))
 
-  none-there : (rs : List Row) → AllAfter a rs → anyOfNone rs ≡ false
-  unfolding anyOfNone
+  none-there : (rs : List Row) → AllAfter a rs → anyOfZeros rs ≡ false
+  unfolding anyOfZeros
   none-there [] k = refl
   none-there (b ∷ rs) k = any-other b rs (later-other a b l h (k .0)) ∙ none-there rs (k .1)
 
 -- the first k of n rows have the zero identifier
 pub record Losing (rs : List Row) (k : ℕ) : Type 0 where
-  pub others : withoutNone rs ≡ withoutNone (drop k rs)
-  pub some-lost : anyOfNone rs ≡ cond (ltb 0 k) true (anyOfNone (drop k rs))
+  pub others : withoutZeros rs ≡ withoutZeros (drop k rs)
+  pub some-lost : anyOfZeros rs ≡ cond (ltb 0 k) true (anyOfZeros (drop k rs))
 
 pub losing-start : (rs : List Row) → Losing rs 0
 losing-start rs = record { others = refl; some-lost = refl }
@@ -95,9 +95,9 @@ module _ {n : ℕ} {t : Tables} (p : Proper n t) (k : ℕ) (w : Losing (rowsIn n
       let on = rows-on (p .room) k h in
       let rest = drop (k + 1) (rowsIn n t) in
       record {
-        others = w .others ∙ ap withoutNone on ∙ without-zero (rowAt t k) rest z;
-        some-lost = w .some-lost ∙ ap (cond (ltb 0 k) true) (ap anyOfNone on ∙ any-zero (rowAt t k) rest z) ∙ or-true (ltb 0 k)
-            ∙ sym (ap (λ (b : Bool). cond b true (anyOfNone rest)) (lt-ltb 0 (k + 1) (omega arith)));
+        others = w .others ∙ ap withoutZeros on ∙ without-zero (rowAt t k) rest z;
+        some-lost = w .some-lost ∙ ap (cond (ltb 0 k) true) (ap anyOfZeros on ∙ any-zero (rowAt t k) rest z) ∙ or-true (ltb 0 k)
+            ∙ sym (ap (λ (b : Bool). cond b true (anyOfZeros rest)) (lt-ltb 0 (k + 1) (omega arith)));
       }
 
   pub losing-stop : k < n → length (getD (t .ids) k []) ≡ 32 → order (getD (t .ids) k []) zeros ≡ Greater → Lost (rowsIn n t) n k
@@ -109,12 +109,12 @@ module _ {n : ℕ} {t : Tables} (p : Proper n t) (k : ℕ) (w : Losing (rowsIn n
       let after = all-after a rest (ap ascends (sym on) ∙ asc-drop (rowsIn n t) k (p .rises)) in
       record {
         within = omega arith;
-        others = w .others ∙ ap withoutNone on ∙ without-other a rest z ∙ ap (λ (m : List Row). a ∷ m) (none-lost a l e rest after) ∙ sym on;
-        some-lost = w .some-lost ∙ ap (cond (ltb 0 k) true) (ap anyOfNone on ∙ any-other a rest z ∙ none-there a l e rest after) ∙ or-false (ltb 0 k);
+        others = w .others ∙ ap withoutZeros on ∙ without-other a rest z ∙ ap (λ (m : List Row). a ∷ m) (none-lost a l e rest after) ∙ sym on;
+        some-lost = w .some-lost ∙ ap (cond (ltb 0 k) true) (ap anyOfZeros on ∙ any-other a rest z ∙ none-there a l e rest after) ∙ or-false (ltb 0 k);
       }
 
   pub losing-end : k ≤ n → n ≤ k → Lost (rowsIn n t) n k
-  unfolding withoutNone anyOfNone
+  unfolding withoutZeros anyOfZeros
   losing-end g h = record { within = g; others = w .others ∙ rw (rows-end (p .room) k h); some-lost = w .some-lost ∙ rw (rows-end (p .room) k h) (or-false (ltb 0 k)) }
 
 -- ---- a basic number plus rows, by the version and by how many are lost

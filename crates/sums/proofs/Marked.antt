@@ -13,7 +13,7 @@ use Rattle.rows.specs.Rows.{Row, row, ascends, idsOf, partsOf, Tables, tables, 
 use Rattle.rows.specs.Removals.{Removal, nothing, basic, sectioned, rowsOfRemoval, stateOf}
 use Rattle.rows.specs.declared.removed.Removed.{Removed}
 use Rattle.sums.specs.Joins.{addRow, joined}
-use Rattle.sums.specs.Sums.{anyOfNone, withoutNone, basicPlus}
+use Rattle.sums.specs.Sums.{anyOfZeros, withoutZeros, basicPlus}
 use Rattle.sums.specs.Calls.{After, kept, placing, summed}
 
 -- a version, two removals in their tables, and what is left
@@ -80,5 +80,5 @@ examples =
     ∷ []
 
 pub marked : map (λ (e : Example). summed (e .version) (e .left) (e .left-rows) (e .right) (e .right-rows)) examples ≡ map (λ (e : Example). e .after) examples
-unfolding examples summed placing properRows rowsOf recordsOf epochsOf countsOf idsOf partsOf ascends order addRow joined basicPlus anyOfNone withoutNone same
+unfolding examples summed placing properRows rowsOf recordsOf epochsOf countsOf idsOf partsOf ascends order addRow joined basicPlus anyOfZeros withoutZeros same
 marked = refl

@@ -16,40 +16,40 @@ use Rattle.rows.specs.declared.removed.Removed.the-variants.{None, Basic, Secti
 use Rattle.rows.proofs.Rows.{Before, asc-none, asc-before, asc-tail, asc-cons, proper-rows}
 use Rattle.rows.proofs.Over.{removal-over, proper-over}
 use Rattle.sums.specs.Joins.{addRow}
-use Rattle.sums.specs.Sums.{unknown, ofNone, anyOfNone, withoutNone, basicPlus, sum}
+use Rattle.sums.specs.Sums.{unknown, ofZeros, anyOfZeros, withoutZeros, basicPlus, sum}
 use Rattle.sums.specs.Calls.{After, kept, placing, summed}
 use Rattle.sums.proofs.Adding.{less-trans, add-ascends}
 use Rattle.sums.proofs.Joining.{joined-ascends}
 
 -- ---- a sum of ascending rows ascends, at every version
 
-before-without : (a : Row) (l : List Row) → ascends l ≡ true → Before a l → Before a (withoutNone l)
-unfolding withoutNone
+before-without : (a : Row) (l : List Row) → ascends l ≡ true → Before a l → Before a (withoutZeros l)
+unfolding withoutZeros
 before-without a [] s h = tt
-before-without a (b ∷ l) s h = go (ofNone b) (before-without a l (asc-tail b l s) (further a b l h (asc-before b l s)))
+before-without a (b ∷ l) s h = go (ofZeros b) (before-without a l (asc-tail b l s) (further a b l h (asc-before b l s)))
   where
     further : (a b : Row) (l : List Row) → compared a b ≡ Less → Before b l → Before a l
     further a b [] h k = tt
     further a b (c ∷ l) h k = less-trans a b c h k
 
-    go : (z : Bool) → Before a (withoutNone l) → Before a (cond z (withoutNone l) (b ∷ withoutNone l))
+    go : (z : Bool) → Before a (withoutZeros l) → Before a (cond z (withoutZeros l) (b ∷ withoutZeros l))
     go true k = k
     go false k = h
 
-without-ascends : (l : List Row) → ascends l ≡ true → ascends (withoutNone l) ≡ true
-unfolding withoutNone
+without-ascends : (l : List Row) → ascends l ≡ true → ascends (withoutZeros l) ≡ true
+unfolding withoutZeros
 without-ascends [] s = s
-without-ascends (b ∷ l) s = go (ofNone b) (without-ascends l (asc-tail b l s))
+without-ascends (b ∷ l) s = go (ofZeros b) (without-ascends l (asc-tail b l s))
   where
-    go : (z : Bool) → ascends (withoutNone l) ≡ true → ascends (cond z (withoutNone l) (b ∷ withoutNone l)) ≡ true
+    go : (z : Bool) → ascends (withoutZeros l) ≡ true → ascends (cond z (withoutZeros l) (b ∷ withoutZeros l)) ≡ true
     go true k = k
-    go false k = asc-cons b (withoutNone l) (before-without b l (asc-tail b l s) (asc-before b l s)) k
+    go false k = asc-cons b (withoutZeros l) (before-without b l (asc-tail b l s) (asc-before b l s)) k
 
 basic-ascends : (v n : ℕ) (l : List Row) → ascends l ≡ true → ascends (basicPlus v n l) ≡ true
 unfolding basicPlus
-basic-ascends v n l s = go (leb 1 v) (anyOfNone l)
+basic-ascends v n l s = go (leb 1 v) (anyOfZeros l)
   where
-    go : (p q : Bool) → ascends (cond p (addRow (unknown n) l) (cond q (withoutNone l) (addRow (unknown n) l))) ≡ true
+    go : (p q : Bool) → ascends (cond p (addRow (unknown n) l) (cond q (withoutZeros l) (addRow (unknown n) l))) ≡ true
     go true q = add-ascends (unknown n) l s
     go false true = without-ascends l s
     go false false = add-ascends (unknown n) l s

@@ -23,23 +23,23 @@ abbrev pub unknown : ℕ → Row
 unknown n = row zeros unknownEpoch n
 
 -- whether a row has the zero identifier
-abbrev pub ofNone : Row → Bool
-ofNone r = same (r .identifier) zeros
+abbrev pub ofZeros : Row → Bool
+ofZeros r = same (r .identifier) zeros
 
 -- whether any row has the zero identifier
-unfoldable pub anyOfNone : List Row → Bool
-anyOfNone [] = false
-anyOfNone (r ∷ rs) = cond (ofNone r) true (anyOfNone rs)
+unfoldable pub anyOfZeros : List Row → Bool
+anyOfZeros [] = false
+anyOfZeros (r ∷ rs) = cond (ofZeros r) true (anyOfZeros rs)
 
 -- the rows of other identifiers
-unfoldable pub withoutNone : List Row → List Row
-withoutNone [] = []
-withoutNone (r ∷ rs) = cond (ofNone r) (withoutNone rs) (r ∷ withoutNone rs)
+unfoldable pub withoutZeros : List Row → List Row
+withoutZeros [] = []
+withoutZeros (r ∷ rs) = cond (ofZeros r) (withoutZeros rs) (r ∷ withoutZeros rs)
 
 -- a basic number plus rows: at version 0, if any row has the zero identifier, all of them are lost and the number too; else its row is made
 unfoldable pub basicPlus : ℕ → ℕ → List Row → List Row
 basicPlus version n rs =
-    cond (leb 1 version) (addRow (unknown n) rs) (cond (anyOfNone rs) (withoutNone rs) (addRow (unknown n) rs))
+    cond (leb 1 version) (addRow (unknown n) rs) (cond (anyOfZeros rs) (withoutZeros rs) (addRow (unknown n) rs))
 
 -- the sum of two removals at a version
 abbrev pub sum : ℕ → Removal → Removal → Removal
@@ -54,8 +54,8 @@ sum version (sectioned xs) (sectioned ys) = sectioned (joined xs ys)
 -- of n rows those of the zero identifier are the first k
 pub record Lost (rs : List Row) (n k : ℕ) : Type 0 where
   pub within : k ≤ n
-  pub others : withoutNone rs ≡ drop k rs
-  pub some-lost : anyOfNone rs ≡ ltb 0 k
+  pub others : withoutZeros rs ≡ drop k rs
+  pub some-lost : anyOfZeros rs ≡ ltb 0 k
 
 -- ---- where nothing saturates
 
