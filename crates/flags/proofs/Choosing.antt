@@ -2,6 +2,7 @@
 -- By cases on the owners and on what reading finds.
 -- Assumes nothing.
 use mathlib.Core.Path.{_≡_, refl, sym, ap, _∙_}
+use mathlib.Core.Logic.{_⊎_, ⊎-elim}
 use mathlib.Core.Bool.{Bool, true, false, true≢false}
 use mathlib.Core.Option.{Option, none, some}
 use mathlib.Core.List.{List, []}
@@ -12,7 +13,7 @@ use Rattle.records.specs.Flags.{ownerIf, same, ownerOf}
 use Rattle.records.specs.Answers.{Answer, ok, refused}
 use Rattle.records.specs.declared.refusal.Refusal.{Refusal}
 use Rattle.records.proofs.Proper.{owner-head}
-use Rattle.records.proofs.Owners.{owner-back}
+use Rattle.records.proofs.Owners.{owner-back, same-self}
 use Rattle.codec.specs.Reading.{Read, noFlags, someFlags, refusedAt, read}
 use Rattle.codec.specs.Calls.{judgement}
 use Rattle.codec.specs.declared.judging.Judgement.{Judgement}
@@ -52,6 +53,18 @@ module _ (w : ChosenOwner) where
       five s none (some t) h = absurd (true≢false (sym h))
       five s (some o) none h = absurd (true≢false (sym h))
       five s (some o) (some t) h = both (same o t) s o t refl h
+
+-- where theirs is none or the same as ours, ours stays, for every strategy
+pub owner-stays : (s : MergingOwnersStrategy) (o t : Option (List ℕ)) → (t ≡ none) ⊎ (t ≡ o) → combinedOwner s o t ≡ ok o
+owner-stays s o t = ⊎-elim (λ e. rw e (alone o)) (λ e. rw e (both o))
+  where
+    alone : (o : Option (List ℕ)) → combinedOwner s o none ≡ ok o
+    alone none = refl
+    alone (some o) = refl
+
+    both : (o : Option (List ℕ)) → combinedOwner s o o ≡ ok o
+    both none = refl
+    both (some o) = rw (same-self o)
 
 -- ---- what was read
 

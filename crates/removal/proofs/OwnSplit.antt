@@ -2,7 +2,7 @@
 -- one wherever there are bytes. So the merge is never refused, and with room for our records it is placed.
 -- Assumes nothing.
 use mathlib.Core.Path.{_≡_, refl, sym, ap, _∙_}
-use mathlib.Core.Logic.{_⊎_, ⊎-elim}
+use mathlib.Core.Logic.{_⊎_}
 use mathlib.Core.Bool.{true}
 use mathlib.Core.Option.{Option, none, some}
 use mathlib.Core.List.{List, [], _∷_, _++_}
@@ -17,13 +17,12 @@ use Rattle.records.specs.declared.head.Head.{Head}
 use Rattle.records.specs.declared.head.Kind.the-variants.{SingleEpoch, SingleEpochOwned}
 use Rattle.records.proofs.Tables.{epochs-cons, epochs-records}
 use Rattle.records.proofs.Rising.{asc-head, asc-tail}
-use Rattle.records.proofs.Owners.{same-self}
 use Rattle.records.proofs.Held.{has-none}
 use Rattle.records.proofs.Unions.{union-none}
 use Rattle.records.proofs.Proper.{proper-inv, proper-above, proper-long}
 use Rattle.records.proofs.Answers.{after-placed}
-use Rattle.flags.specs.Owners.{combinedOwner}
 use Rattle.flags.specs.declared.owners.MergingOwnersStrategy.{MergingOwnersStrategy}
+use Rattle.flags.proofs.Choosing.{owner-stays}
 use Rattle.rows.specs.Rows.{Tables, rowsUnder}
 use Rattle.rows.specs.Removals.{Removal, removalOf, totalRows, proper as properRemoval}
 use Rattle.rows.specs.declared.removed.Removed.{Removed}
@@ -73,18 +72,6 @@ split-fine base rs n h =
 pub minus-nothing : (rs : List At) → minus rs [] ≡ rs
 minus-nothing [] = minus-none []
 minus-nothing (r ∷ rs) = minus-cons r rs [] ∙ rw (has-none (r .epoch), minus-nothing rs)
-
--- the owner rule where theirs is none or the same
-owner-stays : (s : MergingOwnersStrategy) (o t : Option (List ℕ)) → (t ≡ none) ⊎ (t ≡ o) → combinedOwner s o t ≡ ok o
-owner-stays s o t = ⊎-elim (λ e. rw e (alone o)) (λ e. rw e (both o))
-  where
-    alone : (o : Option (List ℕ)) → combinedOwner s o none ≡ ok o
-    alone none = refl
-    alone (some o) = refl
-
-    both : (o : Option (List ℕ)) → combinedOwner s o o ≡ ok o
-    both none = refl
-    both (some o) = rw (same-self o)
 
 -- sections of some bytes are at least one
 some-section : (i : List ℕ) (ss : List At) (n : ℕ) → totalRows (rowsUnder i ss) ≡ suc n → onlyUnder i (rowsUnder i ss) ≡ true

@@ -1,4 +1,86 @@
--- Flags that a call placed in lent tables stand there, proper again.
+-- Flags that a call placed in lent tables stand there, and are proper again. By reading them back.
 -- Assumes nothing.
 use mathlib.Core.Path.{_≡_, refl, sym, ap, _∙_}
+use mathlib.Core.Bool.{Bool, true, false}
+use mathlib.Core.Option.{Option, none, some}
+use mathlib.Core.List.{List}
+use Prim.Native.Nat.{ℕ, _≤_}
+use native.Mathlib.Omega.{arith}
+use lib.Dec.{leb, eqb}
+use lib.ListN.{length, take, drop, length-append}
+use lib.Seq.{take-at}
+use borrow.Author.Tests.{le-leb, eqb-false}
+use Rattle.records.specs.Tables.{recordsOf, epochsOf, countsOf, ascending, over}
+use Rattle.records.specs.Flags.{Flags, flags, kindOf, agrees, headOf, proper}
+use Rattle.records.specs.Answers.{After, placed}
+use Rattle.records.proofs.Tables.{length-epochsOf, length-countsOf, records-back, epochs-records}
+use Rattle.records.proofs.Proper.{proper-inv, proper-above, proper-long, owner-head}
 use Rattle.steps.specs.History.{Held, held, properHeld, flagsIn}
+
+-- held flags are proper, and these
+pub record Stands (h : Held) (f : Flags) : Type 0 where
+  pub are-proper : properHeld h ≡ true
+  pub are : flagsIn h ≡ f
+
+-- ---- what was placed
+
+-- the head and tables that a call left
+abbrev pub heldIn : After → Held
+heldIn a = held (a .head) (a .epochs) (a .counts)
+
+-- what stands at the start is read from there
+first : (xs old : List ℕ) (n : ℕ) → length xs ≡ n → take n (over xs old) ≡ xs
+first xs old n e = take-at xs (drop (length xs) old) n e
+
+enough : (xs old : List ℕ) (n : ℕ) → length xs ≡ n → leb n (length (over xs old)) ≡ true
+enough xs old n e = le-leb n (length (over xs old)) (omega (arith, length-append xs (drop (length xs) old)))
+
+-- the kind that owner and records tell agrees with having records
+told-agrees : (o : Option (List ℕ)) (n : ℕ) → agrees (kindOf o n) n ≡ true
+told-agrees o n = by o (eqb n 0) refl
+  where
+    some-left : eqb n 0 ≡ false → leb 1 n ≡ true
+    some-left e = let d = eqb-false n 0 e in le-leb 1 n (omega arith)
+
+    by : (o : Option (List ℕ)) (b : Bool) → eqb n 0 ≡ b → agrees (kindOf o n) n ≡ true
+    by none true e = simp e
+    by none false e = rw e (some-left e)
+    by (some o) true e = simp e
+    by (some o) false e = rw e (some-left e)
+
+-- proper, by its tests
+proper-by : (h : Held) → agrees (h .head .kind) (h .head .records) ≡ true → leb (h .head .records) (length (h .epochs)) ≡ true
+    → leb (h .head .records) (length (h .counts)) ≡ true → ascending (h .head .base) (take (h .head .records) (h .epochs)) ≡ true → properHeld h ≡ true
+unfolding proper
+proper-by h k e c a = simp (k, e, c, a)
+
+module _ (f : Flags) (es cs : List ℕ) where
+  abbrev n : ℕ
+  n = length (f .records)
+
+  epochs-first : take n (over (epochsOf (f .records)) es) ≡ epochsOf (f .records)
+  epochs-first = first (epochsOf (f .records)) es n (length-epochsOf (f .records))
+
+  counts-first : take n (over (countsOf (f .records)) cs) ≡ countsOf (f .records)
+  counts-first = first (countsOf (f .records)) cs n (length-countsOf (f .records))
+
+  -- FLAGS THAT WERE PLACED STAND IN THE TABLES
+  pub placed-stands : ascending (f .base) (epochsOf (f .records)) ≡ true → Stands (heldIn (placed f es cs)) f
+  placed-stands h =
+      record {
+        are-proper = proper-by (heldIn (placed f es cs)) (told-agrees (f .owner) n) (enough (epochsOf (f .records)) es n (length-epochsOf (f .records)))
+            (enough (countsOf (f .records)) cs n (length-countsOf (f .records))) (ap (ascending (f .base)) epochs-first ∙ h);
+        are = (λ i. flags (f .base) (owner-head f i) (recordsOf (epochs-first i) (counts-first i))) ∙ ap (flags (f .base) (f .owner)) (records-back (f .records));
+      }
+
+-- ---- what stands
+
+module _ {h : Held} {f : Flags} (s : Stands h f) where
+  -- the records ascend above the base, and the head tells their number
+  pub stands-ascend : ascending (f .base) (epochsOf (f .records)) ≡ true
+  stands-ascend =
+      let p = proper-above (proper-inv (h .head) (h .epochs) (h .counts) (s .are-proper)) in
+      ap (λ (g : Flags). ascending (g .base) (epochsOf (g .records))) (sym (s .are)) ∙ ap (ascending (h .head .base)) (epochs-records _ _ (p .even)) ∙ p .ascends
+
+  pub stands-long : length (f .records) ≡ h .head .records
+  stands-long = ap (λ (g : Flags). length (g .records)) (sym (s .are)) ∙ proper-long (proper-inv (h .head) (h .epochs) (h .counts) (s .are-proper))

@@ -1,0 +1,150 @@
+-- A step that is made as demand 3 has it is accepted: an addition leaves more at the incoming base, a removal what its split leaves.
+-- The flags at each time are held somewhere and stand for flags that are known.
+-- Assumes nothing.
+use mathlib.Core.Path.{_≡_, refl, sym, ap, _∙_, subst}
+use mathlib.Core.Logic.{_⊎_}
+use mathlib.Core.Bool.{Bool, true, false, cond}
+use mathlib.Core.Option.{Option, none, some}
+use mathlib.Core.List.{List, [], _∷_, _++_}
+use Prim.Native.Nat.{ℕ, zero, suc, _+_, _≤_, _<_}
+use native.Mathlib.Omega.{arith}
+use lib.Dec.{leb, eqb}
+use lib.ListN.{length, take}
+use borrow.Author.Tests.{le-leb, eqb-true}
+use Rattle.fields.specs.Varint.{largest}
+use Rattle.records.specs.Tables.{At, _⦂_, recordsOf, epochsOf, ascending, held, put, union}
+use Rattle.records.specs.Flags.{Flags, flags, multi, idOf, ownerOf, flagsOf, agrees}
+use Rattle.records.specs.Answers.{Answer, ok, refused, After, placed, placing}
+use Rattle.records.proofs.Unions.{union-none}
+use Rattle.records.proofs.Answers.{after-placed}
+use Rattle.records.proofs.Proper.{proper-inv}
+use Rattle.flags.specs.declared.owners.MergingOwnersStrategy.{MergingOwnersStrategy}
+use Rattle.flags.specs.Merging.{added, raised, raisedAbove, joined}
+use Rattle.flags.proofs.Choosing.{owner-stays}
+use Rattle.flags.proofs.Merging.{added-owned, raised-higher, combined-proper}
+use Rattle.rows.specs.Rows.{Row, Tables, Room, rowsUnder, roomIn}
+use Rattle.rows.specs.Removals.{Removal, rowsOfRemoval, removalOf, stateOf}
+use Rattle.rows.proofs.Rows.{has-room, room-less}
+use Rattle.splitting.specs.Sections.{split, allowed, largestRemoval}
+use Rattle.splitting.specs.Calls.{Split, removalOf as removalOfSplit, Told, placing as placingSplit, splitRemoved}
+use Rattle.splitting.proofs.Sections.{split-none}
+use Rattle.splitting.proofs.Counting.{value-rows, split-short}
+use Rattle.splitting.proofs.Calls.{split-fitting}
+use Rattle.splitting.proofs.Accepted.{splitFor, value-stands}
+use Rattle.removal.proofs.OwnSplit.{ownRemoval, rest, Incoming, split-merged}
+use Rattle.steps.specs.History.{Held, properHeld, flagsIn, Edit, add, remove, State, state, leftBy, splitMerged, step}
+use Rattle.steps.specs.Demand.{Single, RecordRoom}
+use Rattle.steps.proofs.Standing.{Stands, heldIn, placed-stands, stands-ascend, stands-long}
+
+-- ---- incoming flags
+
+-- single-epoch flags have no records
+no-records : (n : ℕ) (es cs : List ℕ) → n ≡ 0 → recordsOf (take n es) (take n cs) ≡ []
+unfolding recordsOf
+no-records n es cs e = ap (λ (m : ℕ). recordsOf (take m es) (take m cs)) e
+
+pub bare : (t : Held) → properHeld t ≡ true → multi (t .head .kind) ≡ false → flagsIn t .records ≡ []
+bare t p k =
+    let a : agrees (t .head .kind) (t .head .records) ≡ true = proper-inv (t .head) (t .epochs) (t .counts) p .agrees-kind in
+    no-records (t .head .records) (t .epochs) (t .counts) (eqb-true (t .head .records) 0 (rw k at a))
+
+-- ---- the split
+
+-- with no key bytes the value's rows alone need room
+module _ (h : Held) (n : ℕ) (kt vt : Tables) where
+  abbrev s : Split
+  s = splitFor (h .head) (h .epochs) (h .counts) 0 n
+
+  abbrev rs : List At
+  rs = flagsIn h .records
+
+  -- both states, and the records visited
+  abbrev pub toldBy : Told
+  toldBy = record { key = stateOf (s .key); value = stateOf (s .value); visited = s .visited }
+
+  within : (rs : List At) → n ≤ largestRemoval → allowed rs n ≡ true
+  within [] p = refl
+  within (r ∷ rs) p = le-leb n largestRemoval p
+
+  split-placed : Room 0 kt → Room (length (rowsOfRemoval (s .value))) vt → placingSplit (ok s) kt vt .answer ≡ ok toldBy
+  unfolding placingSplit
+  split-placed k v = simp (has-room k, has-room v)
+
+  pub split-accepted : properHeld h ≡ true → n ≤ largestRemoval → Room (length rs + 1) vt
+      → splitRemoved (h .head) (h .epochs) (h .counts) 0 n kt vt .answer ≡ ok toldBy
+  split-accepted p q r =
+      let l = value-rows (idOf (ownerOf (h .head))) (h .head .base) rs n in
+      let v = room-less (length (rowsOfRemoval (s .value))) (omega (arith, l, split-short (h .head .base) rs n)) r in
+      ap (λ a. a .answer) (sym (split-fitting (h .head) (h .epochs) (h .counts) 0 n kt vt (idOf (ownerOf (h .head))) refl p (within rs q)))
+      ∙ split-placed (record { ids-long = omega arith; epochs-long = omega arith; bytes-long = omega arith }) v
+
+-- ---- a removal
+
+-- the rows of the split's own removal
+own-rows : (i : List ℕ) (base : ℕ) (rs : List At) (n : ℕ) → rowsOfRemoval (removalOfSplit i n (split base rs n)) ≡ rowsUnder i (split base rs n)
+unfolding rowsUnder
+own-rows i base rs zero = sym (ap (rowsUnder i) (split-none base rs))
+own-rows i base rs (suc n) = refl
+
+-- what a removal of x's amount leaves of flags f
+abbrev lessened : Flags → List Row → Edit → State
+lessened f rows x =
+    state (heldIn (placed (rest f (x .amount)) (x .epochs) (x .counts))) (rows ++ rowsUnder (idOf (f .owner)) (split (f .base) (f .records) (x .amount)))
+
+module _ (h : Held) (rows : List Row) (x : Edit) (s : properHeld h ≡ true) (t : properHeld (x .incoming) ≡ true) where
+  -- the merge of what the split left
+  own-step : Incoming (flagsIn h) (flagsIn (x .incoming)) → x .amount ≤ largestRemoval → h .head .records ≤ length (x .epochs) → h .head .records ≤ length (x .counts)
+      → Room (length (flagsIn h .records) + 1) (x .value-rows) → step (state h rows) (remove x) ≡ ok (lessened (flagsIn h) rows x)
+  unfolding step
+  own-step w q he hc r =
+      let n = x .amount in
+      let kt = x .key-rows in
+      let vt = x .value-rows in
+      let a = split-accepted h n kt vt s q r in
+      let m = split-merged (h .head) (h .epochs) (h .counts) 0 n kt vt (toldBy h n kt vt) (x .incoming .head) (x .incoming .epochs) (x .incoming .counts) (x .strategy) (x .epochs) (x .counts) a t w he hc in
+      let v = value-stands (h .head) (h .epochs) (h .counts) 0 n kt vt (toldBy h n kt vt) a in
+      let f = flagsIn h in
+      ap (λ (y : Answer Told). splitMerged (state h rows) x y (splitRemoved (h .head) (h .epochs) (h .counts) 0 n kt vt .value-rows)) a
+      ∙ (λ i. leftBy (m i) (rows ++ rowsOfRemoval (v i)))
+      ∙ ap (λ (l : List Row). ok (state (heldIn (placed (rest f n) (x .epochs) (x .counts))) (rows ++ l))) (own-rows (idOf (f .owner)) (f .base) (f .records) n)
+
+-- A REMOVAL IS ACCEPTED, AND LEAVES WHAT ITS SPLIT LEAVES
+pub removal-step : (h : Held) (f : Flags) (rows : List Row) (x : Edit) → Stands h f → properHeld (x .incoming) ≡ true → Incoming f (flagsIn (x .incoming))
+    → x .amount ≤ largestRemoval → length (f .records) ≤ length (x .epochs) → length (f .records) ≤ length (x .counts) → Room (length (f .records) + 1) (x .value-rows)
+    → step (state h rows) (remove x) ≡ ok (lessened f rows x)
+removal-step h f rows x s t w q he hc r =
+    let l = stands-long s in
+    subst (λ (g : Flags). Incoming g (flagsIn (x .incoming)) → Room (length (g .records) + 1) (x .value-rows) → step (state h rows) (remove x) ≡ ok (lessened g rows x)) (s .are)
+    (λ w r. own-step h rows x (s .are-proper) t w q (omega arith) (omega arith) r) w r
+
+-- ---- an addition
+
+-- what an addition of x's amount at its base leaves of flags f
+abbrev raisedBy : Flags → ℕ → ℕ → Flags
+raisedBy f e n = flags (f .base) (f .owner) (put (e ⦂ (held e (f .records) + n)) (f .records))
+
+raised-fits : (f : Flags) (e n : ℕ) → held e (f .records) + n ≤ largest → raised e n f ≡ ok (raisedBy f e n)
+raised-fits f e n p = rw (le-leb (held e (f .records) + n) largest p)
+
+-- the adding merge of incoming flags without records
+added-bare : (s : MergingOwnersStrategy) (n : ℕ) (f t : Flags) → Incoming f t → held (t .base) (f .records) + n ≤ largest → added s n f t ≡ ok (raisedBy f (t .base) n)
+added-bare s n f t w p =
+    let l = w .higher in
+    added-owned s n f t (omega arith) (f .owner) (owner-stays s (f .owner) (t .owner) (w .owner))
+    ∙ raised-higher (f .base) (t .base) n (joined f t (f .owner)) (λ e. omega arith)
+    ∙ ap (λ (rs : List At). raised (t .base) n (flags (f .base) (f .owner) rs)) (ap (union (f .records)) (w .bare) ∙ union-none (f .records))
+    ∙ raised-fits f (t .base) n p
+
+-- AN ADDITION IS ACCEPTED, AND LEAVES SO MUCH MORE AT THE INCOMING BASE
+pub addition-step : (h : Held) (f : Flags) (rows : List Row) (x : Edit) (g : Flags) → Stands h f → properHeld (x .incoming) ≡ true → Incoming f (flagsIn (x .incoming))
+    → held (x .incoming .head .base) (f .records) + x .amount ≤ largest → raisedBy f (x .incoming .head .base) (x .amount) ≡ g
+    → length (g .records) ≤ length (x .epochs) → length (g .records) ≤ length (x .counts)
+    → step (state h rows) (add x) ≡ ok (state (heldIn (placed g (x .epochs) (x .counts))) rows)
+unfolding step
+addition-step h f rows x g s t w p e he hc =
+    let i = x .incoming in
+    ap (λ (a : After). leftBy a rows)
+    (combined-proper (h .head) (h .epochs) (h .counts) (i .head) (i .epochs) (i .counts) (x .amount) (x .strategy) (x .epochs) (x .counts) (s .are-proper) t
+    ∙ ap (λ (k : Flags). placing (added (x .strategy) (x .amount) k (flagsIn i)) (x .epochs) (x .counts)) (s .are)
+    ∙ ap (λ (a : Answer Flags). placing a (x .epochs) (x .counts)) (added-bare (x .strategy) (x .amount) f (flagsIn i) w p ∙ ap ok e)
+    ∙ after-placed g (x .epochs) (x .counts) he hc)
