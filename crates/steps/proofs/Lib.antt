@@ -1,3 +1,4 @@
 -- What the proofs share. Assumes nothing.
 pub mod Standing
 pub mod Remaining
+pub mod Latest
