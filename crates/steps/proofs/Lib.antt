@@ -2,3 +2,4 @@
 pub mod Standing
 pub mod Remaining
 pub mod Latest
+pub mod Shorter
