@@ -3,3 +3,4 @@ pub mod Standing
 pub mod Remaining
 pub mod Latest
 pub mod Shorter
+pub mod Refunds
