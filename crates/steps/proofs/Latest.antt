@@ -1,4 +1,4 @@
--- A table whose latest record stands at e: its count alone is replaced by an addition there, and a removal takes back first what was added.
+-- A table whose latest record stands at e: an addition there replaces its count alone, and a removal takes back first what was added.
 -- Assumes nothing.
 use mathlib.Core.Path.{_≡_, refl, sym, ap, _∙_}
 use mathlib.Core.Bool.{true}
@@ -67,7 +67,7 @@ module _ (rs : List At) (e c x y : ℕ) (p : 4 ≤ c) where
   same-asked : x + y - min (x + y) (c + x - minimum) ≡ y - min y (c - minimum)
   same-asked = omega arith
 
-  -- and the same stays
+  -- and the same stays: with 4 bytes or more the record is not dropped where nothing more is asked of it
   same-stays : stays (e ⦂ (c + x)) (x + y) ≡ stays (e ⦂ c) y
   same-stays =
       let z : c + x - min (x + y) (c + x - minimum) ≡ c - min y (c - minimum) = omega arith in

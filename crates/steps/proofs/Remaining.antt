@@ -51,7 +51,7 @@ module _ (base n : ℕ) where
   pub remaining-each : (rs : List At) → ascending base (epochsOf rs) ≡ true → remaining base rs n ≡ remains rs n
   remaining-each rs h = later-remain [] rs h
 
--- where something is asked, or more than 3 are held
+-- where something is asked, or more than 3 are held, only what is left decides
 pub stays-left : (r : At) (n : ℕ) → 0 < n + above r → stays r n ≡ left (r .epoch) (r .bytes - min n (above r))
 stays-left r n p =
     elim (decLt 0 n) [
@@ -61,7 +61,7 @@ stays-left r n p =
           rw (le-ltb 0 n (omega arith), z, lt-leb (r .bytes) minimum (omega arith))
     ]
 
--- where all above 3 is asked
+-- where something is asked, and no less than all above 3, nothing stays
 stays-none : (r : At) (n : ℕ) → 0 < n → above r ≤ n → stays r n ≡ []
 stays-none r n p q = stays-left r n (omega arith) ∙ rw (le-leb (r .bytes - min n (above r)) minimum (omega arith))
 
@@ -93,11 +93,11 @@ unfolding spare remains
 spare-remains [] n = omega arith
 spare-remains (r ∷ rs) n = spare-stays r (remains rs n) (asked n rs) ∙ rw (spare-remains rs n) (omega arith)
 
--- what is asked before some records
+-- of what stands before some records as much is asked in two removals as in one
 asked-twice : (rs : List At) (a b : ℕ) → asked a rs + asked b (remains rs a) ≡ asked (a + b) rs
 asked-twice rs a b = rw (spare-remains rs a) (omega arith)
 
--- one record, asked m bytes and then n
+-- of a record that stays, m bytes and then n are asked
 fewer-twice : (r : At) (m n : ℕ) → (0 < m → m < above r) → stays (r .epoch ⦂ (r .bytes - m)) n ≡ stays r (m + n)
 fewer-twice r m n p =
     elim (decLt 0 m) [
@@ -123,6 +123,7 @@ unfolding remains
 remains-twice [] a b = refl
 remains-twice (r ∷ rs) a b = stays-twice r (remains rs a) (asked a rs) b ∙ rw (asked-twice rs a b, remains-twice rs a b)
 
+-- REMOVALS COMPOSE IN WHAT REMAINS
 pub remaining-twice : (base : ℕ) (rs : List At) (a b : ℕ) → ascending base (epochsOf rs) ≡ true
     → remaining base (remaining base rs a) b ≡ remaining base rs (a + b)
 remaining-twice base rs a b h =
@@ -201,6 +202,7 @@ given-split d base rs n =
     let z : min (asked n rs) (asked n rs) ≡ asked n rs = omega arith in
     given-before d base (asked n rs) (asked n rs) (sections rs n) ∙ rw z
 
+-- AND IN WHAT EACH EPOCH GIVES
 pub given-twice : (d base : ℕ) (rs : List At) (a b : ℕ) → ascending base (epochsOf rs) ≡ true
     → given d (split base rs a) + given d (split base (remaining base rs a) b) ≡ given d (split base rs (a + b))
 given-twice d base rs a b h =
