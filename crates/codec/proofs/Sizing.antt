@@ -3,7 +3,7 @@ use Prim.Native.Nat.{ℕ, suc, _+_, _-_, _*_, _≤_, _<_}
 use native.Mathlib.Decide.{decLt}
 use native.Mathlib.Numerals.{add-one}
 use native.Mathlib.Omega.{arith}
-use mathlib.Core.Path.{_≡_, refl, sym, ap, _∙_}
+use mathlib.Core.Path.{_≡_, refl, sym, _∙_}
 use mathlib.Core.Option.{Option}
 use mathlib.Core.List.{List, [], _∷_}
 use borrow.Author.Tests.{le-leb, lt-leb}
@@ -15,7 +15,7 @@ use Rattle.fields.specs.Varint.{largest, varint}
 use Rattle.fields.proofs.Bigs.{length-big}
 use Rattle.fields.proofs.Varints.{length-five}
 use Rattle.records.specs.Tables.{At, recordsOf, countsOf}
-use Rattle.records.specs.Flags.{flagsOf, ownerOf, kindOf}
+use Rattle.records.specs.Flags.{flags, flagsOf, ownerOf, kindOf}
 use Rattle.records.specs.declared.head.Kind.{Kind}
 use Rattle.records.specs.declared.head.Head.{Head}
 use Rattle.records.proofs.Tables.{counts-records}
@@ -52,6 +52,12 @@ length-records (r ∷ rs) = omega (arith, length-append (recordBytes r) (records
 pub length-head : (k : Kind) (o : Option (List ℕ)) (base : ℕ) → length (headBytes k o base) ≡ 3 + length (ownerBytes o)
 length-head k o base = omega (arith, length-append (ownerBytes o) (big 2 base), length-big 2 base)
 
+pub length-bytes : (base : ℕ) (o : Option (List ℕ)) (rs : List At) → length (bytesOf (flags base o rs)) ≡ 3 + length (ownerBytes o) + countsSize (countsOf rs)
+unfolding bytesOf
+length-bytes base o rs =
+    let k : Kind = kindOf o (length rs) in
+    omega (arith, length-append (headBytes k o base) (recordsBytes rs), length-head k o base, length-records rs)
+
 -- both tables hold as many
 module _ (h : Head) (es cs : List ℕ) (p : IsProper h es cs) where
   pub held-epochs : length (take (h .records) es) ≡ h .records
@@ -61,12 +67,9 @@ module _ (h : Head) (es cs : List ℕ) (p : IsProper h es cs) where
   held-counts = length-take (h .records) cs ∙ omega (arith, p .counts-long)
 
   pub length-flags : length (bytesOf (flagsOf h es cs)) ≡ 3 + length (ownerBytes (ownerOf h)) + countsSize (take (h .records) cs)
-  unfolding bytesOf
   length-flags =
-      let rs : List At = recordsOf (take (h .records) es) (take (h .records) cs) in
-      let k : Kind = kindOf (ownerOf h) (length rs) in
-      let e = ap countsSize (counts-records (take (h .records) es) (take (h .records) cs) (held-epochs ∙ sym held-counts)) in
-      omega (arith, length-append (headBytes k (ownerOf h) (h .base)) (recordsBytes rs), length-head k (ownerOf h) (h .base), length-records rs, e)
+      length-bytes (h .base) (ownerOf h) (recordsOf (take (h .records) es) (take (h .records) cs))
+      ∙ rw (counts-records (take (h .records) es) (take (h .records) cs) (held-epochs ∙ sym held-counts))
 
 -- ---- room
 

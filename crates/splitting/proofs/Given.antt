@@ -48,7 +48,7 @@ module _ (d e : ℕ) (p : d ≡ e → ⊥) where
 
 -- ---- a record, the earlier ones and the later ones
 
-later : (b : ℕ) (xs : List At) (r : At) (ys : List At) → ascending b (epochsOf (xs ++ (r ∷ ys))) ≡ true → b < r .epoch
+pub later : (b : ℕ) (xs : List At) (r : At) (ys : List At) → ascending b (epochsOf (xs ++ (r ∷ ys))) ≡ true → b < r .epoch
 unfolding epochsOf
 later b [] r ys h = asc-head b (r .epoch) (epochsOf ys) h
 later b (x ∷ xs) r ys h =

@@ -1,3 +1,7 @@
 -- What the proofs share. Assumes nothing.
 pub mod Standing
 pub mod Accepting
+pub mod Remaining
+pub mod Latest
+pub mod Shorter
+pub mod Refunds
