@@ -2,28 +2,25 @@
 -- The flags at each time are held somewhere and stand for flags that are known.
 -- Assumes nothing.
 use mathlib.Core.Path.{_≡_, refl, sym, ap, _∙_, subst}
-use mathlib.Core.Logic.{_⊎_}
-use mathlib.Core.Bool.{Bool, true, false, cond}
-use mathlib.Core.Option.{Option, none, some}
+use mathlib.Core.Bool.{true, false}
 use mathlib.Core.List.{List, [], _∷_, _++_}
-use Prim.Native.Nat.{ℕ, zero, suc, _+_, _≤_, _<_}
+use Prim.Native.Nat.{ℕ, zero, suc, _+_, _≤_}
 use native.Mathlib.Omega.{arith}
-use lib.Dec.{leb, eqb}
 use lib.ListN.{length, take}
 use borrow.Author.Tests.{le-leb, eqb-true}
 use Rattle.fields.specs.Varint.{largest}
-use Rattle.records.specs.Tables.{At, _⦂_, recordsOf, epochsOf, ascending, held, put, union}
-use Rattle.records.specs.Flags.{Flags, flags, multi, idOf, ownerOf, flagsOf, agrees}
-use Rattle.records.specs.Answers.{Answer, ok, refused, After, placed, placing}
+use Rattle.records.specs.Tables.{At, _⦂_, recordsOf, held, put, union}
+use Rattle.records.specs.Flags.{Flags, flags, multi, idOf, ownerOf, agrees}
+use Rattle.records.specs.Answers.{Answer, ok, After, placed, placing}
 use Rattle.records.proofs.Unions.{union-none}
 use Rattle.records.proofs.Answers.{after-placed}
 use Rattle.records.proofs.Proper.{proper-inv}
 use Rattle.flags.specs.declared.owners.MergingOwnersStrategy.{MergingOwnersStrategy}
-use Rattle.flags.specs.Merging.{added, raised, raisedAbove, joined}
+use Rattle.flags.specs.Merging.{added, raised, joined}
 use Rattle.flags.proofs.Choosing.{owner-stays}
 use Rattle.flags.proofs.Merging.{added-owned, raised-higher, combined-proper}
-use Rattle.rows.specs.Rows.{Row, Tables, Room, rowsUnder, roomIn}
-use Rattle.rows.specs.Removals.{Removal, rowsOfRemoval, removalOf, stateOf}
+use Rattle.rows.specs.Rows.{Row, Tables, Room, rowsUnder}
+use Rattle.rows.specs.Removals.{rowsOfRemoval, stateOf}
 use Rattle.rows.proofs.Rows.{has-room, room-less}
 use Rattle.splitting.specs.Sections.{split, allowed, largestRemoval}
 use Rattle.splitting.specs.Calls.{Split, removalOf as removalOfSplit, Told, placing as placingSplit, splitRemoved}
@@ -31,10 +28,10 @@ use Rattle.splitting.proofs.Sections.{split-none}
 use Rattle.splitting.proofs.Counting.{value-rows, split-short}
 use Rattle.splitting.proofs.Calls.{split-fitting}
 use Rattle.splitting.proofs.Accepted.{splitFor, value-stands}
-use Rattle.removal.proofs.OwnSplit.{ownRemoval, rest, Incoming, split-merged}
-use Rattle.steps.specs.History.{Held, properHeld, flagsIn, Edit, add, remove, State, state, leftBy, splitMerged, step}
-use Rattle.steps.specs.Demand.{Single, RecordRoom}
-use Rattle.steps.proofs.Standing.{Stands, heldIn, placed-stands, stands-ascend, stands-long}
+use Rattle.removal.proofs.OwnSplit.{rest, Incoming, split-merged}
+use Rattle.steps.specs.Held.{Held, properHeld, flagsIn}
+use Rattle.steps.specs.History.{Edit, add, remove, State, state, leftBy, splitMerged, step}
+use Rattle.steps.proofs.Standing.{Stands, heldIn, stands-long}
 
 -- ---- incoming flags
 

@@ -5,3 +5,8 @@ pub mod Remaining
 pub mod Latest
 pub mod Shorter
 pub mod Refunds
+pub mod Running
+pub mod SmallSteps
+pub mod Witness
+pub mod Marked
+pub mod Only

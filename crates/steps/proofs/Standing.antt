@@ -4,18 +4,18 @@ use mathlib.Core.Path.{_≡_, refl, sym, ap, _∙_}
 use mathlib.Core.Bool.{Bool, true, false}
 use mathlib.Core.Option.{Option, none, some}
 use mathlib.Core.List.{List}
-use Prim.Native.Nat.{ℕ, _≤_}
+use Prim.Native.Nat.{ℕ}
 use native.Mathlib.Omega.{arith}
 use lib.Dec.{leb, eqb}
 use lib.ListN.{length, take, drop, length-append}
 use lib.Seq.{take-at}
 use borrow.Author.Tests.{le-leb, eqb-false}
 use Rattle.records.specs.Tables.{recordsOf, epochsOf, countsOf, ascending, over}
-use Rattle.records.specs.Flags.{Flags, flags, kindOf, agrees, headOf, proper}
+use Rattle.records.specs.Flags.{Flags, flags, kindOf, agrees, proper}
 use Rattle.records.specs.Answers.{After, placed}
 use Rattle.records.proofs.Tables.{length-epochsOf, length-countsOf, records-back, epochs-records}
 use Rattle.records.proofs.Proper.{proper-inv, proper-above, proper-long, owner-head}
-use Rattle.steps.specs.History.{Held, held, properHeld, flagsIn}
+use Rattle.steps.specs.Held.{Held, held, properHeld, flagsIn}
 
 -- held flags are proper, and these
 pub record Stands (h : Held) (f : Flags) : Type 0 where

@@ -14,7 +14,8 @@ use Rattle.records.specs.Answers.{ok}
 use Rattle.codec.specs.Bytes.{bytesOf}
 use Rattle.rows.specs.Rows.{row, Room}
 use Rattle.splitting.specs.Sections.{largestRemoval}
-use Rattle.steps.specs.History.{Held, properHeld, flagsIn, bytesInto, Edit, Step, add, remove, State, state, run, allAdded, allRemoved, refundAt}
+use Rattle.steps.specs.Held.{Held, properHeld, flagsIn, bytesInto}
+use Rattle.steps.specs.History.{Edit, Step, add, remove, State, state, run, allAdded, allRemoved, refundAt}
 
 -- ---- the premises of a step, f being the first flags
 

@@ -1,41 +1,18 @@
 -- Editing in small steps: histories of additions and removals, each step made of the calls' own definitions. Document 00, demand 3.
 -- Assumes nothing.
 use Prim.Native.Nat.{ℕ, _+_}
-use mathlib.Core.Bool.{Bool, cond, _&&_}
+use mathlib.Core.Bool.{cond, _&&_}
 use mathlib.Core.List.{List, [], _∷_, _++_}
 use lib.Dec.{eqb}
-use Rattle.records.specs.Flags.{Flags, same, flagsOf, proper}
-use Rattle.records.specs.Answers.{Answer, ok, refused, After, Written}
-use Rattle.records.specs.declared.head.Head.{Head}
-use Rattle.codec.specs.Calls.{serialized}
+use Rattle.records.specs.Flags.{same}
+use Rattle.records.specs.Answers.{Answer, ok, refused, After}
 use Rattle.flags.specs.Calls.{combinedAdded}
 use Rattle.flags.specs.declared.owners.MergingOwnersStrategy.{MergingOwnersStrategy}
 use Rattle.rows.specs.Rows.{Row, Tables}
 use Rattle.rows.specs.Removals.{removalOf, rowsOfRemoval}
 use Rattle.splitting.specs.Calls.{Told, splitRemoved}
 use Rattle.removal.specs.Calls.{combinedRemoved}
-
--- flags as the calls have them: a head and its two tables
-pub record Held : Type 0 where
-  pub head : Head
-  pub epochs : List ℕ
-  pub counts : List ℕ
-
--- held flags of these three
-abbrev pub held : Head → List ℕ → List ℕ → Held
-held h es cs = record { head = h; epochs = es; counts = cs }
-
--- whether they are proper
-abbrev pub properHeld : Held → Bool
-properHeld f = proper (f .head) (f .epochs) (f .counts)
-
--- the flags that they are
-abbrev pub flagsIn : Held → Flags
-flagsIn f = flagsOf (f .head) (f .epochs) (f .counts)
-
--- what `serialize` leaves of an output
-abbrev pub bytesInto : Held → List ℕ → Written
-bytesInto f out = serialized (f .head) (f .epochs) (f .counts) out
+use Rattle.steps.specs.Held.{Held, held}
 
 -- ---- steps
 

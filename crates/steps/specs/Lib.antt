@@ -1,2 +1,5 @@
+pub mod Held
 pub mod History
 pub mod Demand
+pub mod Marked
+pub mod Calls

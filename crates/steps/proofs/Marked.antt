@@ -1,0 +1,27 @@
+-- P1 TO P14 TOGETHER: what the calls tell is what the table says. By computation over the definitions that their contracts cite.
+-- Assumes nothing.
+use mathlib.Core.Path.{_≡_, refl}
+use mathlib.Core.List.{map}
+use Rattle.fields.specs.Big.{saidAfter}
+use Rattle.fields.specs.Varint.{groups, varint, high, value, found}
+use Rattle.records.specs.Tables.{recordsOf, epochsOf, countsOf, ascending, has, held, put, union}
+use Rattle.records.specs.Flags.{same, proper}
+use Rattle.records.specs.Answers.{after}
+use Rattle.codec.specs.Reading.{next, parse, readAs, read}
+use Rattle.flags.specs.Merging.{added}
+use Rattle.flags.specs.Calls.{combinedAdded}
+use Rattle.rows.specs.Order.{order}
+use Rattle.rows.specs.Rows.{ascends, idsOf, partsOf, rowsUnder, rowsOf, properRows}
+use Rattle.sums.specs.Joins.{addRow}
+use Rattle.sums.specs.Sums.{anyOfZeros, withoutZeros, basicPlus}
+use Rattle.sums.specs.Calls.{placing as placingSum, summed}
+use Rattle.splitting.specs.Sections.{spare, section, sections, split}
+use Rattle.splitting.specs.Calls.{placing as placingSplit, splitRemoved}
+use Rattle.removal.specs.Removing.{allUnder, fault, minus, removed}
+use Rattle.removal.specs.Calls.{combinedRemoved}
+use Rattle.steps.specs.History.{step}
+use Rattle.steps.specs.Marked.{tell, Example, examples}
+
+pub marked : map (λ (x : Example). tell (x .0)) examples ≡ map (λ (x : Example). x .1) examples
+unfolding examples tell step saidAfter groups varint high value found recordsOf epochsOf countsOf ascending has held put union same proper after next parse readAs read added combinedAdded order ascends idsOf partsOf rowsUnder rowsOf properRows addRow anyOfZeros withoutZeros basicPlus placingSum summed spare section sections split placingSplit splitRemoved allUnder fault minus removed combinedRemoved
+marked = refl

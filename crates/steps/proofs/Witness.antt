@@ -1,0 +1,95 @@
+-- The premises of demand 3 can be met: an owned history on {7:10, 9:5} above base 5, with tables, rows and output as long as they must be.
+-- 8 bytes are added at 9 and 15 removed, in five steps with each strategy; so it refunds like one removal of 7. By computation.
+-- Assumes nothing.
+use mathlib.Core.Path.{refl}
+use mathlib.Core.Logic.{inl, inr}
+use mathlib.Core.Option.{Option, none, some}
+use mathlib.Core.List.{List, [], _∷_}
+use Prim.Native.Nat.{ℕ, _≤_, _<_}
+use native.Mathlib.Omega.{arith}
+use lib.ListN.{replicate}
+use Rattle.fields.specs.Big.{big}
+use Rattle.fields.specs.Varint.{groups, varint}
+use Rattle.records.specs.Tables.{_⦂_, recordsOf, epochsOf, countsOf, ascending}
+use Rattle.records.specs.Flags.{Flags, flags, headOf, proper}
+use Rattle.codec.specs.Bytes.{recordsBytes, bytesOf}
+use Rattle.flags.specs.declared.owners.MergingOwnersStrategy.{MergingOwnersStrategy}
+use Rattle.flags.specs.declared.owners.MergingOwnersStrategy.the-variants.{RaiseIssue, UseOurs, UseTheirs}
+use Rattle.rows.specs.Rows.{Tables, tables}
+use Rattle.splitting.specs.Sections.{largestRemoval}
+use Rattle.steps.specs.Held.{Held, held}
+use Rattle.steps.specs.History.{Edit, Step, add, remove, allAdded, allRemoved}
+use Rattle.steps.specs.Demand.{Single, Removes, Premises, Refunds}
+use Rattle.steps.proofs.SmallSteps.{small-steps}
+
+abbrev owner : Option (List ℕ)
+owner = some (replicate 32 1)
+
+-- flags in tables that just hold them
+abbrev exactly : Flags → Held
+exactly f = held (headOf f) (epochsOf (f .records)) (countsOf (f .records))
+
+abbrev start : Held
+start = exactly (flags 5 owner (7 ⦂ 10 ∷ 9 ⦂ 5 ∷ []))
+
+-- room for n rows
+abbrev rows : ℕ → Tables
+rows n = tables (replicate n []) (replicate n 0) (replicate n 0)
+
+-- incoming flags of an owner or none, at an epoch; a strategy; an amount; room for two records and three rows
+abbrev edit : Option (List ℕ) → ℕ → MergingOwnersStrategy → ℕ → Edit
+edit o e s n =
+    record { incoming = exactly (flags e o []); strategy = s; amount = n; epochs = replicate 2 0; counts = replicate 2 0; key-rows = rows 0; value-rows = rows 3 }
+
+abbrev firsts : List Step
+firsts = add (edit none 9 UseTheirs 8) ∷ remove (edit owner 6 RaiseIssue 3) ∷ remove (edit none 65535 UseOurs 5) ∷ []
+
+abbrev laters : List Step
+laters = remove (edit none 9 RaiseIssue 1) ∷ remove (edit owner 7 UseOurs 6) ∷ []
+
+abbrev one : Edit
+one = edit none 12 RaiseIssue 7
+
+-- incoming flags without an owner, and with ours
+unowned : (e : ℕ) → Single start (exactly (flags e none []))
+unfolding proper ascending epochsOf countsOf
+unowned e = record { are-proper = refl; kind-0-or-2 = refl; no-owner-or-ours = inl refl }
+
+ours : (e : ℕ) → Single start (exactly (flags e owner []))
+unfolding proper ascending epochsOf countsOf
+ours e = record { are-proper = refl; kind-0-or-2 = refl; no-owner-or-ours = inr refl }
+
+-- a removal of incoming flags like these
+removes : (o : Option (List ℕ)) (e : ℕ) (s : MergingOwnersStrategy) (n : ℕ) → Single start (exactly (flags e o [])) → 5 < e → n ≤ largestRemoval → Removes start (edit o e s n)
+removes o e s n i p q =
+    record {
+      single = i;
+      above-our-base = p;
+      at-most = q;
+      record-room = record { epochs-long = omega arith; counts-long = omega arith };
+      row-room = record { ids-long = omega arith; epochs-long = omega arith; bytes-long = omega arith };
+    }
+
+-- THE PREMISES ARE MET
+met : Premises start 9 5 firsts laters one (replicate 41 0)
+unfolding proper ascending epochsOf countsOf recordsOf allAdded allRemoved bytesOf recordsBytes big varint groups
+met =
+    record {
+      canonical = refl;
+      earlier = 7 ⦂ 10 ∷ [];
+      latest = refl;
+      four-or-more = omega arith;
+      first-steps = (
+        record { single = unowned 9; at-e = refl; record-room = record { epochs-long = omega arith; counts-long = omega arith } },
+        omega arith,
+        (removes owner 6 RaiseIssue 3 (ours 6) (omega arith) (omega arith), omega arith, (removes none 65535 UseOurs 5 (unowned 65535) (omega arith) (omega arith), omega arith, tt)),
+      );
+      later-steps = (removes none 9 RaiseIssue 1 (unowned 9) (omega arith) (omega arith), (removes owner 7 UseOurs 6 (ours 7) (omega arith) (omega arith), tt));
+      not-below-0 = omega arith;
+      one-amount = refl;
+      one-removal = removes none 12 RaiseIssue 7 (unowned 12) (omega arith) (omega arith);
+      byte-room = omega arith;
+    }
+
+pub refunded : Refunds start 9 firsts laters one (replicate 41 0)
+refunded = small-steps start 9 5 firsts laters one (replicate 41 0) met

@@ -1,0 +1,165 @@
+-- The public calls, one by one, as their contracts state them. Each contract is an equation between what is shown of an outcome, which is the
+-- answer and all that was lent as the call leaves it, and a definition of what went in.
+-- Assumes nothing.
+use Prim.Native.Nat.{ℕ}
+use mathlib.Core.Path.{_≡_}
+use mathlib.Core.Bool.{Bool}
+use mathlib.Core.List.{List}
+use Rattle.records.specs.Flags.{typeByte, ownerIf, maybeOwner, ownerOf, headFor, withOwner}
+use Rattle.records.specs.Answers.{Answer, After, shown, counted, Written, wrote, writing}
+use Rattle.records.specs.declared.head.Head.{Head}
+use Rattle.records.specs.declared.head.Kind.{Kind}
+use Rattle.records.specs.declared.head.Kind.the-variants.{SingleEpoch, MultiEpoch, SingleEpochOwned, MultiEpochOwned}
+use Rattle.records.specs.declared.head.MaybeOwner.{MaybeOwner}
+use Rattle.records.specs.declared.answer.Answered.{Answered}
+use Rattle.records.specs.declared.answer.Counted.{Counted}
+use Rattle.codec.specs.Reading.{readAs, read}
+use Rattle.codec.specs.Sizes.{approximate}
+use Rattle.codec.specs.Calls.{judgement, deserializedAs, deserialized, serialized, sizeOf}
+use Rattle.codec.specs.declared.sizes.Changes.{Changes}
+use Rattle.flags.specs.Owners.{choice, combinedOwner, chosenAs}
+use Rattle.flags.specs.Parts.{Part}
+use Rattle.flags.specs.Calls.{ownerChoice, ownerHanded, combinedAdded, optionalCombinedAdded}
+use Rattle.flags.specs.declared.owners.MergingOwnersStrategy.{MergingOwnersStrategy}
+use Rattle.rows.specs.Rows.{Tables}
+use Rattle.rows.specs.Calls.{told, totalled, hasRemoval, totalRemoved}
+use Rattle.rows.specs.declared.removed.Removed.{Removed}
+use Rattle.rows.specs.declared.removed.HasRemoval.{HasRemoval}
+use Rattle.rows.specs.declared.removed.Total.{Total}
+use Rattle.sums.specs.Calls.{After as AfterSum, shown as shownSum, summed}
+use Rattle.sums.specs.declared.sum.Summed.{Summed}
+use Rattle.splitting.specs.Calls.{After as AfterSplit, shown as shownSplit, splitRemoved}
+use Rattle.splitting.specs.declared.split.Splitting.{Splitting}
+use Rattle.removal.specs.Calls.{combinedRemoved, optionalCombinedRemoved}
+use Rattle.listing.specs.Listed.{listed}
+use Rattle.steps.specs.Held.{Held}
+
+-- what goes in, what comes out, what is shown of that, and what it is to equal
+pub record Call : Type 1 where
+  pub Input : Type 0
+  pub Outcome : Type 0
+  pub Shown : Type 0
+  pub shows : Outcome → Shown
+  pub says : Input → Shown
+
+-- the contract allows an outcome
+abbrev pub Allows : (c : Call) → c .Input → c .Outcome → Type 0
+Allows c i o = c .shows o ≡ c .says i
+
+-- any two outcomes that it allows are equal
+abbrev pub Only : Call → Type 0
+Only c = (i : c .Input) (a b : c .Outcome) → Allows c i a → Allows c i b → a ≡ b
+
+-- ---- the forms of outcomes
+
+-- a value, and nothing lent to be written
+abbrev pub valued : {I A : Type 0} → (I → A) → Call
+valued {I} {A} f = record { Input = I; Outcome = A; Shown = A; shows = λ a. a; says = f }
+
+-- flags or none or a refusal, and two tables
+abbrev pub flagged : {I : Type 0} → (I → After) → Call
+flagged {I} f = record { Input = I; Outcome = Answered × List ℕ × List ℕ; Shown = After; shows = λ o. shown (o .0) (o .1) (o .2); says = f }
+
+-- a number or a refusal
+abbrev pub numbered : {I : Type 0} → (I → Answer ℕ) → Call
+numbered {I} f = record { Input = I; Outcome = Counted; Shown = Answer ℕ; shows = counted; says = f }
+
+-- a number of bytes or a refusal, and the output
+abbrev pub written : {I : Type 0} → (I → Written) → Call
+written {I} f = record { Input = I; Outcome = Counted × List ℕ; Shown = Written; shows = λ o. wrote (o .0) (o .1); says = f }
+
+-- yes or no, or a refusal
+abbrev pub decided : {I : Type 0} → (I → Answer Bool) → Call
+decided {I} f = record { Input = I; Outcome = HasRemoval; Shown = Answer Bool; shows = told; says = f }
+
+-- a number of removed bytes or a refusal
+abbrev pub totalling : {I : Type 0} → (I → Answer ℕ) → Call
+totalling {I} f = record { Input = I; Outcome = Total; Shown = Answer ℕ; shows = totalled; says = f }
+
+-- a removal's state or a refusal, and its tables
+abbrev pub summing : {I : Type 0} → (I → AfterSum) → Call
+summing {I} f = record { Input = I; Outcome = Summed × Tables; Shown = AfterSum; shows = λ o. shownSum (o .0) (o .1); says = f }
+
+-- two removals' states and a number, or a refusal, and the tables of both
+abbrev pub splitting : {I : Type 0} → (I → AfterSplit) → Call
+splitting {I} f = record { Input = I; Outcome = Splitting × Tables × Tables; Shown = AfterSplit; shows = λ o. shownSplit (o .0) (o .1) (o .2); says = f }
+
+-- ---- what goes in
+
+-- bytes, and two tables that are lent
+pub record Source : Type 0 where
+  pub bytes : List ℕ
+  pub epochs : List ℕ
+  pub counts : List ℕ
+
+-- ours, and whether they are present; theirs; the strategy; and two tables that are lent
+pub record Merge : Type 0 where
+  pub present : Bool
+  pub ours : Held
+  pub theirs : Held
+  pub strategy : MergingOwnersStrategy
+  pub epochs : List ℕ
+  pub counts : List ℕ
+
+-- a removal's state and its rows
+pub record Rows : Type 0 where
+  pub state : Removed
+  pub tables : Tables
+
+-- ---- the calls
+
+-- the public calls by name
+pub data PublicCall : Type 0 where
+  deserialize deserialize-single-epoch deserialize-multi-epoch deserialize-single-epoch-owned deserialize-multi-epoch-owned : PublicCall
+  judge judge-as serialize serialized-size approximate-size list : PublicCall
+  new-single-epoch set-owner-id base-epoch owner-id type-byte : PublicCall
+  choose-owner combine-owners combine-owner-id choose-owner-id : PublicCall
+  combine-added-bytes optional-combine-added-bytes combine-removed-bytes optional-combine-removed-bytes : PublicCall
+  has-removal total-removed-bytes add-assign split-storage-removed-bytes : PublicCall
+
+-- what each contract states
+abbrev pub contract : PublicCall → Call
+contract deserialize = flagged (λ (i : Source). deserialized (i .bytes) (i .epochs) (i .counts))
+contract deserialize-single-epoch = flagged (λ (i : Source). deserializedAs SingleEpoch (i .bytes) (i .epochs) (i .counts))
+contract deserialize-multi-epoch = flagged (λ (i : Source). deserializedAs MultiEpoch (i .bytes) (i .epochs) (i .counts))
+contract deserialize-single-epoch-owned = flagged (λ (i : Source). deserializedAs SingleEpochOwned (i .bytes) (i .epochs) (i .counts))
+contract deserialize-multi-epoch-owned = flagged (λ (i : Source). deserializedAs MultiEpochOwned (i .bytes) (i .epochs) (i .counts))
+contract judge = valued (λ (bytes : List ℕ). judgement (read bytes))
+contract judge-as = valued (λ (i : Kind × List ℕ). judgement (readAs (i .0) (i .1)))
+contract serialize = written (λ (i : Held × List ℕ). serialized (i .0 .head) (i .0 .epochs) (i .0 .counts) (i .1))
+contract serialized-size = numbered (λ (i : Held). sizeOf (i .head) (i .epochs) (i .counts))
+contract approximate-size = valued (λ (i : Bool × Changes). approximate (i .0) (i .1))
+contract list = written (λ (i : List ℕ × List ℕ). writing (listed (i .0)) (i .1))
+contract new-single-epoch = valued (λ (i : ℕ × MaybeOwner). headFor (i .0) (ownerIf (i .1 .owned) (i .1 .id)) 0)
+contract set-owner-id = valued (λ (i : Head × List ℕ). withOwner (i .0) (i .1))
+contract base-epoch = valued (λ (h : Head). h .base)
+contract owner-id = valued (λ (h : Head). maybeOwner (ownerOf h))
+contract type-byte = valued (λ (h : Head). typeByte (h .kind))
+contract choose-owner = valued (λ (i : Head × Head × MergingOwnersStrategy). choice (i .2) (ownerOf (i .0)) (ownerOf (i .1)))
+contract combine-owners = valued (λ (i : Head × Head × MergingOwnersStrategy). chosenAs (combinedOwner (i .2) (ownerOf (i .0)) (ownerOf (i .1))))
+-- a reference is told by the part that it lends: where it stands, and its bytes
+contract combine-owner-id = valued (λ (i : Part × Part × MergingOwnersStrategy). ownerHanded (i .2) (i .0) (i .1))
+contract choose-owner-id = valued (λ (i : List ℕ × List ℕ × MergingOwnersStrategy). ownerChoice (i .2) (i .0) (i .1))
+contract combine-added-bytes =
+    flagged (λ (i : Merge × ℕ).
+    combinedAdded (i .0 .ours .head) (i .0 .ours .epochs) (i .0 .ours .counts) (i .0 .theirs .head) (i .0 .theirs .epochs) (i .0 .theirs .counts)
+    (i .1) (i .0 .strategy) (i .0 .epochs) (i .0 .counts))
+contract optional-combine-added-bytes =
+    flagged (λ (i : Merge × ℕ).
+    optionalCombinedAdded (i .0 .present) (i .0 .ours .head) (i .0 .ours .epochs) (i .0 .ours .counts) (i .0 .theirs .head) (i .0 .theirs .epochs)
+    (i .0 .theirs .counts) (i .1) (i .0 .strategy) (i .0 .epochs) (i .0 .counts))
+contract combine-removed-bytes =
+    flagged (λ (i : Merge × Rows).
+    combinedRemoved (i .0 .ours .head) (i .0 .ours .epochs) (i .0 .ours .counts) (i .0 .theirs .head) (i .0 .theirs .epochs) (i .0 .theirs .counts)
+    (i .1 .state) (i .1 .tables) (i .0 .strategy) (i .0 .epochs) (i .0 .counts))
+contract optional-combine-removed-bytes =
+    flagged (λ (i : Merge × Rows).
+    optionalCombinedRemoved (i .0 .present) (i .0 .ours .head) (i .0 .ours .epochs) (i .0 .ours .counts) (i .0 .theirs .head) (i .0 .theirs .epochs)
+    (i .0 .theirs .counts) (i .1 .state) (i .1 .tables) (i .0 .strategy) (i .0 .epochs) (i .0 .counts))
+contract has-removal = decided (λ (i : Rows). hasRemoval (i .state) (i .tables))
+contract total-removed-bytes = totalling (λ (i : Rows). totalRemoved (i .state) (i .tables))
+-- the version, and both removals; it works in the tables of the left one
+contract add-assign = summing (λ (i : ℕ × Rows × Rows). summed (i .0) (i .1 .state) (i .1 .tables) (i .2 .state) (i .2 .tables))
+-- flags; the key's bytes and the tables lent for its rows; the value's
+contract split-storage-removed-bytes =
+    splitting (λ (i : Held × (ℕ × Tables) × (ℕ × Tables)). splitRemoved (i .0 .head) (i .0 .epochs) (i .0 .counts) (i .1 .0) (i .2 .0) (i .1 .1) (i .2 .1))

@@ -1,0 +1,123 @@
+-- The marked examples P1 to P14 of document 01 as one table: what is asked of the calls, and what they are to tell. Unowned, base 5.
+-- Assumes nothing.
+use Prim.Native.Nat.{ℕ}
+use mathlib.Core.Bool.{cond}
+use mathlib.Core.Option.{none}
+use mathlib.Core.List.{List, [], _∷_}
+use lib.Dec.{eqb}
+use lib.ListN.{replicate}
+use Rattle.records.specs.Tables.{At, _⦂_, epochsOf, countsOf}
+use Rattle.records.specs.Flags.{Flags, flags, zeros, headOf, flagsOf}
+use Rattle.records.specs.Answers.{Answer, ok, refused, After}
+use Rattle.codec.specs.Calls.{deserialized}
+use Rattle.flags.specs.declared.owners.MergingOwnersStrategy.the-variants.{RaiseIssue}
+use Rattle.rows.specs.Rows.{row, partsOf, Tables, tables, overRows}
+use Rattle.rows.specs.Removals.{Removal, basic, sectioned, removalOf, rowsOfRemoval, stateOf}
+use Rattle.rows.specs.declared.removed.Removed.{Removed}
+use Rattle.sums.specs.Calls.{summed}
+use Rattle.splitting.specs.Calls.{Told, splitRemoved}
+use Rattle.steps.specs.Held.{Held, held, flagsIn}
+use Rattle.steps.specs.History.{Edit, add, remove, State, state, step}
+
+-- what is asked: bytes to be read; a value split of records; its merge with incoming flags at 9; an amount added at an epoch; a sum at a version
+pub data Question : Type 0 where
+  reads : List ℕ → Question
+  splits merges : List At → ℕ → Question
+  adds : List At → ℕ → ℕ → Question
+  sums : ℕ → Removal → Removal → Question
+
+-- what is told: no flags, flags, sections with the number of records visited, a removal, or a refusal
+pub data Answered : Type 0 where
+  nothing : Answered
+  flagged : Flags → Answered
+  parted : List At → ℕ → Answered
+  removed : Removal → Answered
+  refusedWith : ℕ → Answered
+
+-- ---- what is lent
+
+-- two tables of three places
+abbrev pub places : List ℕ
+places = replicate 3 0
+
+-- tables of three rows
+abbrev pub rowPlaces : Tables
+rowPlaces = tables (replicate 3 zeros) places places
+
+-- unowned flags of a base and records
+abbrev pub unowned : ℕ → List At → Held
+unowned base rs = held (headOf (flags base none rs)) (epochsOf rs) (countsOf rs)
+
+-- incoming flags of kind 0 at an epoch, and an amount
+abbrev pub edit : ℕ → ℕ → Edit
+edit e n =
+    record { incoming = unowned e []; strategy = RaiseIssue; amount = n; epochs = places; counts = places; key-rows = rowPlaces; value-rows = rowPlaces }
+
+-- ---- what is told
+
+-- by a reader
+abbrev pub toldOfReader : After → Answered
+toldOfReader a = cond (a .present) (flagged (flagsOf (a .head) (a .epochs) (a .counts))) (cond (eqb (a .refusal) 0) nothing (refusedWith (a .refusal)))
+
+-- by a split
+abbrev pub toldOfSplit : Answer Told → Tables → Answered
+toldOfSplit (refused n) t = refusedWith n
+toldOfSplit (ok s) t = parted (partsOf (rowsOfRemoval (removalOf (s .value) t))) (s .visited)
+
+-- by a step of a history
+abbrev pub toldOfStep : Answer State → Answered
+toldOfStep (refused n) = refusedWith n
+toldOfStep (ok st) = flagged (flagsIn (st .flags))
+
+-- by a sum
+abbrev pub toldOfSum : Answer Removed → Tables → Answered
+toldOfSum (refused n) t = refusedWith n
+toldOfSum (ok x) t = removed (removalOf x t)
+
+-- what the calls tell
+unfoldable pub tell : Question → Answered
+tell (reads bytes) = toldOfReader (deserialized bytes places places)
+tell (splits rs n) =
+    let f = unowned 5 rs in
+    let a = splitRemoved (f .head) (f .epochs) (f .counts) 0 n rowPlaces rowPlaces in
+    toldOfSplit (a .answer) (a .value-rows)
+tell (merges rs n) = toldOfStep (step (state (unowned 5 rs) []) (remove (edit 9 n)))
+tell (adds rs e n) = toldOfStep (step (state (unowned 5 rs) []) (add (edit e n)))
+tell (sums version x y) =
+    let a = summed version (stateOf x) (overRows (rowsOfRemoval x) rowPlaces) (stateOf y) (overRows (rowsOfRemoval y) rowPlaces) in
+    toldOfSum (a .answer) (a .rows)
+
+-- ---- the table
+
+-- a question, and what is to be told
+abbrev pub Example : Type 0
+Example = Question × Answered
+
+unfoldable pub examples : List Example
+examples =
+    -- P1 to P9
+    (reads [], nothing)
+    ∷ (reads (0x00 ∷ 0x00 ∷ 0x05 ∷ []), flagged (flags 5 none []))
+    ∷ (reads (0x00 ∷ 0x05 ∷ []), refusedWith 2)
+    ∷ (reads (0x01 ∷ 0x00 ∷ 0x05 ∷ []), refusedWith 2)
+    ∷ (reads (0x01 ∷ 0x00 ∷ 0x05 ∷ 0x00 ∷ 0x07 ∷ 0xAC ∷ 0x02 ∷ []), flagged (flags 5 none (7 ⦂ 300 ∷ [])))
+    ∷ (reads (0x01 ∷ 0x00 ∷ 0x05 ∷ 0x00 ∷ 0x05 ∷ 0x01 ∷ []), refusedWith 3)
+    ∷ (reads (0x01 ∷ 0x00 ∷ 0x05 ∷ 0x00 ∷ 0x07 ∷ 0x81 ∷ 0x00 ∷ []), refusedWith 3)
+    ∷ (reads (0x01 ∷ 0x00 ∷ 0x05 ∷ 0x00 ∷ 0x07 ∷ 0x80 ∷ []), refusedWith 2)
+    ∷ (reads (0x04 ∷ []), refusedWith 1)
+    -- P10
+    ∷ (splits (7 ⦂ 10 ∷ 9 ⦂ 5 ∷ []) 6, parted (7 ⦂ 4 ∷ 9 ⦂ 2 ∷ []) 2)
+    ∷ (merges (7 ⦂ 10 ∷ 9 ⦂ 5 ∷ []) 6, flagged (flags 5 none (7 ⦂ 6 ∷ [])))
+    -- P11
+    ∷ (splits (7 ⦂ 10 ∷ 9 ⦂ 5 ∷ []) 20, parted (5 ⦂ 11 ∷ 7 ⦂ 7 ∷ 9 ⦂ 2 ∷ []) 2)
+    ∷ (merges (7 ⦂ 10 ∷ 9 ⦂ 5 ∷ []) 20, flagged (flags 5 none []))
+    -- P12
+    ∷ (splits (7 ⦂ 10 ∷ 9 ⦂ 3 ∷ []) 1, parted (7 ⦂ 1 ∷ 9 ⦂ 0 ∷ []) 2)
+    ∷ (merges (7 ⦂ 10 ∷ 9 ⦂ 3 ∷ []) 1, flagged (flags 5 none (7 ⦂ 9 ∷ [])))
+    -- P13
+    ∷ (adds (7 ⦂ 300 ∷ []) 7 50, flagged (flags 5 none (7 ⦂ 350 ∷ [])))
+    ∷ (adds (7 ⦂ 300 ∷ []) 8 0, flagged (flags 5 none (7 ⦂ 300 ∷ 8 ⦂ 0 ∷ [])))
+    -- P14
+    ∷ (sums 0 (basic 4) (sectioned (row zeros 3 10 ∷ [])), removed (sectioned []))
+    ∷ (sums 1 (basic 4) (sectioned (row zeros 3 10 ∷ [])), removed (sectioned (row zeros 3 10 ∷ row zeros 65535 4 ∷ [])))
+    ∷ []
