@@ -7,12 +7,12 @@ use Prim.Native.Nat.{ℕ, _+_, _-_, _≤_}
 use native.Mathlib.Omega.{arith}
 use lib.ListN.{length}
 use Rattle.records.specs.Tables.{At, _⦂_, over}
-use Rattle.records.specs.Flags.{Flags, idOf, ownerOf}
+use Rattle.records.specs.Flags.{Flags, ownerOf}
 use Rattle.records.specs.Answers.{ok, writing}
 use Rattle.records.proofs.Answers.{writing-fits}
 use Rattle.codec.specs.Bytes.{bytesOf}
 use Rattle.codec.proofs.Writings.{serialized-proper}
-use Rattle.rows.specs.Rows.{row, rowsUnder}
+use Rattle.rows.specs.Rows.{rowsUnder}
 use Rattle.splitting.specs.Sections.{split}
 use Rattle.steps.specs.Held.{Held, bytesInto}
 use Rattle.steps.specs.History.{Edit, Step, add, remove, state, allAdded, allRemoved, refundAt}
@@ -119,12 +119,9 @@ module _ (f : Held) (e c : ℕ) (first later : List Step) (one : Edit) (out : Li
       let l = p .byte-room in
       omega (arith, bytes-less b (ownerOf (f .head)) rs (split b rs (one .amount)), ap (λ (k : List At). length (bytesOf (at f k))) (p .latest))
 
-  sum-of : (i : List ℕ) (d : ℕ) → refundAt i d (all-ran .final .rows) ≡ refundAt i d (row (idOf (ownerOf (f .head))) e A ∷ one-ran .final .rows)
-  unfolding refundAt rowsUnder
-  sum-of i d = omega (arith, all-ran .refunds i d, one-ran .refunds i d)
-
   -- EDITING IN SMALL STEPS REFUNDS LIKE ONE EDIT
   pub small-steps : Refunds f e first later one out
+  unfolding refundAt rowsUnder
   small-steps =
       record {
         final = all-ran .final;
@@ -134,5 +131,5 @@ module _ (f : Held) (e c : ℕ) (first later : List Step) (one : Edit) (out : Li
         one-accepted = one-ran .accepted;
         final-bytes = stands-bytes (all-ran .final .flags) (at f left) out (all-ran .stands) room;
         one-bytes = stands-bytes (one-ran .final .flags) (at f left) out (one-ran .stands) room;
-        sections-sum = sum-of;
+        sections-sum = λ i d. omega (arith, all-ran .refunds i d, one-ran .refunds i d);
       }
