@@ -1,24 +1,31 @@
 -- The premises of demand 3 can be met: an owned history on {7:10, 9:5} above base 5, with tables, rows and output as long as they must be.
 -- 8 bytes are added at 9 and 15 removed, in five steps with each strategy; so it refunds like one removal of 7. By computation.
 -- Assumes nothing.
-use mathlib.Core.Path.{refl}
+use mathlib.Core.Path.{_≡_, refl}
 use mathlib.Core.Logic.{inl, inr}
 use mathlib.Core.Option.{Option, none, some}
-use mathlib.Core.List.{List, [], _∷_}
+use mathlib.Core.List.{List, [], _∷_, _++_, map}
 use Prim.Native.Nat.{ℕ, _≤_, _<_}
 use native.Mathlib.Omega.{arith}
 use lib.ListN.{replicate}
 use Rattle.fields.specs.Big.{big}
 use Rattle.fields.specs.Varint.{groups, varint}
-use Rattle.records.specs.Tables.{_⦂_, recordsOf, epochsOf, countsOf, ascending}
-use Rattle.records.specs.Flags.{Flags, flags, headOf, proper}
+use Rattle.records.specs.Tables.{_⦂_, recordsOf, epochsOf, countsOf, ascending, has, held, put, union}
+use Rattle.records.specs.Flags.{Flags, flags, same, headOf, proper}
+use Rattle.records.specs.Answers.{Answer, ok, refused, after}
 use Rattle.codec.specs.Bytes.{recordsBytes, bytesOf}
+use Rattle.flags.specs.Merging.{added}
+use Rattle.flags.specs.Calls.{combinedAdded}
 use Rattle.flags.specs.declared.owners.MergingOwnersStrategy.{MergingOwnersStrategy}
 use Rattle.flags.specs.declared.owners.MergingOwnersStrategy.the-variants.{RaiseIssue, UseOurs, UseTheirs}
-use Rattle.rows.specs.Rows.{Tables, tables}
-use Rattle.splitting.specs.Sections.{largestRemoval}
-use Rattle.steps.specs.Held.{Held, held}
-use Rattle.steps.specs.History.{Edit, Step, add, remove, allAdded, allRemoved}
+use Rattle.rows.specs.Order.{order}
+use Rattle.rows.specs.Rows.{ascends, idsOf, partsOf, rowsUnder, Tables, tables, rowsOf, properRows}
+use Rattle.splitting.specs.Sections.{largestRemoval, spare, section, sections, split}
+use Rattle.splitting.specs.Calls.{placing, splitRemoved}
+use Rattle.removal.specs.Removing.{allUnder, fault, minus, removed}
+use Rattle.removal.specs.Calls.{combinedRemoved}
+use Rattle.steps.specs.Held.{Held, held as holding, flagsIn}
+use Rattle.steps.specs.History.{Edit, Step, add, remove, State, state, step, run, allAdded, allRemoved, refundAt}
 use Rattle.steps.specs.Demand.{Single, Removes, Premises, Refunds}
 use Rattle.steps.proofs.SmallSteps.{small-steps}
 
@@ -27,7 +34,7 @@ owner = some (replicate 32 1)
 
 -- flags in tables that just hold them
 abbrev exactly : Flags → Held
-exactly f = held (headOf f) (epochsOf (f .records)) (countsOf (f .records))
+exactly f = holding (headOf f) (epochsOf (f .records)) (countsOf (f .records))
 
 abbrev start : Held
 start = exactly (flags 5 owner (7 ⦂ 10 ∷ 9 ⦂ 5 ∷ []))
@@ -93,3 +100,16 @@ met =
 
 pub refunded : Refunds start 9 firsts laters one (replicate 41 0)
 refunded = small-steps start 9 5 firsts laters one (replicate 41 0) met
+
+-- ---- the same history, computed
+
+-- what a run ends in: the flags, and the refunds of the owner at the base, at 7 and at 9
+abbrev ended : Answer State → Option (Flags × ℕ × ℕ × ℕ)
+ended (refused n) = none
+ended (ok st) = some (flagsIn (st .flags), refundAt (replicate 32 1) 5 (st .rows), refundAt (replicate 32 1) 7 (st .rows), refundAt (replicate 32 1) 9 (st .rows))
+
+-- BOTH LEAVE {7:5}; ALL STEPS TOGETHER REFUND 8 MORE AT 9
+pub ended-alike : map ended (run (state start []) (firsts ++ laters) ∷ run (state start []) (remove one ∷ []) ∷ [])
+    ≡ some (flags 5 owner (7 ⦂ 5 ∷ []), 0, 5, 10) ∷ some (flags 5 owner (7 ⦂ 5 ∷ []), 0, 5, 2) ∷ []
+unfolding run step allAdded allRemoved refundAt recordsOf epochsOf countsOf ascending has held put union same proper after added combinedAdded order ascends idsOf partsOf rowsUnder rowsOf properRows spare section sections split placing splitRemoved allUnder fault minus removed combinedRemoved
+ended-alike = refl
