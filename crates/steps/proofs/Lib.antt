@@ -10,3 +10,4 @@ pub mod SmallSteps
 pub mod Witness
 pub mod Marked
 pub mod Only
+pub mod Keeping

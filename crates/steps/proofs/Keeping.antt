@@ -1,0 +1,181 @@
+-- A REFUSAL RETURNS ITS NUMBER ONLY AND CHANGES NOTHING THAT WAS LENT, of each public call. By the tests of its definition.
+-- Assumes nothing.
+use mathlib.Core.Path.{_≡_, refl}
+use mathlib.Core.Bool.{Bool, true, false, cond, _&&_}
+use mathlib.Core.Option.{Option, none, some}
+use mathlib.Core.List.{List}
+use Prim.Native.Nat.{ℕ}
+use lib.Dec.{leb}
+use lib.ListN.{length}
+use Rattle.records.specs.Flags.{Flags, flagsOf, proper}
+use Rattle.records.specs.Answers.{Answer, ok, refused, After, kept, placed, roomFor, after, placing, Written, writing}
+use Rattle.records.specs.declared.head.Head.{Head}
+use Rattle.codec.specs.Bytes.{bytesOf}
+use Rattle.codec.specs.Calls.{serialized}
+use Rattle.flags.specs.Merging.{added}
+use Rattle.flags.specs.Calls.{handedOn, combinedAdded, optionalCombinedAdded}
+use Rattle.flags.specs.declared.owners.MergingOwnersStrategy.{MergingOwnersStrategy}
+use Rattle.rows.specs.Rows.{Tables, roomIn}
+use Rattle.rows.specs.Removals.{Removal, removalOf, rowsOfRemoval, proper as properRemoval}
+use Rattle.rows.specs.declared.removed.Removed.{Removed}
+use Rattle.sums.specs.Sums.{sum}
+use Rattle.sums.specs.Calls.{After as AfterSum, kept as keptSum, placing as placingSum, summed}
+use Rattle.splitting.specs.Calls.{Split, After as AfterSplit, kept as keptSplit, placing as placingSplit, splitOf, splitRemoved}
+use Rattle.removal.specs.Removing.{removed}
+use Rattle.removal.specs.Calls.{combinedRemoved, optionalCombinedRemoved}
+use Rattle.steps.specs.Calls.{Keeps, numberIn, PublicCall, deserialize, deserialize-single-epoch, deserialize-multi-epoch, deserialize-single-epoch-owned, deserialize-multi-epoch-owned, judge, judge-as, serialize, serialized-size, approximate-size, list, new-single-epoch, set-owner-id, base-epoch, owner-id, type-byte, choose-owner, combine-owners, combine-owner-id, choose-owner-id, combine-added-bytes, optional-combine-added-bytes, combine-removed-bytes, optional-combine-removed-bytes, has-removal, total-removed-bytes, add-assign, split-storage-removed-bytes, contract}
+
+-- ---- one law: what is shown is an answer, or the refusal with its number
+
+-- either there is no refusal, or the refusal is all
+abbrev Kept : {S : Type 0} → (S → ℕ) → (ℕ → S) → S → Type 0
+Kept number refusal s = (number s ≡ 0 → ⊥) → s ≡ refusal (number s)
+
+module _ {S : Type 0} (number : S → ℕ) (refusal : ℕ → S) where
+  -- by a test, each way
+  tested : (b : Bool) (s t : S) → Kept number refusal s → Kept number refusal t → Kept number refusal (cond b s t)
+  tested true s t p q = p
+  tested false s t p q = q
+
+value-kept : {A : Type 0} (x : Answer A) → Kept numberIn refused x
+value-kept (ok a) h = absurd (h refl)
+value-kept (refused n) h = refl
+
+-- ---- flags
+
+module _ (es cs : List ℕ) where
+  abbrev FlagsKept : After → Type 0
+  FlagsKept = Kept (λ (a : After). a .refusal) (λ n. kept n es cs)
+
+  flags-either : (b : Bool) (s t : After) → FlagsKept s → FlagsKept t → FlagsKept (cond b s t)
+  flags-either = tested (λ (a : After). a .refusal) (λ n. kept n es cs)
+
+  after-kept : (x : Answer (Option Flags)) → FlagsKept (after x es cs)
+  unfolding after
+  after-kept (refused n) h = refl
+  after-kept (ok none) h = refl
+  after-kept (ok (some f)) h =
+      flags-either (roomFor (length (f .records)) (length es) (length cs)) (placed f es cs) (kept 10 es cs)
+      (λ g. absurd (g refl)) (λ g. refl) h
+
+  placing-kept : (x : Answer Flags) → FlagsKept (placing x es cs)
+  placing-kept (refused n) = after-kept (refused n)
+  placing-kept (ok f) = after-kept (ok (some f))
+
+  module _ (theirs : Head) (tes tcs : List ℕ) where
+    handed-kept : FlagsKept (handedOn theirs tes tcs es cs)
+    unfolding handedOn
+    handed-kept = flags-either (proper theirs tes tcs) _ _ (placing-kept (ok (flagsOf theirs tes tcs))) (λ h. refl)
+
+    module _ (ours : Head) (oes ocs : List ℕ) (s : MergingOwnersStrategy) (b : Bool) where
+      added-kept : (n : ℕ) → FlagsKept (combinedAdded ours oes ocs theirs tes tcs n s es cs)
+      unfolding combinedAdded
+      added-kept n = flags-either (proper ours oes ocs && proper theirs tes tcs) _ _ (placing-kept (added s n (flagsOf ours oes ocs) (flagsOf theirs tes tcs))) (λ h. refl)
+
+      optional-added-kept : (n : ℕ) → FlagsKept (optionalCombinedAdded b ours oes ocs theirs tes tcs n s es cs)
+      optional-added-kept n = flags-either b _ _ (added-kept n) handed-kept
+
+      removed-kept : (x : Removed) (t : Tables) → FlagsKept (combinedRemoved ours oes ocs theirs tes tcs x t s es cs)
+      unfolding combinedRemoved
+      removed-kept x t =
+          flags-either (proper ours oes ocs && (proper theirs tes tcs && properRemoval x t)) _ _
+          (placing-kept (removed s (removalOf x t) (flagsOf ours oes ocs) (flagsOf theirs tes tcs))) (λ h. refl)
+
+      optional-removed-kept : (x : Removed) (t : Tables) → FlagsKept (optionalCombinedRemoved b ours oes ocs theirs tes tcs x t s es cs)
+      optional-removed-kept x t = flags-either b _ _ (removed-kept x t) (flags-either (properRemoval x t) _ _ handed-kept (λ h. refl))
+
+-- ---- bytes
+
+module _ (out : List ℕ) where
+  abbrev BytesKept : Written → Type 0
+  BytesKept = Kept (λ (w : Written). numberIn (w .answer)) (λ n. record { answer = refused n; out = out })
+
+  bytes-either : (b : Bool) (s t : Written) → BytesKept s → BytesKept t → BytesKept (cond b s t)
+  bytes-either = tested (λ (w : Written). numberIn (w .answer)) (λ n. record { answer = refused n; out = out })
+
+  writing-kept : (xs : List ℕ) → BytesKept (writing xs out)
+  unfolding writing
+  writing-kept xs =
+      bytes-either (leb (length xs) (length out)) _ _
+      (λ h. absurd (h refl)) (λ h. refl)
+
+  serialized-kept : (f : Head) (es cs : List ℕ) → BytesKept (serialized f es cs out)
+  unfolding serialized
+  serialized-kept f es cs =
+      bytes-either (proper f es cs) _ _
+      (writing-kept (bytesOf (flagsOf f es cs))) (λ h. refl)
+
+-- ---- rows
+
+module _ (t : Tables) where
+  abbrev RowsKept : AfterSum → Type 0
+  RowsKept = Kept (λ (a : AfterSum). numberIn (a .answer)) (λ n. keptSum n t)
+
+  rows-either : (b : Bool) (s t : AfterSum) → RowsKept s → RowsKept t → RowsKept (cond b s t)
+  rows-either = tested (λ (a : AfterSum). numberIn (a .answer)) (λ n. keptSum n t)
+
+  sum-placed : (r : Removal) → RowsKept (placingSum r t)
+  unfolding placingSum
+  sum-placed r =
+      rows-either (roomIn (length (rowsOfRemoval r)) t) _ _ (λ h. absurd (h refl)) (λ h. refl)
+
+  summed-kept : (version : ℕ) (x y : Removed) (u : Tables) → RowsKept (summed version x t y u)
+  unfolding summed
+  summed-kept version x y u =
+      rows-either (properRemoval x t && properRemoval y u) _ _
+      (sum-placed (sum version (removalOf x t) (removalOf y u))) (λ h. refl)
+
+module _ (kt vt : Tables) where
+  abbrev SplitKept : AfterSplit → Type 0
+  SplitKept = Kept (λ (a : AfterSplit). numberIn (a .answer)) (λ n. keptSplit n kt vt)
+
+  split-either : (b : Bool) (s t : AfterSplit) → SplitKept s → SplitKept t → SplitKept (cond b s t)
+  split-either = tested (λ (a : AfterSplit). numberIn (a .answer)) (λ n. keptSplit n kt vt)
+
+  split-placed : (s : Answer Split) → SplitKept (placingSplit s kt vt)
+  unfolding placingSplit
+  split-placed (refused n) h = refl
+  split-placed (ok s) h =
+      split-either
+      (roomIn (length (rowsOfRemoval (s .key))) kt && roomIn (length (rowsOfRemoval (s .value))) vt) _ _ (λ g. absurd (g refl)) (λ g. refl) h
+
+  split-kept : (f : Head) (es cs : List ℕ) (k v : ℕ) → SplitKept (splitRemoved f es cs k v kt vt)
+  unfolding splitRemoved
+  split-kept f es cs k v =
+      split-either (proper f es cs) _ _ (split-placed (splitOf (flagsOf f es cs) k v)) (λ h. refl)
+
+-- ---- each call
+
+pub keeps : (c : PublicCall) → Keeps (contract c)
+keeps deserialize i = after-kept _ _ _
+keeps deserialize-single-epoch i = after-kept _ _ _
+keeps deserialize-multi-epoch i = after-kept _ _ _
+keeps deserialize-single-epoch-owned i = after-kept _ _ _
+keeps deserialize-multi-epoch-owned i = after-kept _ _ _
+keeps judge i = λ h. refl
+keeps judge-as i = λ h. refl
+keeps serialize i = serialized-kept (i .1) (i .0 .head) (i .0 .epochs) (i .0 .counts)
+keeps serialized-size i = value-kept _
+keeps approximate-size i = λ h. refl
+keeps list i = writing-kept (i .1) _
+keeps new-single-epoch i = λ h. refl
+keeps set-owner-id i = λ h. refl
+keeps base-epoch i = λ h. refl
+keeps owner-id i = λ h. refl
+keeps type-byte i = λ h. refl
+keeps choose-owner i = λ h. refl
+keeps combine-owners i = λ h. refl
+keeps combine-owner-id i = λ h. refl
+keeps choose-owner-id i = λ h. refl
+keeps combine-added-bytes i =
+    added-kept (i .0 .out .epochs) (i .0 .out .counts) (i .0 .theirs .head) (i .0 .theirs .epochs) (i .0 .theirs .counts) (i .0 .ours .head) (i .0 .ours .epochs) (i .0 .ours .counts) (i .0 .strategy) (i .0 .present) (i .1)
+keeps optional-combine-added-bytes i =
+    optional-added-kept (i .0 .out .epochs) (i .0 .out .counts) (i .0 .theirs .head) (i .0 .theirs .epochs) (i .0 .theirs .counts) (i .0 .ours .head) (i .0 .ours .epochs) (i .0 .ours .counts) (i .0 .strategy) (i .0 .present) (i .1)
+keeps combine-removed-bytes i =
+    removed-kept (i .0 .out .epochs) (i .0 .out .counts) (i .0 .theirs .head) (i .0 .theirs .epochs) (i .0 .theirs .counts) (i .0 .ours .head) (i .0 .ours .epochs) (i .0 .ours .counts) (i .0 .strategy) (i .0 .present) (i .1 .state) (i .1 .tables)
+keeps optional-combine-removed-bytes i =
+    optional-removed-kept (i .0 .out .epochs) (i .0 .out .counts) (i .0 .theirs .head) (i .0 .theirs .epochs) (i .0 .theirs .counts) (i .0 .ours .head) (i .0 .ours .epochs) (i .0 .ours .counts) (i .0 .strategy) (i .0 .present) (i .1 .state) (i .1 .tables)
+keeps has-removal i = value-kept _
+keeps total-removed-bytes i = value-kept _
+keeps add-assign i = summed-kept (i .1 .tables) (i .0) (i .1 .state) (i .2 .state) (i .2 .tables)
+keeps split-storage-removed-bytes i = split-kept (i .1 .1) (i .2 .1) (i .0 .head) (i .0 .epochs) (i .0 .counts) (i .1 .0) (i .2 .0)
