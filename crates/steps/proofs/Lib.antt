@@ -8,6 +8,7 @@ pub mod Refunds
 pub mod Running
 pub mod SmallSteps
 pub mod Witness
+pub mod Needed
 pub mod Marked
 pub mod Only
 pub mod Keeping

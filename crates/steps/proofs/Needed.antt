@@ -1,0 +1,56 @@
+-- What the premises of demand 3 shut out, as one table: histories that break one premise each, and what they end in. Without the premise the
+-- demand would be false. By computation.
+-- Assumes nothing.
+use mathlib.Core.Path.{_≡_, refl}
+use mathlib.Core.Option.{none}
+use mathlib.Core.List.{List, [], _∷_, map}
+use Rattle.records.specs.Tables.{At, _⦂_, recordsOf, epochsOf, countsOf, ascending, has, held, put, union}
+use Rattle.records.specs.Flags.{flags, zeros, same, proper}
+use Rattle.records.specs.Answers.{after}
+use Rattle.flags.specs.Merging.{added}
+use Rattle.flags.specs.Calls.{combinedAdded}
+use Rattle.rows.specs.Order.{order}
+use Rattle.rows.specs.Rows.{ascends, idsOf, partsOf, rowsUnder, tables, rowsOf, properRows}
+use Rattle.splitting.specs.Sections.{spare, section, sections, split}
+use Rattle.splitting.specs.Calls.{placing, splitRemoved}
+use Rattle.removal.specs.Removing.{allUnder, fault, minus, removed}
+use Rattle.removal.specs.Calls.{combinedRemoved}
+use Rattle.steps.specs.History.{Edit, Step, add, remove, state, step, run}
+use Rattle.steps.specs.Marked.{Answered, flagged, refusedWith, unowned, edit, toldOfStep}
+
+-- records of unowned flags above base 5, steps, and what the run tells
+abbrev Example : Type 0
+Example = List At × List Step × Answered
+
+-- an edit with room for two rows
+abbrev narrow : Edit → Edit
+narrow x =
+    record {
+      incoming = x .incoming;
+      strategy = x .strategy;
+      amount = x .amount;
+      epochs = x .epochs;
+      counts = x .counts;
+      key-rows = x .key-rows;
+      value-rows = tables (zeros ∷ zeros ∷ []) (0 ∷ 0 ∷ []) (0 ∷ 0 ∷ []);
+    }
+
+pub examples : List Example
+examples =
+    -- a latest record of 3 bytes: 1 added and 1 removed drop it, a removal of 0 does not
+    (9 ⦂ 3 ∷ [], add (edit 9 1) ∷ remove (edit 9 1) ∷ [], flagged (flags 5 none []))
+    ∷ (9 ⦂ 3 ∷ [], remove (edit 9 0) ∷ [], flagged (flags 5 none (9 ⦂ 3 ∷ [])))
+    -- more removed than added so far: 1 removed drops the record of 4, and 1 added makes one of 1
+    ∷ (9 ⦂ 4 ∷ [], remove (edit 9 1) ∷ add (edit 9 1) ∷ [], flagged (flags 5 none (9 ⦂ 1 ∷ [])))
+    ∷ (9 ⦂ 4 ∷ [], remove (edit 9 0) ∷ [], flagged (flags 5 none (9 ⦂ 4 ∷ [])))
+    -- a count past the limit
+    ∷ (9 ⦂ 4294967295 ∷ [], add (edit 9 1) ∷ [], refusedWith 6)
+    -- a removal of 4,294,967,293
+    ∷ (9 ⦂ 4 ∷ [], remove (edit 9 4294967293) ∷ [], refusedWith 8)
+    -- rows for no more than the records
+    ∷ (7 ⦂ 10 ∷ 9 ⦂ 5 ∷ [], remove (narrow (edit 9 20)) ∷ [], refusedWith 10)
+    ∷ []
+
+pub needed : map (λ (x : Example). toldOfStep (run (state (unowned 5 (x .0)) []) (x .1))) examples ≡ map (λ (x : Example). x .2) examples
+unfolding examples run step recordsOf epochsOf countsOf ascending has held put union same proper after added combinedAdded order ascends idsOf partsOf rowsUnder rowsOf properRows spare section sections split placing splitRemoved allUnder fault minus removed combinedRemoved
+needed = refl
