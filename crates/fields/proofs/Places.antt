@@ -14,6 +14,7 @@ use lib.Seq.{drop-cons, getD-drop}
 use Rattle.fields.specs.Varint.{largest, varint, high, value, incomplete, notCanonical, whole, canonical, found, isWhole, judgedAt, readAt, endAt, Passed}
 use Rattle.fields.specs.declared.varint.Judged.the-variants.{Incomplete, Ends}
 use Rattle.fields.specs.declared.varint.Reading.the-variants.{Whole}
+use Rattle.fields.proofs.Bases.{size-below}
 use Rattle.fields.proofs.Varints.{length-last, length-more, length-pos, length-five}
 
 no-false : _≡_ {A = Bool} false true → ⊥
@@ -63,12 +64,7 @@ value-below (suc k) (x ∷ xs) h = omega (arith, value-below k xs (omega arith),
 
 -- a number below 128 ^ k has a varint of k bytes at most
 pub length-below : (k n : ℕ) → n < 128 ^ suc k → length (varint n) ≤ suc k
-length-below zero n h = omega (arith, length-last n h)
-length-below (suc k) n h =
-    elim (decLt n 128) [
-      | yes s ↦ omega (arith, length-last n s)
-      | no s ↦ omega (arith, length-more n (omega arith), length-below k (n / 128) (omega (arith, pow-succ' 128 (suc k))))
-    ]
+length-below = size-below 128 (omega arith) (λ (n : ℕ). length (varint n)) length-last length-more
 
 -- and one from there on has more
 pub length-above : (k n : ℕ) → 128 ^ k ≤ n → k < length (varint n)
