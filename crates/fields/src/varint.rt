@@ -6,6 +6,9 @@ ghost use lib.ListN.{length, take, drop};
 ghost use Rattle.fields.specs.Varint.{varint, value, found, isWhole, judgedAt, readAt, Passed, Ending};
 ghost use Rattle.fields.specs.Writing.{Put};
 
+// The largest count and the largest number of bytes: 32 bits.
+pub const LARGEST: u32 = 4294967295;
+
 // The length of a varint, by the number of significant bits 0 to 32 of what it says.
 const LENGTHS: [usize; 33] = [
     1,
