@@ -1,5 +1,6 @@
 pub mod Bigs
 pub mod Table
+pub mod Bases
 pub mod Varints
 pub mod Parts
 pub mod Putting

@@ -5,15 +5,16 @@ use mathlib.Core.Bool.{Bool, true, false, cond, _&&_}
 use mathlib.Core.List.{List, [], _∷_}
 use Prim.Native.Nat.{ℕ, zero, suc, _+_, _-_, _*_, _/_, _%_, _^_, _≤_, _<_}
 use native.Mathlib.Nat.{add-zero, mul-assoc, mul-comm, mul-le-mul-right, one-mul, zero-mul, pow-succ', pow-zero, one-le-pow}
-use native.Mathlib.Decide.{decLt, ℕ-discrete}
+use native.Mathlib.Decide.{decLt}
 use native.Mathlib.Omega.{arith}
 use lib.Dec.{leb, eqb}
 use borrow.Author.Tests.{lt-ltb, le-ltb, le-leb, lt-leb, eq-eqb, ne-eqb}
 use lib.ListN.{length, getD, take, drop, drop-of-length-le, length-drop, length-take}
 use lib.Seq.{drop-cons, getD-drop}
-use Rattle.fields.specs.Varint.{largest, varint, high, value, incomplete, notCanonical, whole, canonical, found, isWhole, judgedAt, readAt, endAt, Passed}
-use Rattle.fields.specs.declared.varint.Judged.the-variants.{Incomplete, Ends}
+use Rattle.fields.specs.Varint.{largest, varint, high, value, incomplete, notCanonical, whole, canonical, found, isWhole, judgedAt, readAt, Passed}
+use Rattle.fields.specs.declared.varint.Judged.the-variants.{Incomplete}
 use Rattle.fields.specs.declared.varint.Reading.the-variants.{Whole}
+use Rattle.fields.proofs.Bases.{size-below}
 use Rattle.fields.proofs.Varints.{length-last, length-more, length-pos, length-five}
 
 no-false : _≡_ {A = Bool} false true → ⊥
@@ -63,12 +64,7 @@ value-below (suc k) (x ∷ xs) h = omega (arith, value-below k xs (omega arith),
 
 -- a number below 128 ^ k has a varint of k bytes at most
 pub length-below : (k n : ℕ) → n < 128 ^ suc k → length (varint n) ≤ suc k
-length-below zero n h = omega (arith, length-last n h)
-length-below (suc k) n h =
-    elim (decLt n 128) [
-      | yes s ↦ omega (arith, length-last n s)
-      | no s ↦ omega (arith, length-more n (omega arith), length-below k (n / 128) (omega (arith, pow-succ' 128 (suc k))))
-    ]
+length-below = size-below 128 (omega arith) (λ (n : ℕ). length (varint n)) length-last length-more
 
 -- and one from there on has more
 pub length-above : (k n : ℕ) → 128 ^ k ≤ n → k < length (varint n)
@@ -175,10 +171,10 @@ module _ (d : List ℕ) (at k : ℕ) (p : Passed d at k) where
           let l : length (varint v) ≤ suc (k - 1) = length-below (k - 1) v (rw j (omega arith)) in
           passed-end ∙ canonical-longer v (suc k) (λ f. omega arith)
 
-      -- where it is not 0, or the first, the varint is minimal
-      pub passed-whole : (k ≡ 0 → ⊥) → 1 ≤ getD d (at + k) 0 → value (take (suc k) (drop at d)) ≤ largest
+      -- where it is not 0, the varint is minimal
+      pub passed-whole : 1 ≤ getD d (at + k) 0 → value (take (suc k) (drop at d)) ≤ largest
           → found (drop at d) ≡ whole (value (take (suc k) (drop at d))) (suc k)
-      passed-whole some pos f =
+      passed-whole pos f =
           let v : ℕ = value (take (suc k) (drop at d)) in
           let t : value (take k (drop at d)) + getD d (at + k) 0 % 128 * 128 ^ k ≡ v = value-on d at k (value (take k (drop at d))) inside refl in
           let m : getD d (at + k) 0 % 128 ≡ getD d (at + k) 0 = omega arith in
@@ -187,16 +183,6 @@ module _ (d : List ℕ) (at k : ℕ) (p : Passed d at k) where
           let lo : k < length (varint v) = length-above k v (omega arith) in
           let hi : length (varint v) ≤ suc k = length-below k v (value-below (suc k) (take (suc k) (drop at d)) (simp length-take (omega arith))) in
           passed-end ∙ canonical-whole v (suc k) f (omega arith)
-
-      -- so the last of two bytes or more decides, where what they say fits
-      pub passed-judged : (next : ℕ) → 1 ≤ k → next ≡ at + suc k → value (take (suc k) (drop at d)) ≤ largest → endAt (getD d (at + k) 0) at next ≡ judgedAt at (found (drop at d))
-      passed-judged next some e f =
-          elim (ℕ-discrete (getD d (at + k) 0) 0) [
-            | yes z ↦ simp (eq-eqb (getD d (at + k) 0) 0 z) (ap (judgedAt at) (sym (passed-zero some z)))
-            | no z ↦
-                simp (ne-eqb (getD d (at + k) 0) 0 z)
-                (ap Ends e ∙ ap (judgedAt at) (sym (passed-whole (λ o. omega arith) (omega arith) f)))
-          ]
 
       -- what is read of a whole varint that ends here
       pub passed-read : (count next : ℕ) → isWhole (found (drop at d)) ≡ true → count ≡ value (take (suc k) (drop at d)) → next ≡ at + suc k
@@ -212,13 +198,9 @@ module _ (d : List ℕ) (at k : ℕ) (p : Passed d at k) where
       let b : value (take (suc k) (drop at d)) < 128 ^ 4 = value-below 4 (take (suc k) (drop at d)) (simp length-take (omega arith)) in
       omega arith
 
-  -- as judging answers them: the bytes end, or the last of two to four is here
+  -- as judging answers it
   pub judged-cut : length d ≤ at + k → Incomplete at ≡ judgedAt at (found (drop at d))
   judged-cut h = ap (judgedAt at) (sym (passed-cut h))
-
-  pub judged-small : (next : ℕ) → 1 ≤ k → k < 4 → at + k < length d → getD d (at + k) 0 < 128 → next ≡ at + suc k
-      → endAt (getD d (at + k) 0) at next ≡ judgedAt at (found (drop at d))
-  judged-small next some four inside low e = passed-judged inside low (omega arith) next some e (passed-small four)
 
   -- a whole varint goes on while its bytes have the top bit set
   pub whole-inside : isWhole (found (drop at d)) ≡ true → at + k < length d
@@ -273,27 +255,28 @@ long-never d at k (suc f) p five ten w =
 
 -- ---- the fifth byte
 
-module _ (d : List ℕ) (at : ℕ) (p : Passed d at 4) (inside : at + 4 < length d) where
-  fifth-value : value (take 4 (drop at d)) + getD d (at + 4) 0 % 128 * 268435456 ≡ value (take 5 (drop at d))
-  fifth-value = value-on d at 4 (value (take 4 (drop at d))) inside refl
+module _ (d : List ℕ) (at k : ℕ) (fifth : k ≡ 4) (p : Passed d at k) (inside : at + k < length d) where
+  fifth-value : value (take k (drop at d)) + getD d (at + k) 0 % 128 * 268435456 ≡ value (take (suc k) (drop at d))
+  fifth-value =
+      ap (λ (z : ℕ). value (take k (drop at d)) + getD d (at + k) 0 % 128 * z) (sym (ap (λ (j : ℕ). 128 ^ j) fifth)) ∙ value-on d at k (value (take k (drop at d))) inside refl
 
-  pub fifth-fits : getD d (at + 4) 0 < 16 → value (take 5 (drop at d)) ≤ largest
+  pub fifth-fits : getD d (at + k) 0 < 16 → value (take (suc k) (drop at d)) ≤ largest
   fifth-fits h =
-      let b : value (take 4 (drop at d)) < 128 ^ 4 = value-below 4 (take 4 (drop at d)) (simp length-take (omega arith)) in
+      let b : value (take k (drop at d)) < 128 ^ 4 = value-below 4 (take k (drop at d)) (simp length-take (omega arith)) in
       omega (arith, fifth-value)
 
-  pub fifth-large : getD d (at + 4) 0 < 128 → 16 ≤ getD d (at + 4) 0 → found (drop at d) ≡ notCanonical
+  pub fifth-large : getD d (at + k) 0 < 128 → 16 ≤ getD d (at + k) 0 → found (drop at d) ≡ notCanonical
   fifth-large low h =
-      passed-end d at 4 p inside low (omega arith) ∙ canonical-large (value (take 5 (drop at d))) 5 (omega (arith, fifth-value))
+      passed-end d at k p inside low (omega arith) ∙ canonical-large (value (take (suc k) (drop at d))) (suc k) (omega (arith, fifth-value))
 
   -- the fifth byte of a whole varint is its last, and fits
-  pub fifth-whole : isWhole (found (drop at d)) ≡ true → getD d (at + 4) 0 < 16
+  pub fifth-whole : isWhole (found (drop at d)) ≡ true → getD d (at + k) 0 < 16
   fifth-whole w =
-      elim (decLt (getD d (at + 4) 0) 16) [
+      elim (decLt (getD d (at + k) 0) 16) [
         | yes h ↦ h
         | no h ↦
-            elim (decLt (getD d (at + 4) 0) 128) [
+            elim (decLt (getD d (at + k) 0) 128) [
               | yes l ↦ absurd (no-false (sym (ap isWhole (fifth-large l (omega arith))) ∙ w))
-              | no l ↦ absurd (long-never d at 5 5 (passed-more d at 4 p inside 5 refl (omega arith)) (omega arith) (omega arith) w)
+              | no l ↦ absurd (long-never d at (k + 1) 5 (passed-more d at k p inside (k + 1) refl (omega arith)) (omega arith) (omega arith) w)
             ]
       ]

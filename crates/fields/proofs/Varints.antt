@@ -1,14 +1,15 @@
 -- The minimal varint of a number: its two equations, and its length.
 -- Assumes nothing.
-use Prim.Native.Nat.{ℕ, zero, suc, _+_, _-_, _/_, _%_, _≤_, _<_}
+use Prim.Native.Nat.{ℕ, zero, suc, _+_, _/_, _%_, _≤_, _<_}
 use native.Mathlib.Nat.{le-refl}
 use native.Mathlib.Decide.{decLt}
-use mathlib.Core.Path.{_≡_, refl, ap, sym, _∙_}
+use mathlib.Core.Path.{_≡_, refl, ap}
 use mathlib.Core.List.{List, [], _∷_}
 use native.Mathlib.Omega.{arith}
 use borrow.Author.Tests.{lt-ltb, le-ltb}
 use lib.ListN.{length}
 use Rattle.fields.specs.Varint.{largest, groups, varint}
+use Rattle.fields.proofs.Bases.{written-more}
 
 groups-last : (f n : ℕ) → n < 128 → groups f n ≡ n ∷ []
 unfolding groups
@@ -19,29 +20,13 @@ groups-more : (f n : ℕ) → 128 ≤ n → groups (suc f) n ≡ (n % 128 + 128)
 unfolding groups
 groups-more f n h = rw (le-ltb n 128 h, groups)
 
--- any bound that is large enough gives the same groups
-groups-same : (f g n : ℕ) → n ≤ f → n ≤ g → groups f n ≡ groups g n
-groups-same zero g n hf hg = groups-last zero n (omega arith) ∙ sym (groups-last g n (omega arith))
-groups-same (suc f) zero n hf hg = groups-last (suc f) n (omega arith) ∙ sym (groups-last zero n (omega arith))
-groups-same (suc f) (suc g) n hf hg =
-    elim (decLt n 128) [
-      | yes h ↦ groups-last (suc f) n h ∙ sym (groups-last (suc g) n h)
-      | no h ↦
-          groups-more f n (omega arith)
-          ∙ ap (λ (r : List ℕ). (n % 128 + 128) ∷ r) (groups-same f g (n / 128) (omega arith) (omega arith))
-          ∙ sym (groups-more g n (omega arith))
-    ]
-
 pub varint-last : (n : ℕ) → n < 128 → varint n ≡ n ∷ []
 unfolding varint
 varint-last n h = groups-last n n h
 
 pub varint-more : (n : ℕ) → 128 ≤ n → varint n ≡ (n % 128 + 128) ∷ varint (n / 128)
 unfolding varint
-varint-more n h =
-    groups-same n (suc n) n (omega arith) (omega arith)
-    ∙ groups-more n n h
-    ∙ ap (λ (r : List ℕ). (n % 128 + 128) ∷ r) (groups-same n (n / 128) (n / 128) (omega arith) (omega arith))
+varint-more = written-more 128 (omega arith) groups (λ (n : ℕ). n ∷ []) (λ (n : ℕ) (r : List ℕ). (n % 128 + 128) ∷ r) groups-last groups-more
 
 -- induction group by group
 pub by-groups {ℓ} : (P : ℕ → Type ℓ) → ((n : ℕ) → n < 128 → P n) → ((n : ℕ) → 128 ≤ n → P (n / 128) → P n) → (n : ℕ) → P n

@@ -1,11 +1,11 @@
 -- Base-128 varints: seven bits a byte, lowest group first, top bit set on all but the last byte.
 -- Assumes nothing.
-use Prim.Native.Nat.{ℕ, zero, suc, _+_, _*_, _/_, _%_}
+use Prim.Native.Nat.{ℕ, zero, suc, _+_, _*_, _/_, _%_, _≤_, _<_}
 use mathlib.Core.Bool.{Bool, true, false, cond, _&&_}
 use mathlib.Core.Path.{_≡_}
 use mathlib.Core.List.{List, [], _∷_}
 use lib.Dec.{ltb, leb, eqb}
-use lib.ListN.{length, take, drop}
+use lib.ListN.{length, getD, take, drop}
 use Rattle.fields.specs.declared.varint.Judged.{Judged}
 use Rattle.fields.specs.declared.varint.Judged.the-variants.{Incomplete, NotCanonical, Ends}
 use Rattle.fields.specs.declared.varint.Reading.{Reading}
@@ -69,10 +69,14 @@ isWhole incomplete = false
 isWhole notCanonical = false
 isWhole (whole v used) = true
 
--- the last byte of two to five: a varint is longer than minimal exactly where it is 0
-abbrev pub endAt : ℕ → ℕ → ℕ → Judged
-endAt last at next = cond (eqb last 0) (NotCanonical at) (Ends next)
-
 -- k bytes with the top bit set are passed from the place at on
 abbrev pub Passed : List ℕ → ℕ → ℕ → Type 0
 Passed xs at k = high (drop at xs) ≡ k + high (drop (at + k) xs)
+
+-- the varint there ends k bytes behind its first: at least one, and at most nine
+pub record Ending (xs : List ℕ) (at k : ℕ) : Type 0 where
+  pub passed : Passed xs at k
+  pub some : 1 ≤ k
+  pub ten : k < 10
+  pub inside : at + k < length xs
+  pub low : getD xs (at + k) 0 < 128

@@ -5,6 +5,7 @@ mod varint;
 pub use big::be16_at;
 pub use big::put_be16;
 pub use varint::Judged;
+pub use varint::LARGEST;
 pub use varint::Reading;
 pub use varint::Varint;
 pub use varint::judge_varint;

@@ -3,8 +3,11 @@ ghost use mathlib.Core.Path.{_≡_};
 ghost use mathlib.Core.Bool.{true};
 ghost use Prim.Native.Nat.{_+_, _≤_};
 ghost use lib.ListN.{length, take, drop};
-ghost use Rattle.fields.specs.Varint.{varint, value, found, isWhole, judgedAt, readAt, endAt, Passed};
+ghost use Rattle.fields.specs.Varint.{varint, value, found, isWhole, judgedAt, readAt, Passed, Ending};
 ghost use Rattle.fields.specs.Writing.{Put};
+
+// The largest count and the largest number of bytes: 32 bits.
+pub const LARGEST: u32 = 4294967295;
 
 // The length of a varint, by the number of significant bits 0 to 32 of what it says.
 const LENGTHS: [usize; 33] = [
@@ -103,76 +106,29 @@ pub fn put_varint(out: &mut [u8], at: usize, count: u32) -> usize
     at + 5
 }
 
-// The end of a varint of two to five bytes, whose last byte is given: longer than minimal where that is 0.
-fn end_at(last: u8, at: usize, next: usize) -> Judged
-    ensures { λ r. ⌜ r ≡ endAt last at next ⌝ }
+// Judges the varint at `at` that ends `k` bytes behind its first: it is longer than minimal where its last byte is 0, and five bytes hold
+// 32 bits where the fifth is below 16.
+fn end_at(src: &[u8], at: usize, k: usize) -> Judged
+    requires { ⌜ Ending (now src) at k ⌝ }
+    ensures { λ r. ⌜ r ≡ judgedAt at (found (drop at (now (src .entry)))) ⌝ }
 {
+    let last = src[at + k];
     if last == 0 {
         return Judged::NotCanonical(at);
     }
-    Judged::Ends(next)
-}
-
-// Judges a varint of more than five bytes: it is not canonical, or incomplete where it does not end within ten.
-fn judge_long(src: &[u8], at: usize) -> Judged
-    requires { ⌜ Passed (now src) at 5 × (at + 5 ≤ length (now src)) ⌝ }
-    ensures { λ r. ⌜ r ≡ judgedAt at (found (drop at (now (src .entry)))) ⌝ }
-{
-    let mut k: usize = 5;
-    while k < 10 {
-        let i = at + k;
-        if src.len() <= i {
-            return Judged::Incomplete(at);
-        }
-        if src[i] < 128 {
-            return Judged::NotCanonical(at);
-        }
-        k += 1;
+    if k < 4 {
+        return Judged::Ends(at + k + 1);
     }
-    Judged::Incomplete(at)
-}
-
-// Judges the varint at `at`, of which four bytes are passed: five hold 32 bits where the fifth is below 16.
-fn judge_fifth(src: &[u8], at: usize) -> Judged
-    requires { ⌜ Passed (now src) at 4 × (at + 4 ≤ length (now src)) ⌝ }
-    ensures { λ r. ⌜ r ≡ judgedAt at (found (drop at (now (src .entry)))) ⌝ }
-{
-    if src.len() - at < 5 {
-        return Judged::Incomplete(at);
-    }
-    let fifth = src[at + 4];
-    if fifth < 16 {
-        return end_at(fifth, at, at + 5);
-    }
-    if fifth < 128 {
+    if 4 < k {
         return Judged::NotCanonical(at);
     }
-    judge_long(src, at)
+    if last < 16 {
+        return Judged::Ends(at + 5);
+    }
+    Judged::NotCanonical(at)
 }
 
-// Judges the varint at `at`, of which two bytes are passed.
-fn judge_third(src: &[u8], at: usize) -> Judged
-    requires { ⌜ Passed (now src) at 2 × (at + 2 ≤ length (now src)) ⌝ }
-    ensures { λ r. ⌜ r ≡ judgedAt at (found (drop at (now (src .entry)))) ⌝ }
-{
-    if src.len() - at < 3 {
-        return Judged::Incomplete(at);
-    }
-    let third = src[at + 2];
-    if third < 128 {
-        return end_at(third, at, at + 3);
-    }
-    if src.len() - at < 4 {
-        return Judged::Incomplete(at);
-    }
-    let fourth = src[at + 3];
-    if fourth < 128 {
-        return end_at(fourth, at, at + 4);
-    }
-    judge_fifth(src, at)
-}
-
-// Judges the varint at `at`, byte by byte and without what it says.
+// Judges the varint at `at`, byte by byte and without what it says: it is incomplete where it does not end within ten bytes.
 pub fn judge_varint(src: &[u8], at: usize) -> Judged
     ensures { λ r. ⌜ r ≡ judgedAt at (found (drop at (now (src .entry)))) ⌝ }
 {
@@ -182,14 +138,18 @@ pub fn judge_varint(src: &[u8], at: usize) -> Judged
     if src[at] < 128 {
         return Judged::Ends(at + 1);
     }
-    if src.len() - at < 2 {
-        return Judged::Incomplete(at);
+    let mut k: usize = 1;
+    while k < 10 {
+        let i = at + k;
+        if src.len() <= i {
+            return Judged::Incomplete(at);
+        }
+        if src[i] < 128 {
+            return end_at(src, at, k);
+        }
+        k += 1;
     }
-    let second = src[at + 1];
-    if second < 128 {
-        return end_at(second, at, at + 2);
-    }
-    judge_third(src, at)
+    Judged::Incomplete(at)
 }
 
 // The same number in 32 bits.

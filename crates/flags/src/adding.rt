@@ -11,13 +11,11 @@ use crate::owners::combine_owners;
 use crate::placing::hand_on;
 use crate::placing::place_around;
 use crate::placing::place_union;
+use fields::LARGEST;
 use records::Answered;
 use records::Head;
 use records::MaybeOwner;
 use records::Refusal;
-
-// The largest count: 32 bits.
-const LARGEST: u32 = 4294967295;
 
 // The union with an amount at the incoming base: it is added to our record there, or a record is made.
 fn combine_with_higher_base_epoch(

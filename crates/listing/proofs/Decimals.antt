@@ -1,8 +1,6 @@
 -- The decimal digits of a number: their two equations, their number, and how they are written from the last to the first.
 -- Assumes nothing.
 use Prim.Native.Nat.{ℕ, zero, suc, _+_, _-_, _/_, _%_, _^_, _≤_, _<_}
-use native.Mathlib.Nat.{pow-succ'}
-use native.Mathlib.Decide.{decLt}
 use native.Mathlib.Omega.{arith}
 use mathlib.Core.Path.{_≡_, refl, sym, ap, _∙_}
 use mathlib.Core.List.{List, [], _∷_, _++_}
@@ -10,6 +8,7 @@ use borrow.Author.Tests.{lt-ltb, le-ltb}
 use lib.ListN.{length, set, length-set, length-append}
 use lib.Seq.{sets, set-comm}
 use Rattle.fields.specs.Writing.{Put}
+use Rattle.fields.proofs.Bases.{written-more, size-below}
 use Rattle.fields.proofs.Parts.{sets-append}
 use Rattle.listing.specs.Text.{digits, decimal}
 
@@ -22,29 +21,14 @@ digits-more : (f n : ℕ) → 10 ≤ n → digits (suc f) n ≡ digits f (n / 10
 unfolding digits
 digits-more f n h = rw (le-ltb n 10 h, digits)
 
--- any bound that is large enough gives the same digits
-digits-same : (f g n : ℕ) → n ≤ f → n ≤ g → digits f n ≡ digits g n
-digits-same zero g n hf hg = digits-last zero n (omega arith) ∙ sym (digits-last g n (omega arith))
-digits-same (suc f) zero n hf hg = digits-last (suc f) n (omega arith) ∙ sym (digits-last zero n (omega arith))
-digits-same (suc f) (suc g) n hf hg =
-    elim (decLt n 10) [
-      | yes h ↦ digits-last (suc f) n h ∙ sym (digits-last (suc g) n h)
-      | no h ↦
-          digits-more f n (omega arith)
-          ∙ ap (λ (r : List ℕ). r ++ ((48 + n % 10) ∷ [])) (digits-same f g (n / 10) (omega arith) (omega arith))
-          ∙ sym (digits-more g n (omega arith))
-    ]
-
 pub decimal-last : (n : ℕ) → n < 10 → decimal n ≡ (48 + n) ∷ []
 unfolding decimal
 decimal-last n h = digits-last n n h
 
 pub decimal-more : (n : ℕ) → 10 ≤ n → decimal n ≡ decimal (n / 10) ++ ((48 + n % 10) ∷ [])
 unfolding decimal
-decimal-more n h =
-    digits-same n (suc n) n (omega arith) (omega arith)
-    ∙ digits-more n n h
-    ∙ ap (λ (r : List ℕ). r ++ ((48 + n % 10) ∷ [])) (digits-same n (n / 10) (n / 10) (omega arith) (omega arith))
+decimal-more =
+    written-more 10 (omega arith) digits (λ (n : ℕ). (48 + n) ∷ []) (λ (n : ℕ) (r : List ℕ). r ++ ((48 + n % 10) ∷ [])) digits-last digits-more
 
 -- ---- their number
 
@@ -56,12 +40,7 @@ length-more n h = omega (arith, ap length (decimal-more n h), length-append (dec
 
 -- a number below 10 ^ k has k digits at most
 pub length-below : (k n : ℕ) → n < 10 ^ suc k → length (decimal n) ≤ suc k
-length-below zero n h = omega (arith, length-last n h)
-length-below (suc k) n h =
-    elim (decLt n 10) [
-      | yes s ↦ omega (arith, length-last n s)
-      | no s ↦ omega (arith, length-more n (omega arith), length-below k (n / 10) (omega (arith, pow-succ' 10 (suc k))))
-    ]
+length-below = size-below 10 (omega arith) (λ (n : ℕ). length (decimal n)) length-last length-more
 
 -- ---- written from the last to the first
 

@@ -74,22 +74,36 @@ pub has-none : (e : ℕ) → has e [] ≡ false
 unfolding has
 has-none e = refl
 
--- ---- records above an epoch
+-- ---- what is read at an epoch
+
+-- records at other epochs are passed
+abbrev pub Passes : {A : Type 0} → ℕ → (List At → A) → Type 0
+Passes e read = (r : At) (rs : List At) → (e ≡ r .epoch → ⊥) → read (r ∷ rs) ≡ read rs
 
 module _ (e : ℕ) where
-  pub has-above : (b : ℕ) (rs : List At) → e ≤ b → ascending b (epochsOf rs) ≡ true → has e rs ≡ false
-  unfolding has epochsOf
-  has-above b [] p h = refl
-  has-above b (r ∷ rs) p h =
+  pub has-passes : Passes e (has e)
+  unfolding has
+  has-passes r rs p = rw (ne-eqb e (r .epoch) p)
+
+  pub held-passes : Passes e (held e)
+  unfolding held
+  held-passes r rs p = rw (ne-eqb e (r .epoch) p)
+
+  -- nothing is read of records above an epoch
+  read-above : {A : Type 0} (read : List At → A) → Passes e read → (b : ℕ) (rs : List At) → e ≤ b → ascending b (epochsOf rs) ≡ true → read rs ≡ read []
+  unfolding epochsOf
+  read-above read passes b [] p h = refl
+  read-above read passes b (r ∷ rs) p h =
       let q = asc-head b (r .epoch) (epochsOf rs) h in
-      rw (ne-eqb e (r .epoch) (λ d. omega arith)) (has-above (r .epoch) rs (omega arith) (asc-tail b (r .epoch) (epochsOf rs) h))
+      passes r rs (λ d. omega arith) ∙ read-above read passes (r .epoch) rs (omega arith) (asc-tail b (r .epoch) (epochsOf rs) h)
+
+  pub has-above : (b : ℕ) (rs : List At) → e ≤ b → ascending b (epochsOf rs) ≡ true → has e rs ≡ false
+  unfolding has
+  has-above = read-above (has e) has-passes
 
   pub held-above : (b : ℕ) (rs : List At) → e ≤ b → ascending b (epochsOf rs) ≡ true → held e rs ≡ 0
-  unfolding held epochsOf
-  held-above b [] p h = refl
-  held-above b (r ∷ rs) p h =
-      let q = asc-head b (r .epoch) (epochsOf rs) h in
-      rw (ne-eqb e (r .epoch) (λ d. omega arith)) (held-above (r .epoch) rs (omega arith) (asc-tail b (r .epoch) (epochsOf rs) h))
+  unfolding held
+  held-above = read-above (held e) held-passes
 
   -- records above e do not change the count there
   pub held-beside : (os ts : List At) → ascending e (epochsOf ts) ≡ true → held e (union os ts) ≡ held e os

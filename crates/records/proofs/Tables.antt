@@ -18,15 +18,23 @@ length-recordsOf [] cs h = refl
 length-recordsOf (e ∷ es) [] h = absurd (omega arith)
 length-recordsOf (e ∷ es) (c ∷ cs) h = ap suc (length-recordsOf es cs (omega arith))
 
+-- a column has what each element gives
+module _ {A B : Type 0} (column : List A → List B) (give : A → B) (none : column [] ≡ []) (each : (x : A) (xs : List A) → column (x ∷ xs) ≡ give x ∷ column xs) where
+  pub length-column : (xs : List A) → length (column xs) ≡ length xs
+  length-column [] = ap (length {A = B}) none
+  length-column (x ∷ xs) = ap (length {A = B}) (each x xs) ∙ ap suc (length-column xs)
+
+  pub column-append : (xs ys : List A) → column (xs ++ ys) ≡ column xs ++ column ys
+  column-append [] ys = rw none
+  column-append (x ∷ xs) ys = rw (each x xs) (each x (xs ++ ys) ∙ ap (λ (l : List B). give x ∷ l) (column-append xs ys))
+
 pub length-epochsOf : (rs : List At) → length (epochsOf rs) ≡ length rs
 unfolding epochsOf
-length-epochsOf [] = refl
-length-epochsOf (r ∷ rs) = ap suc (length-epochsOf rs)
+length-epochsOf = length-column epochsOf (λ (r : At). r .epoch) refl (λ r rs. refl)
 
 pub length-countsOf : (rs : List At) → length (countsOf rs) ≡ length rs
 unfolding countsOf
-length-countsOf [] = refl
-length-countsOf (r ∷ rs) = ap suc (length-countsOf rs)
+length-countsOf = length-column countsOf (λ (r : At). r .bytes) refl (λ r rs. refl)
 
 pub epochs-records : (es cs : List ℕ) → length es ≡ length cs → epochsOf (recordsOf es cs) ≡ es
 unfolding recordsOf epochsOf
@@ -158,13 +166,11 @@ sets-then l i (x ∷ xs) ys =
 
 pub epochs-append : (rs ss : List At) → epochsOf (rs ++ ss) ≡ epochsOf rs ++ epochsOf ss
 unfolding epochsOf
-epochs-append [] ss = refl
-epochs-append (r ∷ rs) ss = rw (epochs-append rs ss)
+epochs-append = column-append epochsOf (λ (r : At). r .epoch) refl (λ r rs. refl)
 
 pub counts-append : (rs ss : List At) → countsOf (rs ++ ss) ≡ countsOf rs ++ countsOf ss
 unfolding countsOf
-counts-append [] ss = refl
-counts-append (r ∷ rs) ss = rw (counts-append rs ss)
+counts-append = column-append countsOf (λ (r : At). r .bytes) refl (λ r rs. refl)
 
 pub placed-one : (e c k : ℕ) (es cs : List ℕ) → Placed (e ⦂ c ∷ []) k (k + 1) es cs (set es k e) (set cs k c)
 unfolding epochsOf countsOf

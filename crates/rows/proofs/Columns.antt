@@ -8,29 +8,25 @@ use native.Mathlib.Omega.{arith}
 use lib.ListN.{length, take, drop, length-append, length-drop}
 use lib.Seq.{drop-append-add, drop-drop, take-nil, take-all}
 use Rattle.records.specs.Tables.{At, recordsOf, epochsOf, countsOf, over}
-use Rattle.records.proofs.Tables.{take-records, drop-records, length-epochsOf, length-countsOf, epochs-append, counts-append}
+use Rattle.records.proofs.Tables.{take-records, drop-records, length-column, column-append, length-epochsOf, length-countsOf, epochs-append, counts-append}
 use Rattle.rows.specs.Rows.{Row, ascends, idsOf, partsOf, Tables, tables, rowsOf, rowsIn, overRows, Room, Proper}
 use Rattle.rows.proofs.Rows.{asc-drop}
 
 pub length-ids : (rs : List Row) → length (idsOf rs) ≡ length rs
 unfolding idsOf
-length-ids [] = refl
-length-ids (r ∷ rs) = ap suc (length-ids rs)
+length-ids = length-column idsOf (λ (r : Row). r .identifier) refl (λ r rs. refl)
 
 pub length-parts : (rs : List Row) → length (partsOf rs) ≡ length rs
 unfolding partsOf
-length-parts [] = refl
-length-parts (r ∷ rs) = ap suc (length-parts rs)
+length-parts = length-column partsOf (λ (r : Row). r .part) refl (λ r rs. refl)
 
 pub ids-append : (rs ss : List Row) → idsOf (rs ++ ss) ≡ idsOf rs ++ idsOf ss
 unfolding idsOf
-ids-append [] ss = refl
-ids-append (r ∷ rs) ss = rw (ids-append rs ss)
+ids-append = column-append idsOf (λ (r : Row). r .identifier) refl (λ r rs. refl)
 
 pub parts-append : (rs ss : List Row) → partsOf (rs ++ ss) ≡ partsOf rs ++ partsOf ss
 unfolding partsOf
-parts-append [] ss = refl
-parts-append (r ∷ rs) ss = rw (parts-append rs ss)
+parts-append = column-append partsOf (λ (r : Row). r .part) refl (λ r rs. refl)
 
 -- ---- the epochs and the numbers of bytes of rows
 

@@ -54,5 +54,5 @@ examples =
     ∷ []
 
 pub marked : map answered examples ≡ examples
-unfolding examples hasRemoval totalRemoved properRows rowsOf recordsOf ascends order totalRows anyBytes
+unfolding examples properRows rowsOf recordsOf ascends order totalRows anyBytes
 marked = refl

@@ -3,14 +3,14 @@
 use mathlib.Core.Path.{_≡_, refl, sym, ap, _∙_}
 use mathlib.Core.List.{List, [], _∷_}
 use Prim.Native.Nat.{ℕ, _+_, _≤_, _<_}
-use mathlib.Core.Bool.{true, false}
+use mathlib.Core.Bool.{Bool, true, false, cond}
 use lib.ListN.{drop, getD}
 use borrow.Author.Tests.{le-leb, lt-leb, lt-ltb, le-ltb}
 use Rattle.fields.specs.Varint.{largest}
-use Rattle.records.specs.Answers.{ok, refused}
+use Rattle.records.specs.Answers.{Answer, ok, refused}
 use Rattle.rows.specs.Rows.{Row, Tables, rowsIn, Room, Proper}
-use Rattle.rows.specs.Removals.{Removal, removalOf, proper, totalRows, total, anyBytes, has}
-use Rattle.rows.specs.Calls.{within, hasRemoval, totalRemoved}
+use Rattle.rows.specs.Removals.{Removal, removalOf, proper, totalRows, anyBytes}
+use Rattle.rows.specs.Calls.{within}
 use Rattle.rows.specs.declared.removed.Removed.{Removed}
 use Rattle.rows.specs.declared.removed.Removed.the-variants.{Sectioned}
 use Rattle.rows.proofs.Rows.{rows-on, rows-end, proper-rows}
@@ -56,19 +56,10 @@ within-fits n h = rw (le-leb _ _ h)
 pub proper-sectioned : (x : Removed) (n : ℕ) (t : Tables) → proper x t ≡ true → x ≡ Sectioned n → Proper n t
 proper-sectioned x n t h e = proper-rows n t (ap (λ (y : Removed). proper y t) (sym e) ∙ h)
 
-module _ (x : Removed) (t : Tables) where
-  pub has-bad : proper x t ≡ false → hasRemoval x t ≡ refused 11
-  unfolding hasRemoval
-  has-bad h = rw h
+-- what is answered of a removal that is tested: 11 where it is not proper
+module _ {A : Type 0} (answer : Removal → Answer A) (x : Removed) (t : Tables) {test : Bool} (tested : test ≡ proper x t) where
+  pub answered-bad : test ≡ false → refused 11 ≡ cond (proper x t) (answer (removalOf x t)) (refused 11)
+  answered-bad h = rw (← tested, h)
 
-  pub has-proper : (y : Removed) → proper x t ≡ true → x ≡ y → hasRemoval x t ≡ ok (has (removalOf y t))
-  unfolding hasRemoval
-  has-proper y h e = rw h (ap (λ (z : Removed). ok (has (removalOf z t))) e)
-
-  pub total-bad : proper x t ≡ false → totalRemoved x t ≡ refused 11
-  unfolding totalRemoved
-  total-bad h = rw h
-
-  pub total-proper : (y : Removed) → proper x t ≡ true → x ≡ y → totalRemoved x t ≡ within (total (removalOf y t))
-  unfolding totalRemoved
-  total-proper y h e = rw h (ap (λ (z : Removed). within (total (removalOf z t))) e)
+  pub answered-proper : test ≡ true → (y : Removed) → x ≡ y → answer (removalOf y t) ≡ cond (proper x t) (answer (removalOf x t)) (refused 11)
+  answered-proper h y e = rw (← tested, h) (ap (λ (z : Removed). answer (removalOf z t)) (sym e))

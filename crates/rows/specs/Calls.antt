@@ -26,7 +26,7 @@ totalled (Bytes n) = ok n
 totalled (Refused r) = refused (number r)
 
 -- `has_removal`: 11 where the removal is not proper
-unfoldable pub hasRemoval : Removed → Tables → Answer Bool
+abbrev pub hasRemoval : Removed → Tables → Answer Bool
 hasRemoval x t = cond (proper x t) (ok (has (removalOf x t))) (refused 11)
 
 -- a total; 9 past 4,294,967,295
@@ -34,5 +34,5 @@ abbrev pub within : ℕ → Answer ℕ
 within n = cond (leb n largest) (ok n) (refused 9)
 
 -- `total_removed_bytes`: 11 where the removal is not proper, then 9
-unfoldable pub totalRemoved : Removed → Tables → Answer ℕ
+abbrev pub totalRemoved : Removed → Tables → Answer ℕ
 totalRemoved x t = cond (proper x t) (within (total (removalOf x t))) (refused 11)

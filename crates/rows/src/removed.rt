@@ -5,10 +5,8 @@ ghost use Rattle.rows.specs.Removals.{proper, totalRows, anyBytes};
 ghost use Rattle.records.specs.Answers.{ok};
 ghost use Rattle.rows.specs.Calls.{told, totalled, within, hasRemoval, totalRemoved};
 use crate::row;
+use fields::LARGEST;
 use records::Refusal;
-
-// The largest number of bytes: 32 bits.
-const LARGEST: u32 = 4294967295;
 
 // None, one number, or a number of rows.
 pub enum Removed {

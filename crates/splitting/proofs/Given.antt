@@ -8,9 +8,9 @@ use Prim.Native.Nat.{ℕ, zero, suc, _+_, _-_, _≤_, _<_, min}
 use native.Mathlib.Omega.{arith}
 use lib.Dec.{eqb, ltb}
 use borrow.Author.Tests.{eqb-false, eq-eqb, ne-eqb, lt-ltb}
-use Rattle.records.specs.Tables.{At, epochsOf, ascending, has, held}
+use Rattle.records.specs.Tables.{At, _⦂_, epochsOf, ascending, has, held}
 use Rattle.records.proofs.Rising.{asc-head, asc-tail}
-use Rattle.records.proofs.Held.{has-above, held-above}
+use Rattle.records.proofs.Held.{Passes, has-passes, held-passes, has-above, held-above}
 use Rattle.splitting.specs.Sections.{minimum, above, spare, asked, section, sections, split}
 use Rattle.splitting.proofs.Sections.{spare-append}
 use Rattle.splitting.proofs.Ascending.{sections-ascend}
@@ -25,26 +25,22 @@ apart d e b h = by (eqb d e) refl h
 
 -- ---- one section before others
 
-has-here : (e n most : ℕ) (ss : List At) → has e ss ≡ false → has e (section e n most ++ ss) ≡ ltb 0 n
+has-here : (e n most : ℕ) (ss : List At) → ascending e (epochsOf ss) ≡ true → has e (section e n most ++ ss) ≡ ltb 0 n
 unfolding section has
-has-here e zero most ss h = h
+has-here e zero most ss h = has-above e e ss (omega arith) h
 has-here e (suc n) most ss h = rw (eq-eqb e e refl) (sym (lt-ltb 0 (suc n) (omega arith)))
 
-held-here : (e n most : ℕ) (ss : List At) → held e ss ≡ 0 → held e (section e n most ++ ss) ≡ min n most
+held-here : (e n most : ℕ) (ss : List At) → ascending e (epochsOf ss) ≡ true → held e (section e n most ++ ss) ≡ min n most
 unfolding section held
-held-here e zero most ss h = h ∙ omega arith
+held-here e zero most ss h = held-above e e ss (omega arith) h ∙ omega arith
 held-here e (suc n) most ss h = rw (eq-eqb e e refl)
 
-module _ (d e : ℕ) (p : d ≡ e → ⊥) where
-  has-beside : (n most : ℕ) (ss : List At) → has d (section e n most ++ ss) ≡ has d ss
-  unfolding section has
-  has-beside zero most ss = refl
-  has-beside (suc n) most ss = rw (ne-eqb d e p)
-
-  held-beside : (n most : ℕ) (ss : List At) → held d (section e n most ++ ss) ≡ held d ss
-  unfolding section held
-  held-beside zero most ss = refl
-  held-beside (suc n) most ss = rw (ne-eqb d e p)
+-- a section at another epoch is passed
+beside : {A : Type 0} (d : ℕ) (read : List At → A) → Passes d read → (e : ℕ) → (d ≡ e → ⊥) → (n most : ℕ) (ss : List At)
+    → read (section e n most ++ ss) ≡ read ss
+unfolding section
+beside d read passes e p zero most ss = refl
+beside d read passes e p (suc n) most ss = passes (e ⦂ min (suc n) most) ss p
 
 -- ---- a record, the earlier ones and the later ones
 
@@ -62,35 +58,33 @@ module _ (r : At) (ys : List At) (n : ℕ) where
   behind b [] h = sections-ascend (r .epoch) ys n (asc-tail b (r .epoch) (epochsOf ys) h)
   behind b (x ∷ xs) h = behind (x .epoch) xs (asc-tail b (x .epoch) (epochsOf (xs ++ (r ∷ ys))) h)
 
-  sections-has : (b : ℕ) (xs : List At) → ascending b (epochsOf (xs ++ (r ∷ ys))) ≡ true → has (r .epoch) (sections (xs ++ (r ∷ ys)) n) ≡ ltb 0 (asked n ys)
-  unfolding sections epochsOf
-  sections-has b [] h = has-here (r .epoch) (asked n ys) (above r) (sections ys n) (has-above (r .epoch) (r .epoch) (sections ys n) (omega arith) (behind b [] h))
-  sections-has b (x ∷ xs) h =
-      let t = asc-tail b (x .epoch) (epochsOf (xs ++ (r ∷ ys))) h in
-      let q = later (x .epoch) xs r ys t in
-      has-beside (r .epoch) (x .epoch) (λ e. omega arith) (asked n (xs ++ (r ∷ ys))) (above x) (sections (xs ++ (r ∷ ys)) n) ∙ sections-has (x .epoch) xs t
+  -- what is read at its epoch is read from its own section on
+  module _ {A : Type 0} (read : List At → A) (passes : Passes (r .epoch) read) where
+    sections-at : (b : ℕ) (xs : List At) → ascending b (epochsOf (xs ++ (r ∷ ys))) ≡ true
+        → read (sections (xs ++ (r ∷ ys)) n) ≡ read (section (r .epoch) (asked n ys) (above r) ++ sections ys n)
+    unfolding sections epochsOf
+    sections-at b [] h = refl
+    sections-at b (x ∷ xs) h =
+        let t = asc-tail b (x .epoch) (epochsOf (xs ++ (r ∷ ys))) h in
+        let q = later (x .epoch) xs r ys t in
+        beside (r .epoch) read passes (x .epoch) (λ e. omega arith) (asked n (xs ++ (r ∷ ys))) (above x) (sections (xs ++ (r ∷ ys)) n) ∙ sections-at (x .epoch) xs t
 
-  sections-held : (b : ℕ) (xs : List At) → ascending b (epochsOf (xs ++ (r ∷ ys))) ≡ true → held (r .epoch) (sections (xs ++ (r ∷ ys)) n) ≡ min (asked n ys) (above r)
-  unfolding sections epochsOf
-  sections-held b [] h = held-here (r .epoch) (asked n ys) (above r) (sections ys n) (held-above (r .epoch) (r .epoch) (sections ys n) (omega arith) (behind b [] h))
-  sections-held b (x ∷ xs) h =
-      let t = asc-tail b (x .epoch) (epochsOf (xs ++ (r ∷ ys))) h in
-      let q = later (x .epoch) xs r ys t in
-      held-beside (r .epoch) (x .epoch) (λ e. omega arith) (asked n (xs ++ (r ∷ ys))) (above x) (sections (xs ++ (r ∷ ys)) n) ∙ sections-held (x .epoch) xs t
+    split-at : (base : ℕ) (xs : List At) → ascending base (epochsOf (xs ++ (r ∷ ys))) ≡ true
+        → read (split base (xs ++ (r ∷ ys)) n) ≡ read (section (r .epoch) (asked n ys) (above r) ++ sections ys n)
+    unfolding split
+    split-at base xs h =
+        let q = later base xs r ys h in
+        beside (r .epoch) read passes base (λ e. omega arith) (asked n (xs ++ (r ∷ ys))) (asked n (xs ++ (r ∷ ys))) (sections (xs ++ (r ∷ ys)) n) ∙ sections-at base xs h
 
   module _ (base : ℕ) (xs : List At) (h : ascending base (epochsOf (xs ++ (r ∷ ys))) ≡ true) where
     -- a section stands at a record's epoch exactly if the later ones gave less than asked (`gave-less` of Sums)
     pub record-has : has (r .epoch) (split base (xs ++ (r ∷ ys)) n) ≡ ltb 0 (asked n ys)
-    unfolding split
     record-has =
-        let q = later base xs r ys h in
-        has-beside (r .epoch) base (λ e. omega arith) (asked n (xs ++ (r ∷ ys))) (asked n (xs ++ (r ∷ ys))) (sections (xs ++ (r ∷ ys)) n) ∙ sections-has base xs h
+        split-at (has (r .epoch)) (has-passes (r .epoch)) base xs h ∙ has-here (r .epoch) (asked n ys) (above r) (sections ys n) (behind base xs h)
 
     pub record-gives : held (r .epoch) (split base (xs ++ (r ∷ ys)) n) ≡ min (asked n ys) (above r)
-    unfolding split
     record-gives =
-        let q = later base xs r ys h in
-        held-beside (r .epoch) base (λ e. omega arith) (asked n (xs ++ (r ∷ ys))) (asked n (xs ++ (r ∷ ys))) (sections (xs ++ (r ∷ ys)) n) ∙ sections-held base xs h
+        split-at (held (r .epoch)) (held-passes (r .epoch)) base xs h ∙ held-here (r .epoch) (asked n ys) (above r) (sections ys n) (behind base xs h)
 
     -- it keeps at least the smaller of its count and 3
     pub record-keeps : held (r .epoch) (split base (xs ++ (r ∷ ys)) n) + min (r .bytes) minimum ≤ r .bytes
@@ -123,24 +117,23 @@ module _ (base : ℕ) (rs : List At) (n : ℕ) where
   -- a section stands at the base exactly if the records gave less than asked
   pub base-has : ascending base (epochsOf rs) ≡ true → has base (split base rs n) ≡ ltb 0 (asked n rs)
   unfolding split
-  base-has h = has-here base (asked n rs) (asked n rs) (sections rs n) (has-above base base (sections rs n) (omega arith) (sections-ascend base rs n h))
+  base-has h = has-here base (asked n rs) (asked n rs) (sections rs n) (sections-ascend base rs n h)
 
   pub base-gives : ascending base (epochsOf rs) ≡ true → held base (split base rs n) ≡ asked n rs
   unfolding split
-  base-gives h =
-      held-here base (asked n rs) (asked n rs) (sections rs n) (held-above base base (sections rs n) (omega arith) (sections-ascend base rs n h)) ∙ omega arith
+  base-gives h = held-here base (asked n rs) (asked n rs) (sections rs n) (sections-ascend base rs n h) ∙ omega arith
 
 has-none : (e : ℕ) (rs : List At) (n : ℕ) → has e rs ≡ false → has e (sections rs n) ≡ false
 unfolding sections has
 has-none e [] n h = refl
 has-none e (r ∷ rs) n h =
     let p = apart e (r .epoch) (has e rs) h in
-    has-beside e (r .epoch) (p .0) (asked n rs) (above r) (sections rs n) ∙ has-none e rs n (p .1)
+    beside e (has e) (has-passes e) (r .epoch) (p .0) (asked n rs) (above r) (sections rs n) ∙ has-none e rs n (p .1)
 
 -- a section stands nowhere else
 pub nowhere-else : (e base : ℕ) (rs : List At) (n : ℕ) → (e ≡ base → ⊥) → has e rs ≡ false → has e (split base rs n) ≡ false
 unfolding split
-nowhere-else e base rs n p h = has-beside e base p (asked n rs) (asked n rs) (sections rs n) ∙ has-none e rs n h
+nowhere-else e base rs n p h = beside e (has e) (has-passes e) base p (asked n rs) (asked n rs) (sections rs n) ∙ has-none e rs n h
 
 -- ---- the sections at the records
 

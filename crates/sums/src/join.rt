@@ -4,10 +4,8 @@ ghost use Prim.Native.Nat.{_<_};
 ghost use lib.ListN.{length};
 ghost use Rattle.rows.specs.Rows.{tables, rowsIn, overRows, Room, Proper};
 ghost use Rattle.sums.specs.Joins.{capped, joined, Last};
+use fields::LARGEST;
 use rows::Order;
-
-// The largest number of bytes: 32 bits.
-const LARGEST: u32 = 4294967295;
 
 // Two numbers of bytes together, at most the largest.
 pub fn saturating_add(m: u32, n: u32) -> u32

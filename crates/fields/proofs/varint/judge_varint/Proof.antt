@@ -1,56 +1,85 @@
--- `fields::varint::judge_varint` meets its contract: the first or the second byte is missing, the last, or not the last. Assumes nothing.
-use mathlib.Core.Path.{refl, sym, ap, _∙_}
-use Prim.Native.Nat.{_+_}
+-- `fields::varint::judge_varint` meets its contract: the first byte is missing, the last, or not the last. The loop's invariant: k bytes
+-- with the top bit set are passed, the first at least. Assumes nothing.
+use mathlib.Core.Path.{refl, sym, ap}
+use Prim.Native.Nat.{_+_, _-_, _≤_}
 use native.Mathlib.Omega.{arith}
-use Rattle.fields.specs.Varint.{Passed, judgedAt}
-use Rattle.fields.proofs.Places.{passed-none, first-more, first-whole, passed-more, judged-cut, judged-small}
 use borrow.Author.Needs.{needs}
+use lib.ListN.{length}
+use Rattle.fields.specs.Varint.{Passed, judgedAt}
+use Rattle.fields.proofs.Places.{passed-none, first-more, first-whole, judged-cut, passed-ten, passed-more}
 use Rattle.fields.proofs.varint.judge_varint.Statement.{statement}
 use Rattle.fields.proofs.varint.judge_varint.Tie as tie
 
--- the first byte is passed
-one : (c : tie.Else2) → let a = c .before .before .before .before .args in Passed (a .src .now) (a .at) 1
-one c = let a = c .before .before .before .before .args in first-more (a .src .now) (a .at) (c .before .before .if1 .left) (c .if2 .left)
+abbrev Inv-loop : tie.InvT-loop
+Inv-loop src at k₀ k = (1 ≤ k) × (k ≤ 10) × (at + k ≤ length src) × Passed src at k
 
-returns : tie.Need-returns
+abbrev μ-loop : tie.MeasureT-loop
+μ-loop src at k₀ k = 10 - k
+
+returns : tie.Need-returns Inv-loop μ-loop
 returns c =
     let a = c .before .before .args in
     judged-cut (a .src .now) (a .at) 0 (passed-none (a .src .now) (a .at)) (omega arith)
 
-returns-2 : tie.Need-returns-2
+returns-2 : tie.Need-returns-2 Inv-loop μ-loop
 returns-2 c =
     let a = c .before .before .before .before .args in
     ap (judgedAt (a .at)) (sym (first-whole (a .src .now) (a .at) (c .before .before .if1 .left) (c .if2 .taken)))
 
-returns-3 : tie.Need-returns-3
+loop-holds : tie.Need-loop-holds Inv-loop μ-loop
+loop-holds c =
+    let a = c .before .before .before .before .args in
+    (omega arith, omega arith, omega arith, first-more (a .src .now) (a .at) (c .before .before .if1 .left) (c .if2 .left))
+
+add-i : tie.Need-add-i Inv-loop μ-loop
+add-i c = omega arith
+
+returns-3 : tie.Need-returns-3 Inv-loop μ-loop
 returns-3 c =
-    let a = c .before .before .before .before .before .args in
-    judged-cut (a .src .now) (a .at) 1 (one (c .before)) (omega arith)
-
-returns-4 : tie.Need-returns-4
-returns-4 c =
-    let a = c .before .before .before .before .before .before .before .before .args in
-    c .end-at .ensures ∙ judged-small (a .src .now) (a .at) 1 (one (c .before .before .before .before)) (a .at + 2) (omega arith) (omega arith) (omega arith) (c .before .if4 .taken) refl
-
-judge-third-requires : tie.Need-judge-third-requires
-judge-third-requires c κs =
     let a = c .before .before .before .before .before .before .before .args in
-    (passed-more (a .src .now) (a .at) 1 (one (c .before .before .before)) (omega arith) 2 refl (c .if4 .left), omega arith)
+    let l = c .before .before .loop in
+    judged-cut (a .src .now) (a .at) (l .k) (l .inv .3) (c .if3 .taken)
+
+end-at-requires : tie.Need-end-at-requires Inv-loop μ-loop
+end-at-requires c κs =
+    let l = c .before .before .before .before .loop in
+    record {
+      passed = l .inv .3;
+      some = l .inv .0;
+      ten = c .before .before .before .loop-test .taken;
+      inside = c .before .before .if3 .left;
+      low = c .if4 .taken;
+    }
+
+loop-again : tie.Need-loop-again Inv-loop μ-loop
+loop-again c =
+    let a = c .before .before .before .before .before .before .before .before .before .args in
+    let l = c .before .before .before .before .loop in
+    (omega arith, omega arith, omega arith, passed-more (a .src .now) (a .at) (l .k) (l .inv .3) (c .before .before .if3 .left) (l .k + 1) refl (c .if4 .left))
+
+returns-5 : tie.Need-returns-5 Inv-loop μ-loop
+returns-5 c =
+    let a = c .before .before .before .before .before .before .args in
+    let l = c .before .loop in
+    ap (judgedAt (a .at)) (sym (passed-ten (a .src .now) (a .at) (l .k) (l .inv .3) (omega arith)))
 
 pub judge-varint-spec : {M : Type 1} → statement M
 judge-varint-spec =
     tie.close
     (tie.spec
+    Inv-loop
+    μ-loop
     returns
     (λ c. search needs)
     (λ c. search needs)
     returns-2
-    (λ c. search needs)
+    loop-holds
+    add-i
     returns-3
     (λ c. search needs)
+    end-at-requires
     (λ c. search needs)
     (λ c. search needs)
-    (λ c κs. search needs)
-    returns-4
-    judge-third-requires
-    (λ c. search needs))
+    (λ c. search needs)
+    loop-again
+    returns-5)

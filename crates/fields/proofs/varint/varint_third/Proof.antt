@@ -96,7 +96,7 @@ returns-3 c =
     let a = c .before .before .before .before .before .before .before .before .before .args in
     let d = a .src .now in
     let i = fifth-inside (c .before .before) in
-    let f = fifth-whole d (a .at) (fourth-passed (c .before .before)) i (c .before .before .before .before .before .before .before .before .before .pre .0) in
+    let f = fifth-whole d (a .at) 4 refl (fourth-passed (c .before .before)) i (c .before .before .before .before .before .before .before .before .before .pre .0) in
     let e : getD d (a .at + 4) 0 % 16 ≡ getD d (a .at + 4) 0 % 128 = omega arith in
     passed-read d (a .at) 4 (fourth-passed (c .before .before)) i (omega arith) (omega arith) _ (a .at + 5) (c .before .before .before .before .before .before .before .before .before .pre .0)
     (ap₂ (λ (x y : ℕ). x + y * 268435456) (four (c .before .before .before)) (c .wide3 .ensures ∙ e) ∙ value-on d (a .at) 4 (value (take 4 (drop (a .at) d))) i refl)

@@ -21,6 +21,20 @@ rhs c = tables (c .args .rhs-ids .now) (c .args .rhs-epochs .now) (c .args .rhs-
 abbrev left : tie.Start → Removed → After
 left c x = placing (sum (c .args .version) (removalOf x (ours c)) (removalOf (c .args .rhs) (rhs c))) (ours c)
 
+add-to-sectioned-requires : tie.Need-add-to-sectioned-requires
+add-to-sectioned-requires c κs =
+    let b = c .before .before .before .before .before .before .before .before .before .before in
+    (proper-sectioned (b .args .lhs) _ (ours b) (b .pre .0) (c .before .before .before .before .lhs2 .given .1), b .pre .1)
+
+returns : tie.Need-returns
+returns c = c .before .before .before .before .before .add-to-none .ensures ∙ ap (left (c .before .before .before .before .before .before .before .before .before .before .before .before .before .before .before)) (sym (c .before .before .before .before .before .before .before .before .before .enum-told .given .1))
+
+returns-2 : tie.Need-returns-2
+returns-2 c = c .before .before .before .before .before .add-to-basic .ensures ∙ ap (left (c .before .before .before .before .before .before .before .before .before .before .before .before .before .before .before .before)) (sym (c .before .before .before .before .before .before .before .before .before .before .lhs .given .1))
+
+returns-3 : tie.Need-returns-3
+returns-3 c = c .before .before .before .before .before .add-to-sectioned .ensures ∙ ap (left (c .before .before .before .before .before .before .before .before .before .before .before .before .before .before .before .before)) (sym (c .before .before .before .before .before .before .before .before .before .before .lhs2 .given .1))
+
 pub add-proper-spec : {M : Type 1} → statement M
 add-proper-spec =
     tie.close
@@ -30,16 +44,16 @@ add-proper-spec =
     (λ c. search needs)
     (λ c κs. search needs)
     (λ c. search needs)
-    (λ c κs. (proper-sectioned (c .before .before .before .before .before .before .before .before .before .before .args .lhs) _ (ours (c .before .before .before .before .before .before .before .before .before .before)) (c .before .before .before .before .before .before .before .before .before .before .pre .0) (c .before .before .before .before .lhs2 .given .1), c .before .before .before .before .before .before .before .before .before .before .pre .1))
+    add-to-sectioned-requires
     (λ c. search needs)
     (λ c. search needs)
     (λ c. search needs)
-    (λ c. c .before .before .before .before .before .add-to-none .ensures ∙ ap (left (c .before .before .before .before .before .before .before .before .before .before .before .before .before .before .before)) (sym (c .before .before .before .before .before .before .before .before .before .enum-told .given .1)))
+    returns
     (λ c. search needs)
     (λ c. search needs)
     (λ c. search needs)
-    (λ c. c .before .before .before .before .before .add-to-basic .ensures ∙ ap (left (c .before .before .before .before .before .before .before .before .before .before .before .before .before .before .before .before)) (sym (c .before .before .before .before .before .before .before .before .before .before .lhs .given .1)))
+    returns-2
     (λ c. search needs)
     (λ c. search needs)
     (λ c. search needs)
-    (λ c. c .before .before .before .before .before .add-to-sectioned .ensures ∙ ap (left (c .before .before .before .before .before .before .before .before .before .before .before .before .before .before .before .before)) (sym (c .before .before .before .before .before .before .before .before .before .before .lhs2 .given .1))))
+    returns-3)

@@ -22,6 +22,22 @@ rhs c = tables (c .args .rhs-ids .now) (c .args .rhs-epochs .now) (c .args .rhs-
 abbrev left : tie.Start → Removed → After
 left c y = placing (sum (c .args .version) (sectioned (rowsIn (c .args .n) (ours c))) (removalOf y (rhs c))) (ours c)
 
+add-rows-requires : tie.Need-add-rows-requires
+add-rows-requires c κs =
+    let b = c .before .before .before .before .before .before .before .before .before .before in
+    (b .pre .0, proper-sectioned (b .args .rhs) _ (rhs b) (b .pre .1) (c .before .before .before .before .rhs2 .given .1))
+
+returns : tie.Need-returns
+returns c =
+    let b = c .before .before .before .before .before .before in
+    placing-stays (b .pre .0 .room) ∙ ap (left b) (sym (c .enum-told .given .1))
+
+returns-2 : tie.Need-returns-2
+returns-2 c = c .before .before .before .before .before .add-basic .ensures ∙ ap (left (c .before .before .before .before .before .before .before .before .before .before .before .before .before .before .before .before)) (sym (c .before .before .before .before .before .before .before .before .before .before .rhs .given .1))
+
+returns-3 : tie.Need-returns-3
+returns-3 c = c .before .before .before .before .before .add-rows .ensures ∙ ap (left (c .before .before .before .before .before .before .before .before .before .before .before .before .before .before .before .before)) (sym (c .before .before .before .before .before .before .before .before .before .before .rhs2 .given .1))
+
 pub add-to-sectioned-spec : {M : Type 1} → statement M
 add-to-sectioned-spec =
     tie.close
@@ -30,13 +46,13 @@ add-to-sectioned-spec =
     (λ c. search needs)
     (λ c κs. search needs)
     (λ c. search needs)
-    (λ c κs. (c .before .before .before .before .before .before .before .before .before .before .pre .0, proper-sectioned (c .before .before .before .before .before .before .before .before .before .before .args .rhs) _ (rhs (c .before .before .before .before .before .before .before .before .before .before)) (c .before .before .before .before .before .before .before .before .before .before .pre .1) (c .before .before .before .before .rhs2 .given .1)))
-    (λ c. placing-stays (c .before .before .before .before .before .before .pre .0 .room) ∙ ap (left (c .before .before .before .before .before .before)) (sym (c .enum-told .given .1)))
+    add-rows-requires
+    returns
     (λ c. search needs)
     (λ c. search needs)
     (λ c. search needs)
-    (λ c. c .before .before .before .before .before .add-basic .ensures ∙ ap (left (c .before .before .before .before .before .before .before .before .before .before .before .before .before .before .before .before)) (sym (c .before .before .before .before .before .before .before .before .before .before .rhs .given .1)))
+    returns-2
     (λ c. search needs)
     (λ c. search needs)
     (λ c. search needs)
-    (λ c. c .before .before .before .before .before .add-rows .ensures ∙ ap (left (c .before .before .before .before .before .before .before .before .before .before .before .before .before .before .before .before)) (sym (c .before .before .before .before .before .before .before .before .before .before .rhs2 .given .1))))
+    returns-3)
