@@ -8,6 +8,7 @@ use mathlib.Core.Path.{_≡_, ap, sym, _∙_}
 use mathlib.Core.List.{List}
 
 module _ (b : ℕ) (base : 1 < b) where
+  -- a group less is a step less
   falls : (n f : ℕ) → b ≤ n → n ≤ suc f → n / b ≤ f
   falls n f h k = omega (arith, div-lt-self {n = n} {k = b} (omega arith) base)
 

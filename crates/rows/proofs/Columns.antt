@@ -8,27 +8,9 @@ use native.Mathlib.Omega.{arith}
 use lib.ListN.{length, take, drop, length-append, length-drop}
 use lib.Seq.{drop-append-add, drop-drop, take-nil, take-all}
 use Rattle.records.specs.Tables.{At, recordsOf, epochsOf, countsOf, over}
-use Rattle.records.proofs.Tables.{take-records, drop-records, length-column, column-append, length-epochsOf, length-countsOf, epochs-append, counts-append}
+use Rattle.records.proofs.Tables.{take-records, drop-records, length-column, column-append}
 use Rattle.rows.specs.Rows.{Row, ascends, idsOf, partsOf, Tables, tables, rowsOf, rowsIn, overRows, Room, Proper}
 use Rattle.rows.proofs.Rows.{asc-drop}
-
-pub length-ids : (rs : List Row) → length (idsOf rs) ≡ length rs
-unfolding idsOf
-length-ids = length-column idsOf (λ (r : Row). r .identifier) refl (λ r rs. refl)
-
-pub length-parts : (rs : List Row) → length (partsOf rs) ≡ length rs
-unfolding partsOf
-length-parts = length-column partsOf (λ (r : Row). r .part) refl (λ r rs. refl)
-
-pub ids-append : (rs ss : List Row) → idsOf (rs ++ ss) ≡ idsOf rs ++ idsOf ss
-unfolding idsOf
-ids-append = column-append idsOf (λ (r : Row). r .identifier) refl (λ r rs. refl)
-
-pub parts-append : (rs ss : List Row) → partsOf (rs ++ ss) ≡ partsOf rs ++ partsOf ss
-unfolding partsOf
-parts-append = column-append partsOf (λ (r : Row). r .part) refl (λ r rs. refl)
-
--- ---- the epochs and the numbers of bytes of rows
 
 -- the rows' epochs
 abbrev pub epochsIn : List Row → List ℕ
@@ -38,17 +20,29 @@ epochsIn rs = epochsOf (partsOf rs)
 abbrev pub bytesIn : List Row → List ℕ
 bytesIn rs = countsOf (partsOf rs)
 
+pub length-ids : (rs : List Row) → length (idsOf rs) ≡ length rs
+unfolding idsOf
+length-ids = length-column idsOf (λ (r : Row). r .identifier) refl (λ r rs. refl)
+
 pub length-epochs : (rs : List Row) → length (epochsIn rs) ≡ length rs
-length-epochs rs = length-epochsOf (partsOf rs) ∙ length-parts rs
+unfolding partsOf epochsOf
+length-epochs = length-column epochsIn (λ (r : Row). r .part .epoch) refl (λ r rs. refl)
 
 pub length-bytes : (rs : List Row) → length (bytesIn rs) ≡ length rs
-length-bytes rs = length-countsOf (partsOf rs) ∙ length-parts rs
+unfolding partsOf countsOf
+length-bytes = length-column bytesIn (λ (r : Row). r .part .bytes) refl (λ r rs. refl)
+
+pub ids-append : (rs ss : List Row) → idsOf (rs ++ ss) ≡ idsOf rs ++ idsOf ss
+unfolding idsOf
+ids-append = column-append idsOf (λ (r : Row). r .identifier) refl (λ r rs. refl)
 
 pub epochs-in-append : (rs ss : List Row) → epochsIn (rs ++ ss) ≡ epochsIn rs ++ epochsIn ss
-epochs-in-append rs ss = ap epochsOf (parts-append rs ss) ∙ epochs-append (partsOf rs) (partsOf ss)
+unfolding partsOf epochsOf
+epochs-in-append = column-append epochsIn (λ (r : Row). r .part .epoch) refl (λ r rs. refl)
 
 pub bytes-in-append : (rs ss : List Row) → bytesIn (rs ++ ss) ≡ bytesIn rs ++ bytesIn ss
-bytes-in-append rs ss = ap countsOf (parts-append rs ss) ∙ counts-append (partsOf rs) (partsOf ss)
+unfolding partsOf countsOf
+bytes-in-append = column-append bytesIn (λ (r : Row). r .part .bytes) refl (λ r rs. refl)
 
 -- three columns that are equal
 pub three : {is is′ : List (List ℕ)} {es es′ bs bs′ : List ℕ} → is ≡ is′ → es ≡ es′ → bs ≡ bs′ → tables is es bs ≡ tables is′ es′ bs′
