@@ -13,12 +13,12 @@ use Rattle.records.specs.Answers.{Answer, ok, refused}
 use Rattle.records.specs.declared.head.Head.{Head}
 use Rattle.records.proofs.Tables.{epochs-records}
 use Rattle.records.proofs.Proper.{proper-inv, proper-above}
-use Rattle.rows.specs.Rows.{Row, Tables, row, partsOf, ascends, roomIn, overRows}
+use Rattle.rows.specs.Rows.{Tables, row, partsOf, ascends, roomIn, overRows}
 use Rattle.rows.specs.Removals.{Removal, rowsOfRemoval, stateOf, removalOf, total, proper as properRemoval}
 use Rattle.rows.proofs.Rows.{asc-none, asc-cons}
 use Rattle.rows.proofs.Under.{under-one}
 use Rattle.rows.proofs.Over.{removal-over, proper-over}
-use Rattle.splitting.specs.Sections.{sections, split, allowed, besideBase}
+use Rattle.splitting.specs.Sections.{allowed, besideBase}
 use Rattle.splitting.specs.Calls.{Split, parted, splitOf, Told, After, kept, placing, splitRemoved}
 use Rattle.splitting.proofs.Sums.{key-sum, value-sum}
 use Rattle.splitting.proofs.Ascending.{rows-ascend, visited-beside}

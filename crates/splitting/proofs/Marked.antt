@@ -7,7 +7,7 @@ use mathlib.Core.Option.{Option, none, some}
 use mathlib.Core.List.{List, [], _∷_, map}
 use lib.ListN.{length, replicate}
 use Rattle.records.specs.Tables.{At, _⦂_, recordsOf, epochsOf, countsOf, ascending}
-use Rattle.records.specs.Flags.{flags, idOf, headFor, proper}
+use Rattle.records.specs.Flags.{idOf, headFor, proper}
 use Rattle.records.specs.Answers.{ok}
 use Rattle.rows.specs.Rows.{Tables, tables, idsOf, partsOf, rowsUnder, overRows}
 use Rattle.rows.specs.declared.removed.Removed.{Removed}

@@ -13,7 +13,7 @@ use Rattle.rows.specs.declared.removed.Removed.the-variants.{None, Sectioned}
 use Rattle.rows.proofs.Columns.{over-nothing}
 use Rattle.rows.proofs.Backing.{Backing, backing-start, backing-room, backing-step, backing-done}
 use Rattle.rows.proofs.Under.{under-none, under-one, under-last, length-under}
-use Rattle.splitting.specs.Sections.{minimum, section, split}
+use Rattle.splitting.specs.Sections.{minimum, split}
 use Rattle.splitting.specs.Visits.{rowsAtBase}
 use Rattle.splitting.specs.Calls.{removalOf, PlacedRemoval}
 use Rattle.splitting.proofs.Counting.{base-some}

@@ -8,7 +8,7 @@ use native.Mathlib.Omega.{arith}
 use lib.ListN.{length}
 use Rattle.rows.specs.Rows.{Row, compared, ascends}
 use Rattle.rows.specs.declared.order.Order.the-variants.{Less, Equal, Greater}
-use Rattle.rows.proofs.Rows.{Before, asc-before, asc-tail}
+use Rattle.rows.proofs.Rows.{asc-before, asc-tail}
 use Rattle.sums.specs.Joins.{plus, addRow, joined}
 use Rattle.sums.proofs.Adding.{flipped, less-trans, right-same, add-at, add-none, add-before, add-comm, add-fused, add-cases, add-ascends}
 

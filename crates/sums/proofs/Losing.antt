@@ -3,15 +3,15 @@
 use mathlib.Core.Path.{_≡_, refl, sym, ap, _∙_}
 use mathlib.Core.Bool.{Bool, true, false, cond}
 use mathlib.Core.List.{List, [], _∷_}
-use Prim.Native.Nat.{ℕ, zero, _+_, _-_, _≤_, _<_}
+use Prim.Native.Nat.{ℕ, _+_, _-_, _≤_, _<_}
 use native.Mathlib.Omega.{arith}
 use lib.Dec.{leb, ltb}
 use lib.ListN.{length, drop, getD}
 use borrow.Author.Tests.{lt-ltb, le-ltb, le-leb, lt-leb}
 use Rattle.records.specs.Flags.{zeros, same}
 use Rattle.records.proofs.Owners.{same-self, same-equal}
-use Rattle.rows.specs.Order.{by, order}
-use Rattle.rows.specs.Rows.{Row, row, compared, ascends, Tables, rowsIn, rowAt, Proper}
+use Rattle.rows.specs.Order.{order}
+use Rattle.rows.specs.Rows.{Row, compared, ascends, Tables, rowsIn, rowAt, Proper}
 use Rattle.rows.specs.declared.order.Order.the-variants.{Less, Equal, Greater}
 use Rattle.rows.proofs.Comparing.{order-same, order-self, compared-parts, greater-less, greater-equal}
 use Rattle.rows.proofs.Rows.{rows-on, rows-end, asc-drop}
