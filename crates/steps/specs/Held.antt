@@ -1,14 +1,20 @@
--- Flags, and removals, as the calls have them: a value beside lent tables.
+-- Flags as the calls have them, a head beside two lent tables, and what the calls make of them.
 -- Assumes nothing.
 use Prim.Native.Nat.{ℕ}
 use mathlib.Core.Bool.{Bool}
 use mathlib.Core.List.{List}
 use Rattle.records.specs.Flags.{Flags, flagsOf, proper}
-use Rattle.records.specs.Answers.{Written}
+use Rattle.records.specs.Answers.{After, Written}
 use Rattle.records.specs.declared.head.Head.{Head}
 use Rattle.codec.specs.Calls.{serialized}
+use Rattle.flags.specs.Calls.{combinedAdded}
+use Rattle.flags.specs.declared.owners.MergingOwnersStrategy.{MergingOwnersStrategy}
+use Rattle.rows.specs.Rows.{Tables}
+use Rattle.rows.specs.declared.removed.Removed.{Removed}
+use Rattle.splitting.specs.Calls.{After as AfterSplit, splitRemoved}
+use Rattle.removal.specs.Calls.{combinedRemoved}
 
--- flags as the calls have them: a head and its two tables
+-- a head and its two tables
 pub record Held : Type 0 where
   pub head : Head
   pub epochs : List ℕ
@@ -29,3 +35,15 @@ flagsIn f = flagsOf (f .head) (f .epochs) (f .counts)
 -- what `serialize` leaves of an output
 abbrev pub bytesInto : Held → List ℕ → Written
 bytesInto f out = serialized (f .head) (f .epochs) (f .counts) out
+
+-- what `combine_added_bytes` leaves of ours and theirs in two tables
+abbrev pub addedInto : Held → Held → ℕ → MergingOwnersStrategy → List ℕ → List ℕ → After
+addedInto f t n s es cs = combinedAdded (f .head) (f .epochs) (f .counts) (t .head) (t .epochs) (t .counts) n s es cs
+
+-- what `split_storage_removed_bytes` leaves in the tables for the key's and the value's rows
+abbrev pub splitInto : Held → ℕ → ℕ → Tables → Tables → AfterSplit
+splitInto f keyBytes valueBytes kt vt = splitRemoved (f .head) (f .epochs) (f .counts) keyBytes valueBytes kt vt
+
+-- what `combine_removed_bytes` leaves of ours and theirs in two tables
+abbrev pub removedInto : Held → Held → Removed → Tables → MergingOwnersStrategy → List ℕ → List ℕ → After
+removedInto f t x u s es cs = combinedRemoved (f .head) (f .epochs) (f .counts) (t .head) (t .epochs) (t .counts) x u s es cs

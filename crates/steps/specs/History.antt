@@ -6,13 +6,11 @@ use mathlib.Core.List.{List, [], _∷_, _++_}
 use lib.Dec.{eqb}
 use Rattle.records.specs.Flags.{same}
 use Rattle.records.specs.Answers.{Answer, ok, refused, After}
-use Rattle.flags.specs.Calls.{combinedAdded}
 use Rattle.flags.specs.declared.owners.MergingOwnersStrategy.{MergingOwnersStrategy}
 use Rattle.rows.specs.Rows.{Row, Tables}
 use Rattle.rows.specs.Removals.{removalOf, rowsOfRemoval}
-use Rattle.splitting.specs.Calls.{Told, splitRemoved}
-use Rattle.removal.specs.Calls.{combinedRemoved}
-use Rattle.steps.specs.Held.{Held, held}
+use Rattle.splitting.specs.Calls.{Told}
+use Rattle.steps.specs.Held.{Held, held, addedInto, splitInto, removedInto}
 
 -- ---- steps
 
@@ -45,25 +43,18 @@ leftBy a rows = cond (a .present) (ok (state (held (a .head) (a .epochs) (a .cou
 
 -- an addition is an adding merge
 abbrev pub addition : State → Edit → Answer State
-addition st x =
-    leftBy
-    (combinedAdded (st .flags .head) (st .flags .epochs) (st .flags .counts) (x .incoming .head) (x .incoming .epochs) (x .incoming .counts)
-    (x .amount) (x .strategy) (x .epochs) (x .counts))
-    (st .rows)
+addition st x = leftBy (addedInto (st .flags) (x .incoming) (x .amount) (x .strategy) (x .epochs) (x .counts)) (st .rows)
 
 -- the merge of what a value split left; its rows come to those of the earlier removals
 abbrev pub splitMerged : State → Edit → Answer Told → Tables → Answer State
 splitMerged st x (refused n) t = refused n
 splitMerged st x (ok s) t =
-    leftBy
-    (combinedRemoved (st .flags .head) (st .flags .epochs) (st .flags .counts) (x .incoming .head) (x .incoming .epochs) (x .incoming .counts)
-    (s .value) t (x .strategy) (x .epochs) (x .counts))
-    (st .rows ++ rowsOfRemoval (removalOf (s .value) t))
+    leftBy (removedInto (st .flags) (x .incoming) (s .value) t (x .strategy) (x .epochs) (x .counts)) (st .rows ++ rowsOfRemoval (removalOf (s .value) t))
 
 -- a removal is a value split without key bytes, then its merge
 abbrev pub removal : State → Edit → Answer State
 removal st x =
-    let a = splitRemoved (st .flags .head) (st .flags .epochs) (st .flags .counts) 0 (x .amount) (x .key-rows) (x .value-rows) in
+    let a = splitInto (st .flags) 0 (x .amount) (x .key-rows) (x .value-rows) in
     splitMerged st x (a .answer) (a .value-rows)
 
 -- a step

@@ -15,8 +15,8 @@ use Rattle.rows.specs.Rows.{row, partsOf, Tables, tables, overRows}
 use Rattle.rows.specs.Removals.{Removal, basic, sectioned, removalOf, rowsOfRemoval, stateOf}
 use Rattle.rows.specs.declared.removed.Removed.{Removed}
 use Rattle.sums.specs.Calls.{summed}
-use Rattle.splitting.specs.Calls.{Told, splitRemoved}
-use Rattle.steps.specs.Held.{Held, held, flagsIn}
+use Rattle.splitting.specs.Calls.{Told}
+use Rattle.steps.specs.Held.{Held, held, flagsIn, splitInto}
 use Rattle.steps.specs.History.{Edit, add, remove, State, state, step}
 
 -- what is asked: bytes to be read; a value split of records; its merge with incoming flags at 9; an amount added at an epoch; a sum at a version
@@ -78,8 +78,7 @@ toldOfSum (ok x) t = removed (removalOf x t)
 unfoldable pub tell : Question → Answered
 tell (reads bytes) = toldOfReader (deserialized bytes places places)
 tell (splits rs n) =
-    let f = unowned 5 rs in
-    let a = splitRemoved (f .head) (f .epochs) (f .counts) 0 n rowPlaces rowPlaces in
+    let a = splitInto (unowned 5 rs) 0 n rowPlaces rowPlaces in
     toldOfSplit (a .answer) (a .value-rows)
 tell (merges rs n) = toldOfStep (step (state (unowned 5 rs) []) (remove (edit 9 n)))
 tell (adds rs e n) = toldOfStep (step (state (unowned 5 rs) []) (add (edit e n)))
