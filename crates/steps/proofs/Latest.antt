@@ -5,6 +5,7 @@ use mathlib.Core.Bool.{true}
 use mathlib.Core.List.{List, [], _∷_, _++_, append-nil, append-assoc}
 use Prim.Native.Nat.{ℕ, _+_, _-_, _≤_, _<_, min}
 use native.Mathlib.Omega.{arith}
+use lib.ListN.{length, length-append}
 use borrow.Author.Tests.{eq-eqb}
 use Rattle.records.specs.Tables.{At, _⦂_, epochsOf, ascending, held, put}
 use Rattle.records.proofs.Tables.{epochs-append}
@@ -12,10 +13,10 @@ use Rattle.records.proofs.Rising.{asc-tail}
 use Rattle.records.proofs.Unions.{put-at, put-past}
 use Rattle.records.proofs.Held.{held-put}
 use Rattle.splitting.specs.Sections.{minimum, above, section, split}
-use Rattle.splitting.proofs.Sections.{asked-all, asked-last, split-last}
+use Rattle.splitting.proofs.Sections.{split-none, asked-all, asked-last, split-last}
 use Rattle.splitting.proofs.Given.{later}
 use Rattle.removal.specs.Removing.{left}
-use Rattle.steps.proofs.Remaining.{remaining, stays, remains, remaining-each, stays-left, given, given-append, part, part-sum, given-section}
+use Rattle.steps.proofs.Remaining.{remaining, remaining-none, stays, remains, remaining-each, stays-left, given, given-append, part, part-sum, given-section}
 
 -- records up to a latest one, at e
 abbrev pub upTo : List At → ℕ → ℕ → List At
@@ -28,6 +29,10 @@ latest-above b e c rs h = later b rs (e ⦂ c) [] h
 pub any-count : (b e c c′ : ℕ) (rs : List At) → ascending b (epochsOf (upTo rs e c)) ≡ true → ascending b (epochsOf (upTo rs e c′)) ≡ true
 unfolding epochsOf
 any-count b e c c′ rs h = rw (epochs-append rs (e ⦂ c′ ∷ [])) (rw (epochs-append rs (e ⦂ c ∷ [])) at h)
+
+-- one more than the others
+pub length-up : (rs : List At) (e k : ℕ) → length (upTo rs e k) ≡ length rs + 1
+length-up rs e k = length-append rs (e ⦂ k ∷ [])
 
 -- ---- an addition
 
@@ -86,3 +91,17 @@ module _ (rs : List At) (e c x y : ℕ) (p : 4 ≤ c) where
   given-back d base =
       let k = ap (λ (n : ℕ). given d (split base rs n)) same-asked in
       omega (arith, k, part-sum d e _ _ _ more-given, given-latest d base rs (e ⦂ (c + x)) (x + y), given-latest d base rs (e ⦂ c) y)
+
+-- ---- a removal of no more than was added since: it is taken back from the latest record alone
+
+pub taken-back : (base : ℕ) (rs : List At) (e k n : ℕ) → ascending base (epochsOf (upTo rs e k)) ≡ true → 4 + n ≤ k → remaining base (upTo rs e k) n ≡ upTo rs e (k - n)
+taken-back base rs e k n a p =
+    let w : k - n + n ≡ k = omega arith in
+    let z : n + 0 ≡ n = omega arith in
+    rw (w, z, remaining-none) at (remaining-back rs e (k - n) n 0 (omega arith) base (any-count base e k (k - n) rs a))
+
+pub given-once : (d base : ℕ) (rs : List At) (e k n : ℕ) → 4 + n ≤ k → given d (split base (upTo rs e k) n) ≡ given d (e ⦂ n ∷ [])
+given-once d base rs e k n p =
+    let w : k - n + n ≡ k = omega arith in
+    let z : n + 0 ≡ n = omega arith in
+    rw (w, z, split-none) at (given-back rs e (k - n) n 0 (omega arith) d base)

@@ -5,6 +5,7 @@ pub mod Remaining
 pub mod Latest
 pub mod Shorter
 pub mod Refunds
+pub mod Runs
 pub mod Running
 pub mod SmallSteps
 pub mod Witness

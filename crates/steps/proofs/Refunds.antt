@@ -27,3 +27,12 @@ module _ (i : List ℕ) (d : ℕ) where
 
   pub refund-under : (j : List ℕ) (ss : List At) → refundAt i d (rowsUnder j ss) ≡ cond (same j i) (given d ss) 0
   refund-under j ss = refund-by j (same j i) refl ss
+
+-- sections that come to the same at each epoch refund the same
+pub refunds-same : (i : List ℕ) (d : ℕ) (j : List ℕ) (xs ys zs : List At) → given d xs + given d ys ≡ given d zs
+    → refundAt i d (rowsUnder j xs) + refundAt i d (rowsUnder j ys) ≡ refundAt i d (rowsUnder j zs)
+refunds-same i d j xs ys zs h = simp refund-under (by (same j i))
+  where
+    by : (b : Bool) → cond b (given d xs) 0 + cond b (given d ys) 0 ≡ cond b (given d zs) 0
+    by true = h
+    by false = refl

@@ -158,6 +158,24 @@ part-sum d e x y z h = by (eqb e d)
 part-none : (d e x : ℕ) → x ≡ 0 → part d e x ≡ 0
 part-none d e x h = omega (arith, part-sum d e x x x (omega arith))
 
+pub given-none : (d : ℕ) → given d [] ≡ 0
+unfolding given
+given-none d = refl
+
+pub given-more : (d : ℕ) (ss : List At) → given d [] + given d ss ≡ given d ss
+given-more d ss = omega (arith, given-none d)
+
+-- sections of one epoch
+module _ (d e : ℕ) where
+  pub given-zero : given d (e ⦂ 0 ∷ []) ≡ 0
+  unfolding given
+  given-zero = omega (arith, part-sum d e 0 0 0 refl)
+
+  -- two sections of one epoch come to their sum
+  pub given-both : (m n : ℕ) (ss : List At) → given d (e ⦂ m ∷ []) + given d (e ⦂ n ∷ ss) ≡ given d (e ⦂ (m + n) ∷ ss)
+  unfolding given
+  given-both m n ss = omega (arith, part-sum d e m n (m + n) refl)
+
 pub given-section : (d e n most : ℕ) → given d (section e n most) ≡ part d e (min n most)
 unfolding given section
 given-section d e zero most = sym (part-none d e (min 0 most) (omega arith))

@@ -18,10 +18,11 @@ use Rattle.steps.specs.Held.{Held, bytesInto}
 use Rattle.steps.specs.History.{Edit, Step, add, remove, state, allAdded, allRemoved, refundAt}
 use Rattle.steps.specs.Demand.{First, Premises, Refunds}
 use Rattle.steps.proofs.Standing.{Stands, stands-ascend, stands-long}
-use Rattle.steps.proofs.Remaining.{remaining, given}
-use Rattle.steps.proofs.Latest.{upTo, remaining-back, given-back}
+use Rattle.steps.proofs.Remaining.{remaining, given, given-both}
+use Rattle.steps.proofs.Latest.{upTo, length-up, remaining-back, given-back}
 use Rattle.steps.proofs.Shorter.{bytes-less}
-use Rattle.steps.proofs.Running.{given-both, Ran, at, run-then, length-up, then-runs, first-runs}
+use Rattle.steps.proofs.Runs.{Ran, run-then}
+use Rattle.steps.proofs.Running.{at, then-runs, first-runs}
 
 -- ---- the sums of a history
 
@@ -74,7 +75,7 @@ module _ (f : Held) (e c : ℕ) (first later : List Step) (one : Edit) (out : Li
   four = let h = p .four-or-more in omega arith
 
   few : length (p .earlier) + 1 ≤ f .head .records
-  few = omega (arith, stands-long start, length-up f (p .earlier) e c)
+  few = omega (arith, stands-long start, length-up (p .earlier) e c)
 
   net : back ≤ A
   net = omega (arith, removed-added f e c 0 0 first (p .first-steps) (omega arith))
@@ -89,7 +90,7 @@ module _ (f : Held) (e c : ℕ) (first later : List Step) (one : Edit) (out : Li
   later-ran : Ran (first-ran .final) later (at f left) (split b (upTo (p .earlier) e (c + (A - back))) ((A - back) + one .amount))
   later-ran =
       let k : c + A - back ≡ c + (A - back) = omega (arith, net) in
-      let l : length (upTo (p .earlier) e (c + A - back)) ≤ f .head .records = omega (arith, few, length-up f (p .earlier) e (c + A - back)) in
+      let l : length (upTo (p .earlier) e (c + A - back)) ≤ f .head .records = omega (arith, few, length-up (p .earlier) e (c + A - back)) in
       let q = then-runs f (first-ran .final .flags) (upTo (p .earlier) e (c + A - back)) (first-ran .final .rows) later (p .later-steps) (first-ran .stands) l in
       subst (λ (l : List At). Ran (first-ran .final) later (at f l) (split b (upTo (p .earlier) e (c + (A - back))) ((A - back) + one .amount)))
       (remaining-back (p .earlier) e c (A - back) (one .amount) four b (stands-ascend start))
@@ -105,7 +106,7 @@ module _ (f : Held) (e c : ℕ) (first later : List Step) (one : Edit) (out : Li
       ∙ ap (λ (m : ℕ). given d (e ⦂ m ∷ split b rs (one .amount))) n
 
   all-ran : Ran (state f []) (first ++ later) (at f left) (e ⦂ A ∷ split b rs (one .amount))
-  all-ran = run-then f (state f []) first later (upTo (p .earlier) e (c + A - back)) left (e ⦂ back ∷ []) _ (e ⦂ A ∷ split b rs (one .amount)) all-given first-ran later-ran
+  all-ran = run-then (state f []) first later b (ownerOf (f .head)) (upTo (p .earlier) e (c + A - back)) left (e ⦂ back ∷ []) _ (e ⦂ A ∷ split b rs (one .amount)) all-given first-ran later-ran
 
   one-ran : Ran (state f []) (remove one ∷ []) (at f left) (split b rs (one .amount))
   unfolding allRemoved
