@@ -13,8 +13,7 @@ use Rattle.records.specs.declared.head.Head.{Head}
 use Rattle.codec.specs.Bytes.{bytesOf}
 use Rattle.codec.specs.Calls.{serialized}
 use Rattle.flags.specs.Merging.{added}
-use Rattle.flags.specs.Calls.{handedOn, combinedAdded, optionalCombinedAdded}
-use Rattle.flags.specs.declared.owners.MergingOwnersStrategy.{MergingOwnersStrategy}
+use Rattle.flags.specs.Calls.{handedOn, combinedAdded}
 use Rattle.rows.specs.Rows.{Tables, roomIn}
 use Rattle.rows.specs.Removals.{Removal, removalOf, rowsOfRemoval, proper as properRemoval}
 use Rattle.rows.specs.declared.removed.Removed.{Removed}
@@ -22,8 +21,9 @@ use Rattle.sums.specs.Sums.{sum}
 use Rattle.sums.specs.Calls.{After as AfterSum, kept as keptSum, placing as placingSum, summed}
 use Rattle.splitting.specs.Calls.{Split, After as AfterSplit, kept as keptSplit, placing as placingSplit, splitOf, splitRemoved}
 use Rattle.removal.specs.Removing.{removed}
-use Rattle.removal.specs.Calls.{combinedRemoved, optionalCombinedRemoved}
-use Rattle.steps.specs.Calls.{Keeps, numberIn, PublicCall, deserialize, deserialize-single-epoch, deserialize-multi-epoch, deserialize-single-epoch-owned, deserialize-multi-epoch-owned, judge, judge-as, serialize, serialized-size, approximate-size, list, new-single-epoch, set-owner-id, base-epoch, owner-id, type-byte, choose-owner, combine-owners, combine-owner-id, choose-owner-id, combine-added-bytes, optional-combine-added-bytes, combine-removed-bytes, optional-combine-removed-bytes, has-removal, total-removed-bytes, add-assign, split-storage-removed-bytes, contract}
+use Rattle.removal.specs.Calls.{combinedRemoved}
+use Rattle.steps.specs.Held.{Held, properHeld, flagsIn, addedInto, removedInto}
+use Rattle.steps.specs.Calls.{Keeps, Merge, numberIn, PublicCall, deserialize, deserialize-single-epoch, deserialize-multi-epoch, deserialize-single-epoch-owned, deserialize-multi-epoch-owned, judge, judge-as, serialize, serialized-size, approximate-size, list, new-single-epoch, set-owner-id, base-epoch, owner-id, type-byte, choose-owner, combine-owners, combine-owner-id, choose-owner-id, combine-added-bytes, optional-combine-added-bytes, combine-removed-bytes, optional-combine-removed-bytes, has-removal, total-removed-bytes, add-assign, split-storage-removed-bytes, contract}
 
 -- ---- one law: what is shown is an answer, or the refusal with its number
 
@@ -62,27 +62,32 @@ module _ (es cs : List ℕ) where
   placing-kept (refused n) = after-kept (refused n)
   placing-kept (ok f) = after-kept (ok (some f))
 
-  module _ (theirs : Head) (tes tcs : List ℕ) where
-    handed-kept : FlagsKept (handedOn theirs tes tcs es cs)
-    unfolding handedOn
-    handed-kept = flags-either (proper theirs tes tcs) _ _ (placing-kept (ok (flagsOf theirs tes tcs))) (λ h. refl)
+  handed-kept : (t : Held) → FlagsKept (handedOn (t .head) (t .epochs) (t .counts) es cs)
+  unfolding handedOn
+  handed-kept t = flags-either (properHeld t) _ _ (placing-kept (ok (flagsIn t))) (λ h. refl)
 
-    module _ (ours : Head) (oes ocs : List ℕ) (s : MergingOwnersStrategy) (b : Bool) where
-      added-kept : (n : ℕ) → FlagsKept (combinedAdded ours oes ocs theirs tes tcs n s es cs)
-      unfolding combinedAdded
-      added-kept n = flags-either (proper ours oes ocs && proper theirs tes tcs) _ _ (placing-kept (added s n (flagsOf ours oes ocs) (flagsOf theirs tes tcs))) (λ h. refl)
+-- the merges
+module _ (m : Merge) where
+  abbrev MergeKept : After → Type 0
+  MergeKept = FlagsKept (m .out .epochs) (m .out .counts)
 
-      optional-added-kept : (n : ℕ) → FlagsKept (optionalCombinedAdded b ours oes ocs theirs tes tcs n s es cs)
-      optional-added-kept n = flags-either b _ _ (added-kept n) handed-kept
+  either : (b : Bool) (s t : After) → MergeKept s → MergeKept t → MergeKept (cond b s t)
+  either = flags-either (m .out .epochs) (m .out .counts)
 
-      removed-kept : (x : Removed) (t : Tables) → FlagsKept (combinedRemoved ours oes ocs theirs tes tcs x t s es cs)
-      unfolding combinedRemoved
-      removed-kept x t =
-          flags-either (proper ours oes ocs && (proper theirs tes tcs && properRemoval x t)) _ _
-          (placing-kept (removed s (removalOf x t) (flagsOf ours oes ocs) (flagsOf theirs tes tcs))) (λ h. refl)
+  added-kept : (n : ℕ) → MergeKept (addedInto (m .ours) (m .theirs) n (m .strategy) (m .out .epochs) (m .out .counts))
+  unfolding combinedAdded
+  added-kept n =
+      either (properHeld (m .ours) && properHeld (m .theirs)) _ _
+      (placing-kept (m .out .epochs) (m .out .counts) (added (m .strategy) n (flagsIn (m .ours)) (flagsIn (m .theirs)))) (λ h. refl)
 
-      optional-removed-kept : (x : Removed) (t : Tables) → FlagsKept (optionalCombinedRemoved b ours oes ocs theirs tes tcs x t s es cs)
-      optional-removed-kept x t = flags-either b _ _ (removed-kept x t) (flags-either (properRemoval x t) _ _ handed-kept (λ h. refl))
+  removed-kept : (x : Removed) (t : Tables) → MergeKept (removedInto (m .ours) (m .theirs) x t (m .strategy) (m .out .epochs) (m .out .counts))
+  unfolding combinedRemoved
+  removed-kept x t =
+      either (properHeld (m .ours) && (properHeld (m .theirs) && properRemoval x t)) _ _
+      (placing-kept (m .out .epochs) (m .out .counts) (removed (m .strategy) (removalOf x t) (flagsIn (m .ours)) (flagsIn (m .theirs)))) (λ h. refl)
+
+  absent-kept : MergeKept (handedOn (m .theirs .head) (m .theirs .epochs) (m .theirs .counts) (m .out .epochs) (m .out .counts))
+  absent-kept = handed-kept (m .out .epochs) (m .out .counts) (m .theirs)
 
 -- ---- bytes
 
@@ -167,14 +172,12 @@ keeps choose-owner i = λ h. refl
 keeps combine-owners i = λ h. refl
 keeps combine-owner-id i = λ h. refl
 keeps choose-owner-id i = λ h. refl
-keeps combine-added-bytes i =
-    added-kept (i .0 .out .epochs) (i .0 .out .counts) (i .0 .theirs .head) (i .0 .theirs .epochs) (i .0 .theirs .counts) (i .0 .ours .head) (i .0 .ours .epochs) (i .0 .ours .counts) (i .0 .strategy) (i .0 .present) (i .1)
-keeps optional-combine-added-bytes i =
-    optional-added-kept (i .0 .out .epochs) (i .0 .out .counts) (i .0 .theirs .head) (i .0 .theirs .epochs) (i .0 .theirs .counts) (i .0 .ours .head) (i .0 .ours .epochs) (i .0 .ours .counts) (i .0 .strategy) (i .0 .present) (i .1)
-keeps combine-removed-bytes i =
-    removed-kept (i .0 .out .epochs) (i .0 .out .counts) (i .0 .theirs .head) (i .0 .theirs .epochs) (i .0 .theirs .counts) (i .0 .ours .head) (i .0 .ours .epochs) (i .0 .ours .counts) (i .0 .strategy) (i .0 .present) (i .1 .state) (i .1 .tables)
+keeps combine-added-bytes i = added-kept (i .0) (i .1)
+keeps optional-combine-added-bytes i = either (i .0) (i .0 .present) _ _ (added-kept (i .0) (i .1)) (absent-kept (i .0))
+keeps combine-removed-bytes i = removed-kept (i .0) (i .1 .state) (i .1 .tables)
 keeps optional-combine-removed-bytes i =
-    optional-removed-kept (i .0 .out .epochs) (i .0 .out .counts) (i .0 .theirs .head) (i .0 .theirs .epochs) (i .0 .theirs .counts) (i .0 .ours .head) (i .0 .ours .epochs) (i .0 .ours .counts) (i .0 .strategy) (i .0 .present) (i .1 .state) (i .1 .tables)
+    either (i .0) (i .0 .present) _ _ (removed-kept (i .0) (i .1 .state) (i .1 .tables))
+    (either (i .0) (properRemoval (i .1 .state) (i .1 .tables)) _ _ (absent-kept (i .0)) (λ h. refl))
 keeps has-removal i = value-kept _
 keeps total-removed-bytes i = value-kept _
 keeps add-assign i = summed-kept (i .1 .tables) (i .0) (i .1 .state) (i .2 .state) (i .2 .tables)
