@@ -1,6 +1,6 @@
 -- `removal::removing::combine_with_higher_base_epoch_remove_bytes` meets its contract: ours without records comes back, else the owner
 -- decides, then the removal is taken under our owner. Assumes nothing.
-use mathlib.Core.Path.{sym, ap, _∙_}
+use mathlib.Core.Path.{_≡_, sym, ap, _∙_}
 use mathlib.Core.List.{List}
 use Prim.Native.Nat.{ℕ, _<_}
 use native.Mathlib.Omega.{arith}
@@ -43,9 +43,10 @@ returns : tie.Need-returns
 returns c =
     let b = c .before .before .before .before .before .before .before .before .before .before .before .before .before .before .before .before in
     let a = b .args in
+    let p : length (ours b .records) ≡ 0 = omega (arith, proper-long (our-proper b), c .before .before .before .before .before .before .before .if1 .taken) in
     c .before .before .before .before .hand-on .ensures
     ∙ sym (ap (λ (x : Answer Flags). placing x (a .epochs .now) (a .counts .now))
-    (above-single (a .strategy) (removal b) (ours b) (theirs b) (ours b .records) (proper-long (our-proper b) ∙ c .before .before .before .before .before .before .before .if1 .taken)))
+    (above-single (a .strategy) (removal b) (ours b) (theirs b) (ours b .records) p))
 
 returns-2 : tie.Need-returns-2
 returns-2 c =
