@@ -5,17 +5,17 @@ use native.Mathlib.Omega.{arith}
 use mathlib.Core.Path.{_≡_, refl, sym, ap, _∙_}
 use mathlib.Core.Bool.{Bool, true, false}
 use mathlib.Core.List.{List, [], _∷_}
-use lib.ListN.{length, getD, take, drop}
-use lib.Seq.{take-at}
+use lib.ListN.{length, getD, take}
 use Rattle.fields.specs.Varint.{largest}
 use Rattle.fields.proofs.RoundTrip.{Bytes}
 use Rattle.records.specs.Tables.{recordsOf, ascending, over}
 use Rattle.records.specs.Flags.{owned, ownerIf, flagsOf, proper}
-use Rattle.records.specs.Answers.{Answer, ok, refused, Written, writing}
+use Rattle.records.specs.Answers.{Answer, ok, Written, writing}
 use Rattle.records.specs.declared.head.Head.{Head}
+use Rattle.records.proofs.Tables.{over-first}
 use Rattle.records.proofs.Rising.{asc-head, asc-tail}
 use Rattle.records.proofs.Proper.{proper-inv}
-use Rattle.records.proofs.Answers.{writing-fits, writing-short}
+use Rattle.records.proofs.Answers.{refused-not-ok, writing-fits, writing-short}
 use Rattle.codec.specs.Bytes.{bytesOf}
 use Rattle.codec.specs.Reading.{someFlags, read}
 use Rattle.codec.specs.Calls.{serialized, sizeOf}
@@ -58,13 +58,10 @@ record Fitted (xs out : List ℕ) (n : ℕ) : Type 0 where
   pub count : n ≡ length xs
   pub room : length xs ≤ length out
 
-no-answer : (m n : ℕ) → _≡_ {A = Answer ℕ} (refused m) (ok n) → ⊥
-no-answer m n e = let z : _≡_ {A = ℕ} 0 1 = cc in omega arith
-
 fitted : (xs out : List ℕ) (n : ℕ) → writing xs out .answer ≡ ok n → Fitted xs out n
 fitted xs out n e =
     elim (decLt (length out) (length xs)) [
-      | yes h ↦ absurd (no-answer 10 n (sym (ap (λ (w : Written). w .answer) (writing-short xs out h)) ∙ e))
+      | yes h ↦ absurd (refused-not-ok 10 n (sym (ap (λ (w : Written). w .answer) (writing-short xs out h)) ∙ e))
       | no h ↦
           let q : _≡_ {A = Answer ℕ} (ok (length xs)) (ok n) = sym (ap (λ (w : Written). w .answer) (writing-fits xs out (omega arith))) ∙ e in
           let c : length xs ≡ n = cc in
@@ -78,7 +75,7 @@ module _ (h : Head) (es cs out : List ℕ) (n : ℕ) (e : serialized h es cs out
     where
       by : (b : Bool) → proper h es cs ≡ b → proper h es cs ≡ true
       by true q = q
-      by false q = absurd (no-answer 11 n (sym (ap (λ (w : Written). w .answer) (serialized-improper h es cs out q)) ∙ e))
+      by false q = absurd (refused-not-ok 11 n (sym (ap (λ (w : Written). w .answer) (serialized-improper h es cs out q)) ∙ e))
 
   were-fitted : Fitted (bytesOf (flagsOf h es cs)) out n
   were-fitted = fitted (bytesOf (flagsOf h es cs)) out n (sym (ap (λ (w : Written). w .answer) (serialized-proper h es cs out were-proper)) ∙ e)
@@ -94,5 +91,5 @@ module _ (h : Head) (es cs out : List ℕ) (n : ℕ) (e : serialized h es cs out
       let o : serialized h es cs out .out ≡ over xs out =
       ap (λ (w : Written). w .out) (serialized-proper h es cs out were-proper ∙ writing-fits xs out (were-fitted .room)) in
       ap (λ (l : List ℕ). read (take n l)) o
-      ∙ ap read (take-at xs (drop (length xs) out) n (sym (were-fitted .count)))
+      ∙ ap read (over-first xs out n (sym (were-fitted .count)))
       ∙ read-back (flagsOf h es cs) (proper-flags h es cs r were-proper)

@@ -5,7 +5,7 @@ use native.Mathlib.Decide.{decLt}
 use native.Mathlib.Omega.{arith}
 use mathlib.Core.Path.{_≡_, refl, sym, ap, ap₂, _∙_}
 use mathlib.Core.Bool.{true}
-use mathlib.Core.Option.{none, some}
+use mathlib.Core.Option.{none, Option·some-ne-none}
 use mathlib.Core.List.{List, [], _∷_}
 use lib.ListN.{length, take, drop, set}
 use lib.Seq.{drop-drop}
@@ -15,10 +15,10 @@ use Rattle.fields.specs.declared.varint.Varint.{Varint}
 use Rattle.fields.specs.declared.varint.Reading.the-variants.{Whole}
 use Rattle.fields.proofs.Told.{told-read}
 use Rattle.records.specs.Tables.{At, _⦂_, Placed}
-use Rattle.records.proofs.Tables.{Filling, filling-start, filling-step, filling-done}
+use Rattle.records.proofs.Tables.{Filling, filling-start, filling-reached, filling-step, filling-done}
 use Rattle.records.specs.declared.head.Kind.{Kind}
 use Rattle.codec.specs.Bytes.{headSize}
-use Rattle.codec.specs.Reading.{Next, bad, good, next, Fault, Parsed, baseIn, recordsIn}
+use Rattle.codec.specs.Reading.{Next, bad, good, next, Parsed, baseIn, recordsIn}
 use Rattle.codec.specs.Calls.{Complete}
 use Rattle.codec.proofs.Parsing.{Good, next-good, rest, rest-end, rest-bad, Turn, rest-good}
 
@@ -29,9 +29,6 @@ pub record Ahead (d : List ℕ) (at prev : ℕ) : Type 0 where
   pub is-next : next prev (drop at d) ≡ good item size
   pub turn : Turn d at prev item size
 
-some-none : (f : Fault) → some f ≡ none → ⊥
-some-none f e = let z : _≡_ {A = ℕ} 0 1 = cc in omega arith
-
 pub ahead : (d : List ℕ) (at prev : ℕ) → rest d at prev .fault ≡ none → 1 ≤ length (rest d at prev .records) → Ahead d at prev
 ahead d at prev f n =
     elim (decLt at (length d)) [
@@ -40,7 +37,7 @@ ahead d at prev f n =
     ]
   where
     by : at < length d → (x : Next) → next prev (drop at d) ≡ x → Ahead d at prev
-    by h (bad r) q = absurd (some-none _ (sym (ap (λ (p : Parsed). p .fault) (rest-bad d at prev r h q)) ∙ f))
+    by h (bad r) q = absurd (Option·some-ne-none _ (sym (ap (λ (p : Parsed). p .fault) (rest-bad d at prev r h q)) ∙ f))
     by h (good r u) q = record { item = r; size = u; is-next = q; turn = rest-good d at prev r u h q }
 
 module _ (d : List ℕ) (at prev : ℕ) (a : Ahead d at prev) where
@@ -84,12 +81,12 @@ going-start k d es cs n at e h =
 
 module _ {all : List At} {d es₀ cs₀ es cs : List ℕ} {at k : ℕ} (g : Going all d es₀ cs₀ es cs at k) where
   pub going-ahead : k < length all → Ahead d at (g .prev)
-  going-ahead h = ahead d at (g .prev) (g .no-fault) (omega (arith, g .filling .reached))
+  going-ahead h = ahead d at (g .prev) (g .no-fault) (omega (arith, filling-reached (g .filling)))
 
   pub going-room : k < length all → length all ≤ length es₀ → length all ≤ length cs₀ → (k < length es) × (k < length cs)
   going-room h p q =
       let f = g .filling in
-      (omega (arith, f .epochs-long), omega (arith, f .counts-long))
+      (omega (arith, f .epochs .long), omega (arith, f .counts .long))
 
   pub going-more : (h : k < length all) (e : ℕ) (v : Varint) → e ≡ said (take 2 (drop at d)) → Whole v ≡ readAt (at + 2) (found (drop (at + 2) d))
       → Going all d es₀ cs₀ (set es k e) (set cs k (v .count)) (v .next) (k + 1)
@@ -107,7 +104,7 @@ module _ {all : List At} {d es₀ cs₀ es cs : List ℕ} {at k : ℕ} (g : Goin
       }
 
   pub going-done : length all ≤ k → Placed all 0 k es₀ cs₀ es cs
-  going-done h = filling-done (g .filling) (nil (rest d at (g .prev) .records) (omega (arith, g .filling .reached)))
+  going-done h = filling-done (g .filling) (nil (rest d at (g .prev) .records) (omega (arith, filling-reached (g .filling))))
     where
       nil : (rs : List At) → length rs ≡ 0 → rs ≡ []
       nil [] e = refl

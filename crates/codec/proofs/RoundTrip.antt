@@ -5,7 +5,7 @@ use native.Mathlib.Nat.{le-refl}
 use native.Mathlib.Omega.{arith}
 use mathlib.Core.Path.{_≡_, refl, sym, ap, ap₂, _∙_}
 use mathlib.Core.Bool.{Bool, true, false}
-use mathlib.Core.Option.{Option, none, some}
+use mathlib.Core.Option.{Option, none, some, Option·some-ne-none}
 use mathlib.Core.List.{List, [], _∷_, _++_, append-assoc}
 use lib.ListN.{length, take, drop, length-take, length-drop, length-append, take-append-drop}
 use lib.Seq.{drop-at, take-at, take-add, getD-drop}
@@ -17,7 +17,7 @@ use Rattle.records.specs.Tables.{At}
 use Rattle.records.specs.Flags.{owned}
 use Rattle.records.specs.declared.head.Kind.{Kind}
 use Rattle.codec.specs.Bytes.{recordBytes, recordsBytes, headBytes, headSize}
-use Rattle.codec.specs.Reading.{Next, bad, good, next, Fault, Parsed, parse, withCount, baseIn, ownerIn}
+use Rattle.codec.specs.Reading.{Next, bad, good, next, Parsed, parse, withCount, baseIn, ownerIn}
 use Rattle.codec.proofs.Parsing.{next-long, withCount-above, Good, next-good, parse-nil, parse-bad, parse-good, before}
 
 -- ---- records
@@ -88,9 +88,6 @@ pub record Reread (at prev : ℕ) (xs : List ℕ) : Type 0 where
   pub same-bytes : recordsBytes (parse at 0 prev xs .records) ≡ xs
   pub canonical : Canonical prev (parse at 0 prev xs .records)
 
-some-fault : (f : Fault) → some f ≡ none → ⊥
-some-fault f e = let z : _≡_ {A = ℕ} 0 1 = cc in omega arith
-
 reread-more : (at prev : ℕ) (xs : List ℕ) (r : At) (u : ℕ) → Bytes xs → 1 ≤ length xs → next prev xs ≡ good r u
     → Reread (at + u) (r .epoch) (drop u xs) → Reread at prev xs
 unfolding recordsBytes
@@ -118,7 +115,7 @@ reread (suc n) at prev (x ∷ xs) h b z = by (next prev (x ∷ xs)) refl (λ r u
     by : (m : Next) → next prev (x ∷ xs) ≡ m
         → ((r : At) (u : ℕ) → length (drop u (x ∷ xs)) ≤ n → parse (at + u) 0 (r .epoch) (drop u (x ∷ xs)) .fault ≡ none → Reread (at + u) (r .epoch) (drop u (x ∷ xs)))
         → Reread at prev (x ∷ xs)
-    by (bad r) q later = absurd (some-fault _ (sym (ap (λ (p : Parsed). p .fault) (parse-bad at prev (x ∷ xs) r (omega arith) q)) ∙ z))
+    by (bad r) q later = absurd (Option·some-ne-none _ (sym (ap (λ (p : Parsed). p .fault) (parse-bad at prev (x ∷ xs) r (omega arith) q)) ∙ z))
     by (good r u) q later =
         let g = next-good prev (x ∷ xs) r u q in
         let s = parse-good at prev (x ∷ xs) r u (omega arith) (omega (arith, g .size)) q in

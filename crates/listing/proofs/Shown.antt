@@ -3,19 +3,16 @@
 use Prim.Native.Nat.{ℕ, _≤_}
 use native.Mathlib.Omega.{arith}
 use mathlib.Core.Path.{_≡_, refl, ap₂, _∙_}
-use mathlib.Core.Bool.{Bool, true, false}
-use mathlib.Core.Option.{Option, none, some}
 use mathlib.Core.List.{List}
-use lib.Dec.{eqb}
-use lib.ListN.{length, take, drop, length-append}
-use lib.Seq.{take-at}
+use lib.ListN.{length}
 use Rattle.records.specs.Refusals.{number}
 use Rattle.records.specs.Tables.{epochsOf, countsOf, over}
-use Rattle.records.specs.Flags.{Flags, owned, kindOf, idOf, ownerIf, headOf, noHead}
+use Rattle.records.specs.Flags.{Flags, headOf, noHead}
 use Rattle.records.specs.Answers.{shown, after}
 use Rattle.records.specs.declared.answer.Answered.{Answered}
 use Rattle.records.specs.declared.answer.Outcome.the-variants.{Absent, Present, Refused}
-use Rattle.records.proofs.Tables.{length-epochsOf, length-countsOf, records-back}
+use Rattle.records.proofs.Tables.{length-epochsOf, length-countsOf, records-back, over-first, over-holds}
+use Rattle.records.proofs.Proper.{owner-head}
 use Rattle.records.proofs.Answers.{after-refused, after-absent, after-placed}
 use Rattle.records.proofs.Only.{shown-only}
 use Rattle.codec.specs.Reading.{Read, noFlags, someFlags, refusedAt, read}
@@ -25,32 +22,16 @@ use Rattle.listing.specs.Heads.{headText, outcomeText, Held}
 use Rattle.listing.specs.Listed.{most, places}
 use Rattle.listing.proofs.Bounds.{flags-few}
 
--- the owner that a head of flags tells
-owner-told : (o : Option (List ℕ)) (n : ℕ) → ownerIf (owned (kindOf o n)) (idOf o) ≡ o
-owner-told none n = by (eqb n 0) refl
-  where
-    by : (b : Bool) → eqb n 0 ≡ b → ownerIf (owned (kindOf none n)) (idOf none) ≡ none
-    by true e = rw e
-    by false e = rw e
-owner-told (some o) n = by (eqb n 0) refl
-  where
-    by : (b : Bool) → eqb n 0 ≡ b → ownerIf (owned (kindOf (some o) n)) (idOf (some o)) ≡ some o
-    by true e = rw e
-    by false e = rw e
-
 -- flags by their head and their records' tables
 head-flags : (f : Flags) → headText (headOf f) (epochsOf (f .records)) (countsOf (f .records)) ≡ flagsText f
-head-flags f = rw (owner-told (f .owner) (length (f .records)), records-back (f .records), length-epochsOf (f .records))
-
-front : (xs old : List ℕ) (n : ℕ) → length xs ≡ n → take n (over xs old) ≡ xs
-front xs old n e = take-at xs (drop (length xs) old) n e
+head-flags f = rw (owner-head f, records-back (f .records), length-epochsOf (f .records))
 
 -- flags that stand at the start of two tables
 placed-text : (f : Flags) (es cs : List ℕ)
     → outcomeText Present (headOf f) (over (epochsOf (f .records)) es) (over (countsOf (f .records)) cs) ≡ flagsText f
 placed-text f es cs =
     let rs = f .records in
-    ap₂ (headText (headOf f)) (front (epochsOf rs) es (length rs) (length-epochsOf rs)) (front (countsOf rs) cs (length rs) (length-countsOf rs))
+    ap₂ (headText (headOf f)) (over-first (epochsOf rs) es (length rs) (length-epochsOf rs)) (over-first (countsOf rs) cs (length rs) (length-countsOf rs))
     ∙ head-flags f
 
 placed-held : (f : Flags) (es cs : List ℕ) → length (f .records) ≤ places → Held (headOf f) (over (epochsOf (f .records)) es) (over (countsOf (f .records)) cs)
@@ -58,8 +39,8 @@ placed-held f es cs h =
     let rs = f .records in
     record {
       few = h;
-      epochs-long = omega (arith, length-append (epochsOf rs) (drop (length (epochsOf rs)) es), length-epochsOf rs);
-      counts-long = omega (arith, length-append (countsOf rs) (drop (length (countsOf rs)) cs), length-countsOf rs);
+      epochs-long = omega (arith, over-holds (epochsOf rs) es, length-epochsOf rs);
+      counts-long = omega (arith, over-holds (countsOf rs) cs, length-countsOf rs);
     }
 
 -- an answer with its tables, as the functions below ask for it

@@ -19,6 +19,12 @@ use Rattle.records.specs.declared.answer.Outcome.the-variants.{Present, 
 use Rattle.records.specs.declared.answer.Answered.{Answered}
 use Rattle.records.proofs.Tables.{length-epochsOf, length-countsOf, over-sets}
 
+-- ---- answers
+
+-- a refusal is not an answer
+pub refused-not-ok : {A : Type 0} (n : ℕ) (a : A) → _≡_ {A = Answer A} (refused n) (ok a) → ⊥
+refused-not-ok n a e = let z : _≡_ {A = ℕ} 0 1 = cc in omega arith
+
 -- ---- room
 
 module _ (n a b : ℕ) where

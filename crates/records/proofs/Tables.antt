@@ -3,11 +3,12 @@
 use mathlib.Core.Path.{_≡_, refl, sym, ap, _∙_}
 use mathlib.Core.List.{List, [], _∷_, _++_}
 use Prim.Native.Nat.{ℕ, zero, suc, _+_, _-_, _≤_, _<_}
-use native.Mathlib.Nat.{add-zero, zero-add}
+use native.Mathlib.Nat.{zero-add}
 use native.Mathlib.Numerals.{add-one}
 use native.Mathlib.Omega.{arith}
-use lib.ListN.{length, take, drop, getD, set, length-set, length-append, drop-of-length-le}
-use lib.Seq.{length-take-le, drop-cons, getD-take, take-add, sets, sets-eq}
+use lib.ListN.{length, take, drop, getD, set, length-append, length-drop, drop-of-length-le}
+use lib.Seq.{length-take-le, take-at, drop-cons, getD-take, take-add, sets, sets-eq}
+use Rattle.fields.proofs.Parts.{sets-append, Parts, parts-start, parts-byte, parts-done}
 use Rattle.records.specs.Tables.{At, _⦂_, recordsOf, epochsOf, countsOf, over, Placed}
 
 -- ---- records, and their epochs and counts
@@ -112,57 +113,53 @@ first-last es cs j p he hc =
 
 -- ---- written one after another
 
+-- what stands at the start is read from there, and there are no fewer places than it has, nor than there were
+pub over-first : (xs old : List ℕ) (n : ℕ) → length xs ≡ n → take n (over xs old) ≡ xs
+over-first xs old n e = take-at xs (drop (length xs) old) n e
+
+pub over-holds {ℓ} : {A : Type ℓ} (xs old : List A) → length xs ≤ length (over xs old)
+over-holds xs old = let a = length-append xs (drop (length xs) old) in omega arith
+
+pub over-long {ℓ} : {A : Type ℓ} (xs old : List A) → length old ≤ length (over xs old)
+over-long xs old = let a = length-append xs (drop (length xs) old) in let b = length-drop (length xs) old in omega arith
+
 pub over-sets : (xs old : List ℕ) → length xs ≤ length old → sets old 0 xs ≡ over xs old
 over-sets xs old h = sets-eq xs old 0 (omega arith) ∙ rw (zero-add (length xs))
 
--- the place k is reached, and what is left to write there makes of the tables what all makes of the tables lent
+-- the place k is reached, and what is left to write there makes of both tables what all makes of the tables lent
 pub record Filling (all left : List At) (at k : ℕ) (es₀ cs₀ es cs : List ℕ) : Type 0 where
-  pub reached : k + length left ≡ at + length all
-  pub epochs-to-set : sets es k (epochsOf left) ≡ sets es₀ at (epochsOf all)
-  pub counts-to-set : sets cs k (countsOf left) ≡ sets cs₀ at (countsOf all)
-  pub epochs-long : length es ≡ length es₀
-  pub counts-long : length cs ≡ length cs₀
+  pub epochs : Parts (epochsOf all) at es₀ (epochsOf left) k es
+  pub counts : Parts (countsOf all) at cs₀ (countsOf left) k cs
 
 pub filling-start : (all : List At) (at : ℕ) (es cs : List ℕ) → Filling all all at at es cs es cs
-filling-start all at es cs =
-    record { reached = refl; epochs-to-set = refl; counts-to-set = refl; epochs-long = refl; counts-long = refl }
+filling-start all at es cs = record { epochs = parts-start (epochsOf all) at es; counts = parts-start (countsOf all) at cs }
 
 module _ {all left : List At} {at k : ℕ} {es₀ cs₀ es cs : List ℕ} (f : Filling all left at k es₀ cs₀ es cs) where
+  pub filling-reached : k + length left ≡ at + length all
+  filling-reached = omega (arith, f .epochs .reached, length-epochsOf left, length-epochsOf all)
+
   -- one record more is written
   pub filling-step : {rest : List At} {e c : ℕ} → left ≡ e ⦂ c ∷ rest → Filling all rest at (k + 1) es₀ cs₀ (set es k e) (set cs k c)
   unfolding epochsOf countsOf
-  filling-step {rest} {e} {c} h =
-      record {
-        reached = omega (arith, f .reached, ap (length {A = At}) h);
-        epochs-to-set = rw add-one (rw h at (f .epochs-to-set));
-        counts-to-set = rw add-one (rw h at (f .counts-to-set));
-        epochs-long = length-set es k e ∙ f .epochs-long;
-        counts-long = length-set cs k c ∙ f .counts-long;
-      }
+  filling-step h = record { epochs = parts-byte (f .epochs) (ap epochsOf h); counts = parts-byte (f .counts) (ap countsOf h) }
 
   -- the record has room where all have
   pub filling-room : {rest : List At} {e c : ℕ} → left ≡ e ⦂ c ∷ rest → at + length all ≤ length es₀ → at + length all ≤ length cs₀
       → (k < length es) × (k < length cs)
   filling-room h p q =
       let l = ap (length {A = At}) h in
-      (omega (arith, f .reached, f .epochs-long), omega (arith, f .reached, f .counts-long))
+      (omega (arith, filling-reached, f .epochs .long), omega (arith, filling-reached, f .counts .long))
 
   pub filling-done : left ≡ [] → Placed all at k es₀ cs₀ es cs
   unfolding epochsOf countsOf
   filling-done h =
       record {
-        behind = omega (arith, f .reached, ap (length {A = At}) h);
-        epochs-set = rw h at (f .epochs-to-set);
-        counts-set = rw h at (f .counts-to-set);
+        behind = omega (arith, filling-reached, ap (length {A = At}) h);
+        epochs-set = parts-done (f .epochs) (ap epochsOf h) .wrote;
+        counts-set = parts-done (f .counts) (ap countsOf h) .wrote;
       }
 
 -- ---- one run of records after another
-
-sets-then : (l : List ℕ) (i : ℕ) (xs ys : List ℕ) → sets (sets l i xs) (i + length xs) ys ≡ sets l i (xs ++ ys)
-sets-then l i [] ys = rw (add-zero i)
-sets-then l i (x ∷ xs) ys =
-    let e : i + suc (length xs) ≡ suc i + length xs = omega arith in
-    rw e (sets-then (set l i x) (suc i) xs ys)
 
 pub epochs-append : (rs ss : List At) → epochsOf (rs ++ ss) ≡ epochsOf rs ++ epochsOf ss
 unfolding epochsOf
@@ -183,6 +180,6 @@ placed-then {rs} {ss} {at} {k} {n} {es} {cs} p q =
     let kc : k ≡ at + length (countsOf rs) = p .behind ∙ rw (length-countsOf rs) in
     record {
       behind = omega (arith, p .behind, q .behind, length-append rs ss);
-      epochs-set = q .epochs-set ∙ rw (p .epochs-set, ke, epochs-append rs ss) (sets-then es at (epochsOf rs) (epochsOf ss));
-      counts-set = q .counts-set ∙ rw (p .counts-set, kc, counts-append rs ss) (sets-then cs at (countsOf rs) (countsOf ss));
+      epochs-set = q .epochs-set ∙ rw (p .epochs-set, ke, epochs-append rs ss) (sym (sets-append (epochsOf rs) (epochsOf ss) es at));
+      counts-set = q .counts-set ∙ rw (p .counts-set, kc, counts-append rs ss) (sym (sets-append (countsOf rs) (countsOf ss) cs at));
     }

@@ -5,10 +5,10 @@ use mathlib.Core.List.{List, [], _∷_, _++_}
 use Prim.Native.Nat.{ℕ, zero, suc, _+_, _-_, _≤_}
 use native.Mathlib.Nat.{le-of-suc-le-suc, not-suc-le-zero, sub-zero}
 use native.Mathlib.Omega.{arith}
-use lib.ListN.{length, take, drop, length-append, length-drop}
+use lib.ListN.{length, take, drop, length-drop}
 use lib.Seq.{drop-append-add, drop-drop, take-nil, take-all}
 use Rattle.records.specs.Tables.{At, recordsOf, epochsOf, countsOf, over}
-use Rattle.records.proofs.Tables.{take-records, drop-records, length-column, column-append}
+use Rattle.records.proofs.Tables.{over-holds, over-long, take-records, drop-records, length-column, column-append}
 use Rattle.rows.specs.Rows.{Row, ascends, idsOf, partsOf, Tables, tables, rowsOf, rowsIn, overRows, Room, Proper}
 use Rattle.rows.proofs.Rows.{asc-drop}
 
@@ -84,12 +84,6 @@ pub columns : {n : ℕ} {t : Tables} → Room n t → Columns n t
 columns {n} {t} r = columns-of n (t .ids) (t .epochs) (t .bytes) (r .ids-long) (r .epochs-long) (r .bytes-long)
 
 -- ---- rows at the start of tables
-
-over-long {ℓ} : {A : Type ℓ} (xs old : List A) → length old ≤ length (over xs old)
-over-long xs old = let a = length-append xs (drop (length xs) old) in let b = length-drop (length xs) old in omega arith
-
-over-holds {ℓ} : {A : Type ℓ} (xs old : List A) → length xs ≤ length (over xs old)
-over-holds xs old = let a = length-append xs (drop (length xs) old) in omega arith
 
 -- what was written first does not show where no less is written over it
 over-twice {ℓ} : {A : Type ℓ} (ys xs old : List A) → length xs ≤ length ys → over ys (over xs old) ≡ over ys old

@@ -5,13 +5,13 @@ use mathlib.Core.Path.{_≡_, refl, sym, ap, _∙_}
 use mathlib.Core.Bool.{Bool, true, false, cond, _&&_}
 use mathlib.Core.List.{List, []}
 use Prim.Native.Nat.{ℕ, zero, suc}
-use native.Mathlib.Omega.{arith}
 use lib.ListN.{length}
 use Rattle.records.specs.Tables.{At, epochsOf, ascending}
 use Rattle.records.specs.Flags.{idOf, ownerOf, flagsOf, proper}
-use Rattle.records.specs.Answers.{Answer, ok, refused}
+use Rattle.records.specs.Answers.{ok, refused}
 use Rattle.records.specs.declared.head.Head.{Head}
 use Rattle.records.proofs.Tables.{epochs-records}
+use Rattle.records.proofs.Answers.{refused-not-ok}
 use Rattle.records.proofs.Proper.{proper-inv, proper-above}
 use Rattle.rows.specs.Rows.{Tables, row, partsOf, ascends, roomIn, overRows}
 use Rattle.rows.specs.Removals.{Removal, rowsOfRemoval, stateOf, removalOf, total, proper as properRemoval}
@@ -45,9 +45,6 @@ record Left (s : Split) (kt vt : Tables) (t : Told) (a : After) : Type 0 where
   pub key : a .key-rows ≡ overRows (rowsOfRemoval (s .key)) kt
   pub value : a .value-rows ≡ overRows (rowsOfRemoval (s .value)) vt
 
-not-refused : (t : Told) (n : ℕ) → _≡_ {A = Answer Told} (refused n) (ok t) → ⊥
-not-refused t n e = let z : _≡_ {A = ℕ} 0 1 = cc in omega arith
-
 -- the split that a call of these makes
 abbrev pub splitFor : Head → List ℕ → List ℕ → ℕ → ℕ → Split
 splitFor h es cs keyBytes valueBytes = parted (idOf (ownerOf h)) (h .base) (flagsOf h es cs .records) keyBytes valueBytes
@@ -60,19 +57,19 @@ filled s kt vt =
 module _ (s : Split) (kt vt : Tables) (t : Told) where
   by-room : (b : Bool) → cond b (filled s kt vt) (kept 10 kt vt) .answer ≡ ok t → Left s kt vt t (cond b (filled s kt vt) (kept 10 kt vt))
   by-room true e = record { answer = let z : toldOf s ≡ t = cc in sym z; key = refl; value = refl }
-  by-room false e = absurd (not-refused t 10 e)
+  by-room false e = absurd (refused-not-ok 10 t e)
 
   by-limit : (b : Bool) → placing (cond b (ok s) (refused 8)) kt vt .answer ≡ ok t → Left s kt vt t (placing (cond b (ok s) (refused 8)) kt vt)
   unfolding placing
   by-limit true e = by-room (roomIn (length (rowsOfRemoval (s .key))) kt && roomIn (length (rowsOfRemoval (s .value))) vt) e
-  by-limit false e = absurd (not-refused t 8 e)
+  by-limit false e = absurd (refused-not-ok 8 t e)
 
 module _ (h : Head) (es cs : List ℕ) (keyBytes valueBytes : ℕ) (kt vt : Tables) (t : Told) where
   -- the flags are proper, and the rows stand in the tables
   by-proper : (b : Bool) → proper h es cs ≡ b → cond b (placing (splitOf (flagsOf h es cs) keyBytes valueBytes) kt vt) (kept 11 kt vt) .answer ≡ ok t
       → (proper h es cs ≡ true) × Left (splitFor h es cs keyBytes valueBytes) kt vt t (cond b (placing (splitOf (flagsOf h es cs) keyBytes valueBytes) kt vt) (kept 11 kt vt))
   by-proper true p e = (p, by-limit (splitFor h es cs keyBytes valueBytes) kt vt t (allowed (flagsOf h es cs .records) valueBytes) e)
-  by-proper false p e = absurd (not-refused t 11 e)
+  by-proper false p e = absurd (refused-not-ok 11 t e)
 
   accepted-left : splitRemoved h es cs keyBytes valueBytes kt vt .answer ≡ ok t
       → (proper h es cs ≡ true) × Left (splitFor h es cs keyBytes valueBytes) kt vt t (splitRemoved h es cs keyBytes valueBytes kt vt)

@@ -7,13 +7,12 @@ use mathlib.Core.List.{List}
 use Prim.Native.Nat.{ℕ}
 use native.Mathlib.Omega.{arith}
 use lib.Dec.{leb, eqb}
-use lib.ListN.{length, take, drop, length-append}
-use lib.Seq.{take-at}
+use lib.ListN.{length, take}
 use borrow.Author.Tests.{le-leb, eqb-false}
 use Rattle.records.specs.Tables.{recordsOf, epochsOf, countsOf, ascending, over}
 use Rattle.records.specs.Flags.{Flags, flags, kindOf, agrees, proper}
 use Rattle.records.specs.Answers.{After, placed}
-use Rattle.records.proofs.Tables.{length-epochsOf, length-countsOf, records-back, epochs-records}
+use Rattle.records.proofs.Tables.{over-first, over-holds, length-epochsOf, length-countsOf, records-back, epochs-records}
 use Rattle.records.proofs.Proper.{proper-inv, proper-above, proper-long, owner-head}
 use Rattle.steps.specs.Held.{Held, held, properHeld, flagsIn}
 
@@ -27,13 +26,6 @@ pub record Stands (h : Held) (f : Flags) : Type 0 where
 -- the head and tables that a call left
 abbrev pub heldIn : After → Held
 heldIn a = held (a .head) (a .epochs) (a .counts)
-
--- what stands at the start is read from there
-first : (xs old : List ℕ) (n : ℕ) → length xs ≡ n → take n (over xs old) ≡ xs
-first xs old n e = take-at xs (drop (length xs) old) n e
-
-enough : (xs old : List ℕ) (n : ℕ) → length xs ≡ n → leb n (length (over xs old)) ≡ true
-enough xs old n e = le-leb n (length (over xs old)) (omega (arith, length-append xs (drop (length xs) old)))
 
 -- the kind that owner and records tell agrees with having records
 told-agrees : (o : Option (List ℕ)) (n : ℕ) → agrees (kindOf o n) n ≡ true
@@ -59,17 +51,17 @@ module _ (f : Flags) (es cs : List ℕ) where
   n = length (f .records)
 
   epochs-first : take n (over (epochsOf (f .records)) es) ≡ epochsOf (f .records)
-  epochs-first = first (epochsOf (f .records)) es n (length-epochsOf (f .records))
+  epochs-first = over-first (epochsOf (f .records)) es n (length-epochsOf (f .records))
 
   counts-first : take n (over (countsOf (f .records)) cs) ≡ countsOf (f .records)
-  counts-first = first (countsOf (f .records)) cs n (length-countsOf (f .records))
+  counts-first = over-first (countsOf (f .records)) cs n (length-countsOf (f .records))
 
   -- FLAGS THAT WERE PLACED STAND IN THE TABLES
   pub placed-stands : ascending (f .base) (epochsOf (f .records)) ≡ true → Stands (heldIn (placed f es cs)) f
   placed-stands h =
       record {
-        are-proper = proper-by (heldIn (placed f es cs)) (told-agrees (f .owner) n) (enough (epochsOf (f .records)) es n (length-epochsOf (f .records)))
-            (enough (countsOf (f .records)) cs n (length-countsOf (f .records))) (ap (ascending (f .base)) epochs-first ∙ h);
+        are-proper = proper-by (heldIn (placed f es cs)) (told-agrees (f .owner) n) (le-leb n _ (omega (arith, length-epochsOf (f .records), over-holds (epochsOf (f .records)) es)))
+            (le-leb n _ (omega (arith, length-countsOf (f .records), over-holds (countsOf (f .records)) cs))) (ap (ascending (f .base)) epochs-first ∙ h);
         are = (λ i. flags (f .base) (owner-head f i) (recordsOf (epochs-first i) (counts-first i))) ∙ ap (flags (f .base) (f .owner)) (records-back (f .records));
       }
 

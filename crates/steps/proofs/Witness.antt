@@ -1,5 +1,5 @@
 -- The premises of demand 3 can be met: an owned history on {7:10, 9:5} above base 5, with tables, rows and output as long as they must be.
--- 8 bytes are added at 9 and 15 removed, in five steps with each strategy; so it refunds like one removal of 7. By computation.
+-- 8 bytes are added at 9 and 15 removed, in six steps with each strategy; so it refunds like one removal of 7. By computation.
 -- Assumes nothing.
 use mathlib.Core.Path.{_≡_, refl}
 use mathlib.Core.Logic.{inl, inr}
@@ -26,7 +26,7 @@ use Rattle.removal.specs.Removing.{allUnder, fault, minus, removed}
 use Rattle.removal.specs.Calls.{combinedRemoved}
 use Rattle.steps.specs.Held.{Held, held as holding, flagsIn}
 use Rattle.steps.specs.History.{Edit, Step, add, remove, State, state, step, run, allAdded, allRemoved, refundAt}
-use Rattle.steps.specs.Demand.{Single, Removes, Premises, Refunds}
+use Rattle.steps.specs.Demand.{Single, Adds, Removes, Premises, Refunds}
 use Rattle.steps.proofs.SmallSteps.{small-steps}
 
 abbrev owner : Option (List ℕ)
@@ -49,7 +49,7 @@ edit o e s n =
     record { incoming = exactly (flags e o []); strategy = s; amount = n; epochs = replicate 2 0; counts = replicate 2 0; key-rows = rows 0; value-rows = rows 3 }
 
 abbrev firsts : List Step
-firsts = add (edit none 9 UseTheirs 8) ∷ remove (edit owner 6 RaiseIssue 3) ∷ remove (edit none 65535 UseOurs 5) ∷ []
+firsts = add (edit none 9 UseTheirs 5) ∷ remove (edit owner 6 RaiseIssue 3) ∷ add (edit owner 9 RaiseIssue 3) ∷ remove (edit none 65535 UseOurs 5) ∷ []
 
 abbrev laters : List Step
 laters = remove (edit none 9 RaiseIssue 1) ∷ remove (edit owner 7 UseOurs 6) ∷ []
@@ -66,7 +66,10 @@ ours : (e : ℕ) → Single start (exactly (flags e owner []))
 unfolding proper ascending epochsOf countsOf
 ours e = record { are-proper = refl; kind-0-or-2 = refl; no-owner-or-ours = inr refl }
 
--- a removal of incoming flags like these
+-- additions and removals with incoming flags like these
+adds : (o : Option (List ℕ)) (s : MergingOwnersStrategy) (n : ℕ) → Single start (exactly (flags 9 o [])) → Adds start 9 (edit o 9 s n)
+adds o s n i = record { single = i; at-e = refl; record-room = record { epochs-long = omega arith; counts-long = omega arith } }
+
 removes : (o : Option (List ℕ)) (e : ℕ) (s : MergingOwnersStrategy) (n : ℕ) → Single start (exactly (flags e o [])) → 5 < e → n ≤ largestRemoval → Removes start (edit o e s n)
 removes o e s n i p q =
     record {
@@ -87,9 +90,17 @@ met =
       latest = refl;
       four-or-more = omega arith;
       first-steps = (
-        record { single = unowned 9; at-e = refl; record-room = record { epochs-long = omega arith; counts-long = omega arith } },
+        adds none UseTheirs 5 (unowned 9),
         omega arith,
-        (removes owner 6 RaiseIssue 3 (ours 6) (omega arith) (omega arith), omega arith, (removes none 65535 UseOurs 5 (unowned 65535) (omega arith) (omega arith), omega arith, tt)),
+        (
+          removes owner 6 RaiseIssue 3 (ours 6) (omega arith) (omega arith),
+          omega arith,
+          (
+            adds owner RaiseIssue 3 (ours 9),
+            omega arith,
+            (removes none 65535 UseOurs 5 (unowned 65535) (omega arith) (omega arith), omega arith, tt),
+          ),
+        ),
       );
       later-steps = (removes none 9 RaiseIssue 1 (unowned 9) (omega arith) (omega arith), (removes owner 7 UseOurs 6 (ours 7) (omega arith) (omega arith), tt));
       not-below-0 = omega arith;

@@ -4,10 +4,10 @@ use mathlib.Core.Path.{_≡_, refl, sym, ap, _∙_}
 use mathlib.Core.Bool.{Bool, true, false, cond, _&&_}
 use mathlib.Core.List.{List, [], _∷_}
 use Prim.Native.Nat.{ℕ}
-use native.Mathlib.Omega.{arith}
 use lib.Dec.{leb}
 use lib.ListN.{length}
-use Rattle.records.specs.Answers.{Answer, ok, refused}
+use Rattle.records.specs.Answers.{Answer, ok}
+use Rattle.records.proofs.Answers.{refused-not-ok}
 use Rattle.rows.specs.Rows.{Row, compared, ascends, Tables, roomIn, overRows}
 use Rattle.rows.specs.Removals.{Removal, nothing, basic, sectioned, removalOf, proper, rowsOfRemoval, stateOf}
 use Rattle.rows.specs.declared.order.Order.the-variants.{Less}
@@ -74,9 +74,6 @@ proper-ascends (Sectioned n) t h = proper-rows n t h .rises
 ok-same : (x y : Removed) → _≡_ {A = Answer Removed} (ok x) (ok y) → x ≡ y
 ok-same x y e = cc
 
-refused-ok : (n : ℕ) (s : Removed) → _≡_ {A = Answer Removed} (refused n) (ok s) → ⊥
-refused-ok n s e = let z : _≡_ {A = ℕ} 0 1 = cc in omega arith
-
 -- an accepted call: the state and the tables are the sum, and proper
 pub record Read (v : ℕ) (x : Removed) (t : Tables) (y : Removed) (u : Tables) (s : Removed) (a : After) : Type 0 where
   pub is-sum : removalOf s (a .rows) ≡ sum v (removalOf x t) (removalOf y u)
@@ -104,6 +101,6 @@ sum-read v x t y u s h = go (proper x t) refl (proper y u) refl (roomIn (length 
           is-proper = ap (λ (z : Removed). proper z (placed .rows)) (sym e)
               ∙ proper-over all t (sum-ascends v (removalOf x t) (removalOf y u) (proper-ascends x t ep) (proper-ascends y u eq));
         }
-    go true ep true eq false k = absurd (refused-ok 10 s k)
-    go true ep false eq f k = absurd (refused-ok 11 s k)
-    go false ep q eq f k = absurd (refused-ok 11 s k)
+    go true ep true eq false k = absurd (refused-not-ok 10 s k)
+    go true ep false eq f k = absurd (refused-not-ok 11 s k)
+    go false ep q eq f k = absurd (refused-not-ok 11 s k)

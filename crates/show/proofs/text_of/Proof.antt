@@ -3,14 +3,14 @@ use Prim.Native.Nat.{ℕ, _≤_}
 use native.Mathlib.Omega.{arith}
 use mathlib.Core.Path.{_≡_, sym, ap, _∙_}
 use mathlib.Core.List.{List}
-use lib.ListN.{length, take, drop, length-append}
-use lib.Seq.{take-at}
+use lib.ListN.{length, take}
 use borrow.Author.Needs.{needs}
 use Rattle.io.specs.Counts.{Counts}
 use Rattle.records.specs.Tables.{over}
 use Rattle.records.specs.Answers.{wrote, writing}
 use Rattle.records.specs.declared.answer.Counted.{Counted}
 use Rattle.records.specs.declared.answer.Counted.the-variants.{Count, Refused}
+use Rattle.records.proofs.Tables.{over-first, over-holds}
 use Rattle.records.proofs.Answers.{writing-fits}
 use Rattle.records.proofs.Only.{wrote-only}
 use Rattle.listing.specs.Listed.{listed}
@@ -25,8 +25,8 @@ module _ (r : Counted) (xs old new : List ℕ) (fits : length xs ≤ length old)
 
   at-start : (n : ℕ) → n ≡ length xs → Counts n new × (take n new ≡ xs)
   at-start n h =
-      let t : take n new ≡ xs = rw (is-written .1) (take-at xs (drop (length xs) old) n (sym h)) in
-      let l : n ≤ length new = omega (arith, ap length (is-written .1), length-append xs (drop (length xs) old)) in
+      let t : take n new ≡ xs = rw (is-written .1) (over-first xs old n (sym h)) in
+      let l : n ≤ length new = omega (arith, ap length (is-written .1), over-holds xs old) in
       ((l, h ∙ ap length (sym t)), t)
 
 room : (c : tie.After-list) → length (listed (c .before .before .before .before .args .src .now)) ≤ length (c .before .before .before .before .args .out .now)

@@ -63,10 +63,10 @@ loop-again : tie.Need-loop-again Inv-loop μ-loop
 loop-again c = λ kind e h. going-more (c .before .before .before .loop .inv kind e h) (omega (arith, h .all-there, c .before .before .loop-test .taken)) _ (c .varint-at .result) (c .before .be16-at .ensures) (c .varint-at .ensures)
 
 same-length : tie.Need-same-length Inv-loop μ-loop
-same-length c = going (c .before) .filling .epochs-long
+same-length c = going (c .before) .filling .epochs .long
 
 same-length-2 : tie.Need-same-length-2 Inv-loop μ-loop
-same-length-2 c = going (c .before) .filling .counts-long
+same-length-2 c = going (c .before) .filling .counts .long
 
 returns : tie.Need-returns Inv-loop μ-loop
 returns c = going-done (going (c .before)) (omega (arith, c .before .before .before .before .before .before .pre .0 .all-there, c .loop-test .left))

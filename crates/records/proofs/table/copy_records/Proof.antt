@@ -55,6 +55,6 @@ copy-records-spec =
     (λ c. search needs)
     (λ c. search needs)
     loop-again
-    (λ c. c .before .loop .inv .1 .epochs-long)
-    (λ c. c .before .loop .inv .1 .counts-long)
+    (λ c. c .before .loop .inv .1 .epochs .long)
+    (λ c. c .before .loop .inv .1 .counts .long)
     returns)

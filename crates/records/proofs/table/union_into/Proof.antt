@@ -64,6 +64,6 @@ union-into-spec =
     (λ c. omega (arith, room c .0))
     (λ c. omega arith)
     loop-again
-    (λ c. c .before .loop .inv .1 .epochs-long)
-    (λ c. c .before .loop .inv .1 .counts-long)
+    (λ c. c .before .loop .inv .1 .epochs .long)
+    (λ c. c .before .loop .inv .1 .counts .long)
     returns)

@@ -82,13 +82,13 @@ remaining-into-spec =
     (λ c κs. c .before .before .before .before .before .before .before .before .before .before .before .pre .1 .1 .0)
     (λ c. omega (arith, room c .0))
     (λ c. room c .0)
-    (λ c. omega (arith, room c .1))
+    (λ c. omega (arith, room c .1, c .before .before .before .before .loop .inv .1 .counts .long, c .before .before .before .before .before .before .before .before .before .before .before .before .before .good))
     (λ c. room c .1)
     (λ c. omega (arith, room c .0))
     (λ c. omega (arith, c .before .before .next-record .ensures .falls))
     loop-again
     (λ c. omega (arith, c .before .before .next-record .ensures .falls))
     loop-again-2
-    (λ c. c .before .loop .inv .1 .epochs-long)
-    (λ c. c .before .loop .inv .1 .counts-long)
+    (λ c. c .before .loop .inv .1 .epochs .long)
+    (λ c. c .before .loop .inv .1 .counts .long)
     returns)
