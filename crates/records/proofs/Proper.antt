@@ -1,7 +1,7 @@
 -- What proper flags are, read back from `proper`: its tests one by one, their tables, that their kind is the one that owner and records
 -- tell, and that a head's owner is that of its flags.
 -- Assumes nothing.
-use mathlib.Core.Path.{_≡_, refl, sym, _∙_}
+use mathlib.Core.Path.{_≡_, refl, sym, ap, _∙_}
 use mathlib.Core.Bool.{Bool, true, false, _&&_, and-eq-true-iff}
 use mathlib.Core.Option.{Option, none, some}
 use mathlib.Core.List.{List}
@@ -11,12 +11,12 @@ use lib.Dec.{leb, eqb}
 use lib.ListN.{length, take}
 use lib.Seq.{length-take-le}
 use borrow.Author.Tests.{leb-true, ne-eqb}
-use Rattle.records.specs.Tables.{recordsOf, ascending, Table, Above}
+use Rattle.records.specs.Tables.{recordsOf, epochsOf, ascending, Table, Above}
 use Rattle.records.specs.Flags.{Flags, owned, ownerIf, idOf, ownerOf, kindOf, headOf, agrees, proper}
 use Rattle.records.specs.declared.head.Head.{Head}
 use Rattle.records.specs.declared.head.Kind.{Kind}
 use Rattle.records.specs.declared.head.Kind.the-variants.{SingleEpoch, MultiEpoch, SingleEpochOwned, MultiEpochOwned}
-use Rattle.records.proofs.Tables.{length-recordsOf}
+use Rattle.records.proofs.Tables.{length-recordsOf, epochs-records}
 use Rattle.records.proofs.Unions.{above-table}
 
 pub record IsProper (h : Head) (es cs : List ℕ) : Type 0 where
@@ -54,6 +54,10 @@ module _ {h : Head} {es cs : List ℕ} (p : IsProper h es cs) where
 
   pub proper-long : length (recordsOf (take (h .records) es) (take (h .records) cs)) ≡ h .records
   proper-long = length-recordsOf _ _ (proper-above .even) ∙ length-take-le (h .records) es (p .epochs-long)
+
+  -- the epochs of the records ascend above the base
+  pub proper-ascends : ascending (h .base) (epochsOf (recordsOf (take (h .records) es) (take (h .records) cs))) ≡ true
+  proper-ascends = ap (ascending (h .base)) (epochs-records _ _ (proper-above .even)) ∙ p .ascends
 
 some-records : (n : ℕ) → leb 1 n ≡ true → eqb n 0 ≡ false
 some-records n h = let p = leb-true 1 n h in ne-eqb n 0 (λ e. omega arith)

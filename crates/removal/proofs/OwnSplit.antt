@@ -15,11 +15,11 @@ use Rattle.records.specs.Flags.{Flags, flags, idOf, flagsOf, headOf, proper}
 use Rattle.records.specs.Answers.{Answer, ok, placed, placing}
 use Rattle.records.specs.declared.head.Head.{Head}
 use Rattle.records.specs.declared.head.Kind.the-variants.{SingleEpoch, SingleEpochOwned}
-use Rattle.records.proofs.Tables.{epochs-cons, epochs-records}
+use Rattle.records.proofs.Tables.{epochs-cons}
 use Rattle.records.proofs.Rising.{asc-head, asc-tail}
 use Rattle.records.proofs.Held.{has-none}
 use Rattle.records.proofs.Unions.{union-none}
-use Rattle.records.proofs.Proper.{proper-inv, proper-above, proper-long}
+use Rattle.records.proofs.Proper.{proper-inv, proper-ascends, proper-long}
 use Rattle.records.proofs.Answers.{after-placed}
 use Rattle.flags.specs.declared.owners.MergingOwnersStrategy.{MergingOwnersStrategy}
 use Rattle.flags.proofs.Choosing.{owner-stays}
@@ -131,7 +131,7 @@ module _ (ours : Head) (oes ocs : List ℕ) (theirs : Head) (tes tcs : List ℕ)
       let f : Flags = flagsOf ours oes ocs in
       let i = proper-inv ours oes ocs p in
       let l = proper-long i in
-      let h = ap (ascending (ours .base)) (epochs-records _ _ (proper-above i .even)) ∙ i .ascends in
+      let h = proper-ascends i in
       combined-proper ours oes ocs theirs tes tcs x t s es cs p q r
       ∙ ap (λ (y : Removal). placing (removed s y f (flagsOf theirs tes tcs)) es cs) e
       ∙ own-placed s f (flagsOf theirs tes tcs) n h w es cs (omega arith) (omega arith)

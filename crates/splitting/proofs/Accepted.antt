@@ -10,9 +10,8 @@ use Rattle.records.specs.Tables.{At, epochsOf, ascending}
 use Rattle.records.specs.Flags.{idOf, ownerOf, flagsOf, proper}
 use Rattle.records.specs.Answers.{ok, refused}
 use Rattle.records.specs.declared.head.Head.{Head}
-use Rattle.records.proofs.Tables.{epochs-records}
 use Rattle.records.proofs.Answers.{refused-not-ok}
-use Rattle.records.proofs.Proper.{proper-inv, proper-above}
+use Rattle.records.proofs.Proper.{proper-inv, proper-ascends}
 use Rattle.rows.specs.Rows.{Tables, row, partsOf, ascends, roomIn, overRows}
 use Rattle.rows.specs.Removals.{Removal, rowsOfRemoval, stateOf, removalOf, total, proper as properRemoval}
 use Rattle.rows.proofs.Rows.{asc-none, asc-cons}
@@ -98,9 +97,7 @@ module _ (h : Head) (es cs : List ℕ) (keyBytes valueBytes : ℕ) (kt vt : Tabl
   flags-proper = accepted-left h es cs keyBytes valueBytes kt vt t e .0
 
   rises : ascending (h .base) (epochsOf (flagsOf h es cs .records)) ≡ true
-  rises =
-      let p = proper-above (proper-inv h es cs flags-proper) in
-      ap (ascending (h .base)) (epochs-records _ _ (p .even)) ∙ p .ascends
+  rises = proper-ascends (proper-inv h es cs flags-proper)
 
   -- the states, and the rows beside them, stand for the removals of the split
   pub key-stands : removalOf (t .key) (left .key-rows) ≡ s .key

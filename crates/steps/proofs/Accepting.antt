@@ -84,14 +84,14 @@ own-rows i base rs zero = sym (ap (rowsUnder i) (split-none base rs))
 own-rows i base rs (suc n) = refl
 
 -- what a removal of x's amount leaves of flags f
-abbrev lessened : Flags → List Row → Edit → State
-lessened f rows x =
+abbrev pub afterRemoval : Flags → List Row → Edit → State
+afterRemoval f rows x =
     state (heldIn (placed (rest f (x .amount)) (x .epochs) (x .counts))) (rows ++ rowsUnder (idOf (f .owner)) (split (f .base) (f .records) (x .amount)))
 
 module _ (h : Held) (rows : List Row) (x : Edit) (s : properHeld h ≡ true) (t : properHeld (x .incoming) ≡ true) where
   -- the merge of what the split left
   own-step : Incoming (flagsIn h) (flagsIn (x .incoming)) → x .amount ≤ largestRemoval → h .head .records ≤ length (x .epochs) → h .head .records ≤ length (x .counts)
-      → Room (length (flagsIn h .records) + 1) (x .value-rows) → step (state h rows) (remove x) ≡ ok (lessened (flagsIn h) rows x)
+      → Room (length (flagsIn h .records) + 1) (x .value-rows) → step (state h rows) (remove x) ≡ ok (afterRemoval (flagsIn h) rows x)
   unfolding step
   own-step w q he hc r =
       let n = x .amount in
@@ -108,10 +108,10 @@ module _ (h : Held) (rows : List Row) (x : Edit) (s : properHeld h ≡ true) (t 
 -- A REMOVAL IS ACCEPTED, AND LEAVES WHAT ITS SPLIT LEAVES
 pub removal-step : (h : Held) (f : Flags) (rows : List Row) (x : Edit) → Stands h f → properHeld (x .incoming) ≡ true → Incoming f (flagsIn (x .incoming))
     → x .amount ≤ largestRemoval → length (f .records) ≤ length (x .epochs) → length (f .records) ≤ length (x .counts) → Room (length (f .records) + 1) (x .value-rows)
-    → step (state h rows) (remove x) ≡ ok (lessened f rows x)
+    → step (state h rows) (remove x) ≡ ok (afterRemoval f rows x)
 removal-step h f rows x s t w q he hc r =
     let l = stands-long s in
-    subst (λ (g : Flags). Incoming g (flagsIn (x .incoming)) → Room (length (g .records) + 1) (x .value-rows) → step (state h rows) (remove x) ≡ ok (lessened g rows x)) (s .are)
+    subst (λ (g : Flags). Incoming g (flagsIn (x .incoming)) → Room (length (g .records) + 1) (x .value-rows) → step (state h rows) (remove x) ≡ ok (afterRemoval g rows x)) (s .are)
     (λ w r. own-step h rows x (s .are-proper) t w q (omega arith) (omega arith) r) w r
 
 -- ---- an addition

@@ -16,11 +16,11 @@ use Rattle.splitting.specs.Calls.{placing, splitRemoved}
 use Rattle.removal.specs.Removing.{allUnder, fault, minus, removed}
 use Rattle.removal.specs.Calls.{combinedRemoved}
 use Rattle.steps.specs.History.{Edit, Step, add, remove, state, step, run}
-use Rattle.steps.specs.Marked.{Answered, flagged, refusedWith, unowned, edit, toldOfStep}
+use Rattle.steps.specs.Marked.{Reply, someFlags, refusal, unowned, edit, toldOfStep}
 
 -- records of unowned flags above base 5, steps, and what the run tells
 abbrev Example : Type 0
-Example = List At × List Step × Answered
+Example = List At × List Step × Reply
 
 -- an edit with room for two rows
 abbrev narrow : Edit → Edit
@@ -38,17 +38,17 @@ narrow x =
 pub examples : List Example
 examples =
     -- a latest record of 3 bytes: 1 added and 1 removed drop it, a removal of 0 does not
-    (9 ⦂ 3 ∷ [], add (edit 9 1) ∷ remove (edit 9 1) ∷ [], flagged (flags 5 none []))
-    ∷ (9 ⦂ 3 ∷ [], remove (edit 9 0) ∷ [], flagged (flags 5 none (9 ⦂ 3 ∷ [])))
+    (9 ⦂ 3 ∷ [], add (edit 9 1) ∷ remove (edit 9 1) ∷ [], someFlags (flags 5 none []))
+    ∷ (9 ⦂ 3 ∷ [], remove (edit 9 0) ∷ [], someFlags (flags 5 none (9 ⦂ 3 ∷ [])))
     -- more removed than added so far: 1 removed drops the record of 4, and 1 added makes one of 1
-    ∷ (9 ⦂ 4 ∷ [], remove (edit 9 1) ∷ add (edit 9 1) ∷ [], flagged (flags 5 none (9 ⦂ 1 ∷ [])))
-    ∷ (9 ⦂ 4 ∷ [], remove (edit 9 0) ∷ [], flagged (flags 5 none (9 ⦂ 4 ∷ [])))
+    ∷ (9 ⦂ 4 ∷ [], remove (edit 9 1) ∷ add (edit 9 1) ∷ [], someFlags (flags 5 none (9 ⦂ 1 ∷ [])))
+    ∷ (9 ⦂ 4 ∷ [], remove (edit 9 0) ∷ [], someFlags (flags 5 none (9 ⦂ 4 ∷ [])))
     -- a count past the limit
-    ∷ (9 ⦂ 4294967295 ∷ [], add (edit 9 1) ∷ [], refusedWith 6)
+    ∷ (9 ⦂ 4294967295 ∷ [], add (edit 9 1) ∷ [], refusal 6)
     -- a removal of 4,294,967,293
-    ∷ (9 ⦂ 4 ∷ [], remove (edit 9 4294967293) ∷ [], refusedWith 8)
+    ∷ (9 ⦂ 4 ∷ [], remove (edit 9 4294967293) ∷ [], refusal 8)
     -- rows for no more than the records
-    ∷ (7 ⦂ 10 ∷ 9 ⦂ 5 ∷ [], remove (narrow (edit 9 20)) ∷ [], refusedWith 10)
+    ∷ (7 ⦂ 10 ∷ 9 ⦂ 5 ∷ [], remove (narrow (edit 9 20)) ∷ [], refusal 10)
     ∷ []
 
 pub needed : map (λ (x : Example). toldOfStep (run (state (unowned 5 (x .0)) []) (x .1))) examples ≡ map (λ (x : Example). x .2) examples

@@ -3,7 +3,7 @@
 -- Assumes nothing.
 use mathlib.Core.Path.{_≡_, refl, sym, ap, _∙_, subst}
 use mathlib.Core.Bool.{true}
-use mathlib.Core.List.{List, [], _∷_, _++_}
+use mathlib.Core.List.{List, [], _∷_}
 use Prim.Native.Nat.{ℕ, _+_, _-_, _≤_, _<_}
 use native.Mathlib.Omega.{arith}
 use lib.ListN.{length}
@@ -11,7 +11,7 @@ use Rattle.fields.specs.Varint.{largest}
 use Rattle.records.specs.Tables.{At, _⦂_, epochsOf, ascending, held, put}
 use Rattle.records.specs.Flags.{Flags, flags, idOf, ownerOf}
 use Rattle.records.specs.Answers.{ok, placed}
-use Rattle.rows.specs.Rows.{Row, rowsUnder}
+use Rattle.rows.specs.Rows.{Row}
 use Rattle.rows.proofs.Rows.{room-less}
 use Rattle.splitting.specs.Sections.{split}
 use Rattle.splitting.proofs.Sections.{split-none}
@@ -21,7 +21,7 @@ use Rattle.steps.specs.Held.{Held, flagsIn}
 use Rattle.steps.specs.History.{Edit, Step, add, remove, State, state, step, allAdded, allRemoved}
 use Rattle.steps.specs.Demand.{Single, Adds, Removes, First, Then}
 use Rattle.steps.proofs.Standing.{Stands, heldIn, placed-stands, stands-ascend}
-use Rattle.steps.proofs.Accepting.{bare, removal-step, addition-step}
+use Rattle.steps.proofs.Accepting.{bare, afterRemoval, removal-step, addition-step}
 use Rattle.steps.proofs.Remaining.{remaining, remaining-none, remaining-twice, given, given-none, given-more, given-zero, given-both, given-twice}
 use Rattle.steps.proofs.Latest.{upTo, length-up, latest-above, any-count, held-latest, put-latest, taken-back, given-once}
 use Rattle.steps.proofs.Runs.{no-rows, Ran, run-none, run-step}
@@ -43,19 +43,17 @@ module _ (f : Held) where
   single-incoming : (rs : List At) (t : Held) → Single f t → b < t .head .base → Incoming (at rs) (flagsIn t)
   single-incoming rs t s p = record { bare = bare t (s .are-proper) (s .kind-0-or-2); higher = p; owner = s .no-owner-or-ours }
 
-  -- what remains ascends, and is no more
+  -- what remains stands where it is placed
   remaining-stands : (rs : List At) (n : ℕ) (es cs : List ℕ) → ascending b (epochsOf rs) ≡ true
       → Stands (heldIn (placed (at (remaining b rs n)) es cs)) (at (remaining b rs n))
   remaining-stands rs n es cs a = placed-stands (at (remaining b rs n)) es cs (minus-above b rs (split b rs n) a)
 
   -- what a removal leaves of records and rows
-  abbrev after : List At → List Row → Edit → State
-  after rs rows x =
-      state (heldIn (placed (at (remaining b rs (x .amount))) (x .epochs) (x .counts)))
-      (rows ++ rowsUnder owner (split b rs (x .amount)))
+  abbrev left : List At → List Row → Edit → State
+  left rs rows x = afterRemoval (at rs) rows x
 
   removed-once : (h : Held) (rs : List At) (rows : List Row) (x : Edit) → Stands h (at rs) → length rs ≤ f .head .records → Removes f x
-      → step (state h rows) (remove x) ≡ ok (after rs rows x)
+      → step (state h rows) (remove x) ≡ ok (left rs rows x)
   removed-once h rs rows x s l r =
       let m = r .record-room in
       removal-step h (at rs) rows x s (r .single .are-proper) (single-incoming rs (x .incoming) (r .single) (r .above-our-base)) (r .at-most) (omega arith) (omega arith)
@@ -73,18 +71,18 @@ module _ (f : Held) where
       let n = x .amount in
       let a = stands-ascend s in
       let m = minus-long rs (split b rs n) in
-      let q : Ran (after rs rows x) xs (at (remaining b (remaining b rs n) (allRemoved xs))) (split b (remaining b rs n) (allRemoved xs)) =
-      then-runs (after rs rows x .flags) (remaining b rs n) (after rs rows x .rows) xs (p .1) (remaining-stands rs n (x .epochs) (x .counts) a) (omega arith) in
-      run-step (state h rows) (remove x) xs (at (remaining b rs (n + allRemoved xs))) (split b rs n) (split b (remaining b rs n) (allRemoved xs)) (split b rs (n + allRemoved xs)) (after rs rows x)
+      let q : Ran (left rs rows x) xs (at (remaining b (remaining b rs n) (allRemoved xs))) (split b (remaining b rs n) (allRemoved xs)) =
+      then-runs (left rs rows x .flags) (remaining b rs n) (left rs rows x .rows) xs (p .1) (remaining-stands rs n (x .epochs) (x .counts) a) (omega arith) in
+      run-step (state h rows) (remove x) xs (at (remaining b rs (n + allRemoved xs))) (split b rs n) (split b (remaining b rs n) (allRemoved xs)) (split b rs (n + allRemoved xs)) (left rs rows x)
       (removed-once h rs rows x s l (p .0)) refl (λ d. given-twice d b rs n (allRemoved xs) a)
-      (subst (λ (k : List At). Ran (after rs rows x) xs (at k) (split b (remaining b rs n) (allRemoved xs))) (remaining-twice b rs n (allRemoved xs) a) q)
+      (subst (λ (k : List At). Ran (left rs rows x) xs (at k) (split b (remaining b rs n) (allRemoved xs))) (remaining-twice b rs n (allRemoved xs) a) q)
 
   -- an addition at the latest epoch
-  abbrev raised : List At → ℕ → ℕ → List Row → Edit → State
-  raised rs e k rows x = state (heldIn (placed (at (upTo rs e (k + x .amount))) (x .epochs) (x .counts))) rows
+  abbrev grown : List At → ℕ → ℕ → List Row → Edit → State
+  grown rs e k rows x = state (heldIn (placed (at (upTo rs e (k + x .amount))) (x .epochs) (x .counts))) rows
 
   added-once : (h : Held) (rs : List At) (rows : List Row) (e k : ℕ) (x : Edit) → Stands h (at (upTo rs e k)) → length rs + 1 ≤ f .head .records → Adds f e x
-      → k + x .amount ≤ largest → step (state h rows) (add x) ≡ ok (raised rs e k rows x)
+      → k + x .amount ≤ largest → step (state h rows) (add x) ≡ ok (grown rs e k rows x)
   added-once h rs rows e k x s l r p =
       let m = r .record-room in
       let a = stands-ascend s in
@@ -94,9 +92,9 @@ module _ (f : Held) where
       (omega (arith, there)) ((λ i. at (put (r .at-e i ⦂ (there i + x .amount)) (upTo rs e k))) ∙ ap at (put-latest b e k (k + x .amount) rs a))
       (omega (arith, length-up rs e (k + x .amount))) (omega (arith, length-up rs e (k + x .amount)))
 
-  raised-stands : (rs : List At) (e k n : ℕ) (es cs : List ℕ) → ascending b (epochsOf (upTo rs e k)) ≡ true
+  grown-stands : (rs : List At) (e k n : ℕ) (es cs : List ℕ) → ascending b (epochsOf (upTo rs e k)) ≡ true
       → Stands (heldIn (placed (at (upTo rs e n)) es cs)) (at (upTo rs e n))
-  raised-stands rs e k n es cs a = placed-stands (at (upTo rs e n)) es cs (any-count b e k n rs a)
+  grown-stands rs e k n es cs a = placed-stands (at (upTo rs e n)) es cs (any-count b e k n rs a)
 
   -- FIRST ADDITIONS AND REMOVALS: the latest record, of k bytes now where c were at first and A were added and R removed, gains what is added less what is removed
   pub first-runs : (h : Held) (rs : List At) (rows : List Row) (e c A R k : ℕ) (xs : List Step) → First f e c A R xs → Stands h (at (upTo rs e k)) → length rs + 1 ≤ f .head .records
@@ -108,19 +106,19 @@ module _ (f : Held) where
   first-runs h rs rows e c A R k (add x ∷ xs) p s l four le eq =
       let n = x .amount in
       let m : k + n + allAdded xs - allRemoved xs ≡ k + (n + allAdded xs) - allRemoved xs = omega arith in
-      let q = first-runs (raised rs e k rows x .flags) rs rows e c (A + n) R (k + n) xs (p .2) (raised-stands rs e k (k + n) (x .epochs) (x .counts) (stands-ascend s)) l four (omega arith) (omega arith) in
-      run-step (state h rows) (add x) xs (at (upTo rs e (k + (n + allAdded xs) - allRemoved xs))) [] (e ⦂ allRemoved xs ∷ []) (e ⦂ allRemoved xs ∷ []) (raised rs e k rows x)
+      let q = first-runs (grown rs e k rows x .flags) rs rows e c (A + n) R (k + n) xs (p .2) (grown-stands rs e k (k + n) (x .epochs) (x .counts) (stands-ascend s)) l four (omega arith) (omega arith) in
+      run-step (state h rows) (add x) xs (at (upTo rs e (k + (n + allAdded xs) - allRemoved xs))) [] (e ⦂ allRemoved xs ∷ []) (e ⦂ allRemoved xs ∷ []) (grown rs e k rows x)
       (added-once h rs rows e k x s l (p .0) (omega arith)) (no-rows rows owner) (λ d. given-more d (e ⦂ allRemoved xs ∷ []))
-      (subst (λ (i : ℕ). Ran (raised rs e k rows x) xs (at (upTo rs e i)) (e ⦂ allRemoved xs ∷ [])) m q)
+      (subst (λ (i : ℕ). Ran (grown rs e k rows x) xs (at (upTo rs e i)) (e ⦂ allRemoved xs ∷ [])) m q)
   first-runs h rs rows e c A R k (remove x ∷ xs) p s l four le eq =
       let n = x .amount in
       let a = stands-ascend s in
       let room : 4 + n ≤ k = omega arith in
       let m : k - n + allAdded xs - allRemoved xs ≡ k + allAdded xs - (n + allRemoved xs) = omega arith in
-      let t : Stands (after (upTo rs e k) rows x .flags) (at (upTo rs e (k - n))) =
-      subst (λ (l : List At). Stands (after (upTo rs e k) rows x .flags) (at l)) (taken-back b rs e k n a room) (remaining-stands (upTo rs e k) n (x .epochs) (x .counts) a) in
-      let q = first-runs (after (upTo rs e k) rows x .flags) rs (after (upTo rs e k) rows x .rows) e c A (R + n) (k - n) xs (p .2) t l four (omega arith) (omega arith) in
+      let t : Stands (left (upTo rs e k) rows x .flags) (at (upTo rs e (k - n))) =
+      subst (λ (l : List At). Stands (left (upTo rs e k) rows x .flags) (at l)) (taken-back b rs e k n a room) (remaining-stands (upTo rs e k) n (x .epochs) (x .counts) a) in
+      let q = first-runs (left (upTo rs e k) rows x .flags) rs (left (upTo rs e k) rows x .rows) e c A (R + n) (k - n) xs (p .2) t l four (omega arith) (omega arith) in
       run-step (state h rows) (remove x) xs (at (upTo rs e (k + allAdded xs - (n + allRemoved xs)))) (split b (upTo rs e k) n) (e ⦂ allRemoved xs ∷ []) (e ⦂ (n + allRemoved xs) ∷ [])
-      (after (upTo rs e k) rows x) (removed-once h (upTo rs e k) rows x s (omega (arith, length-up rs e k)) (p .0)) refl
+      (left (upTo rs e k) rows x) (removed-once h (upTo rs e k) rows x s (omega (arith, length-up rs e k)) (p .0)) refl
       (λ d. ap (λ (g : ℕ). g + given d (e ⦂ allRemoved xs ∷ [])) (given-once d b rs e k n room) ∙ given-both d e n (allRemoved xs) [])
-      (subst (λ (i : ℕ). Ran (after (upTo rs e k) rows x) xs (at (upTo rs e i)) (e ⦂ allRemoved xs ∷ [])) m q)
+      (subst (λ (i : ℕ). Ran (left (upTo rs e k) rows x) xs (at (upTo rs e i)) (e ⦂ allRemoved xs ∷ [])) m q)

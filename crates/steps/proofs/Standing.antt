@@ -12,9 +12,9 @@ use borrow.Author.Tests.{le-leb, eqb-false}
 use Rattle.records.specs.Tables.{recordsOf, epochsOf, countsOf, ascending, over}
 use Rattle.records.specs.Flags.{Flags, flags, kindOf, agrees, proper}
 use Rattle.records.specs.Answers.{After, placed}
-use Rattle.records.proofs.Tables.{over-first, over-holds, length-epochsOf, length-countsOf, records-back, epochs-records}
-use Rattle.records.proofs.Proper.{proper-inv, proper-above, proper-long, owner-head}
-use Rattle.steps.specs.Held.{Held, held, properHeld, flagsIn}
+use Rattle.records.proofs.Tables.{over-first, over-holds, length-epochsOf, length-countsOf, records-back}
+use Rattle.records.proofs.Proper.{proper-inv, proper-ascends, proper-long, owner-head}
+use Rattle.steps.specs.Held.{Held, holding, properHeld, flagsIn}
 
 -- held flags are proper, and these
 pub record Stands (h : Held) (f : Flags) : Type 0 where
@@ -25,7 +25,7 @@ pub record Stands (h : Held) (f : Flags) : Type 0 where
 
 -- the head and tables that a call left
 abbrev pub heldIn : After → Held
-heldIn a = held (a .head) (a .epochs) (a .counts)
+heldIn a = holding (a .head) (a .epochs) (a .counts)
 
 -- the kind that owner and records tell agrees with having records
 told-agrees : (o : Option (List ℕ)) (n : ℕ) → agrees (kindOf o n) n ≡ true
@@ -71,8 +71,7 @@ module _ {h : Held} {f : Flags} (s : Stands h f) where
   -- the records ascend above the base, and the head tells their number
   pub stands-ascend : ascending (f .base) (epochsOf (f .records)) ≡ true
   stands-ascend =
-      let p = proper-above (proper-inv (h .head) (h .epochs) (h .counts) (s .are-proper)) in
-      ap (λ (g : Flags). ascending (g .base) (epochsOf (g .records))) (sym (s .are)) ∙ ap (ascending (h .head .base)) (epochs-records _ _ (p .even)) ∙ p .ascends
+      ap (λ (g : Flags). ascending (g .base) (epochsOf (g .records))) (sym (s .are)) ∙ proper-ascends (proper-inv (h .head) (h .epochs) (h .counts) (s .are-proper))
 
   pub stands-long : length (f .records) ≡ h .head .records
   stands-long = ap (λ (g : Flags). length (g .records)) (sym (s .are)) ∙ proper-long (proper-inv (h .head) (h .epochs) (h .counts) (s .are-proper))

@@ -24,7 +24,7 @@ use Rattle.splitting.specs.Sections.{largestRemoval, spare, section, sections, 
 use Rattle.splitting.specs.Calls.{placing, splitRemoved}
 use Rattle.removal.specs.Removing.{allUnder, fault, minus, removed}
 use Rattle.removal.specs.Calls.{combinedRemoved}
-use Rattle.steps.specs.Held.{Held, held as holding, flagsIn}
+use Rattle.steps.specs.Held.{Held, holding, flagsIn}
 use Rattle.steps.specs.History.{Edit, Step, add, remove, State, state, step, run, allAdded, allRemoved, refundAt}
 use Rattle.steps.specs.Demand.{Single, Adds, Removes, Premises, Refunds}
 use Rattle.steps.proofs.SmallSteps.{small-steps}

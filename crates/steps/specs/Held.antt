@@ -21,8 +21,8 @@ pub record Held : Type 0 where
   pub counts : List ℕ
 
 -- held flags of these three
-abbrev pub held : Head → List ℕ → List ℕ → Held
-held h es cs = record { head = h; epochs = es; counts = cs }
+abbrev pub holding : Head → List ℕ → List ℕ → Held
+holding h es cs = record { head = h; epochs = es; counts = cs }
 
 -- whether they are proper
 abbrev pub properHeld : Held → Bool

@@ -10,7 +10,7 @@ use Rattle.flags.specs.declared.owners.MergingOwnersStrategy.{MergingOwnersStra
 use Rattle.rows.specs.Rows.{Row, Tables}
 use Rattle.rows.specs.Removals.{removalOf, rowsOfRemoval}
 use Rattle.splitting.specs.Calls.{Told}
-use Rattle.steps.specs.Held.{Held, held, addedInto, splitInto, removedInto}
+use Rattle.steps.specs.Held.{Held, holding, addedInto, splitInto, removedInto}
 
 -- ---- steps
 
@@ -39,7 +39,7 @@ state f rows = record { flags = f; rows = rows }
 
 -- the flags that a merge left, beside these rows; or its refusal
 abbrev pub leftBy : After → List Row → Answer State
-leftBy a rows = cond (a .present) (ok (state (held (a .head) (a .epochs) (a .counts)) rows)) (refused (a .refusal))
+leftBy a rows = cond (a .present) (ok (state (holding (a .head) (a .epochs) (a .counts)) rows)) (refused (a .refusal))
 
 -- an addition is an adding merge
 abbrev pub addition : State → Edit → Answer State

@@ -16,7 +16,7 @@ use Rattle.rows.specs.Removals.{Removal, basic, sectioned, removalOf, rowsOfRem
 use Rattle.rows.specs.declared.removed.Removed.{Removed}
 use Rattle.sums.specs.Calls.{summed}
 use Rattle.splitting.specs.Calls.{Told}
-use Rattle.steps.specs.Held.{Held, held, flagsIn, splitInto}
+use Rattle.steps.specs.Held.{Held, holding, flagsIn, splitInto}
 use Rattle.steps.specs.History.{Edit, add, remove, State, state, step}
 
 -- what is asked: bytes to be read; a value split of records; its merge with incoming flags at 9; an amount added at an epoch; a sum at a version
@@ -27,12 +27,12 @@ pub data Question : Type 0 where
   sums : ℕ → Removal → Removal → Question
 
 -- what is told: no flags, flags, sections with the number of records visited, a removal, or a refusal
-pub data Answered : Type 0 where
-  nothing : Answered
-  flagged : Flags → Answered
-  parted : List At → ℕ → Answered
-  removed : Removal → Answered
-  refusedWith : ℕ → Answered
+pub data Reply : Type 0 where
+  noFlags : Reply
+  someFlags : Flags → Reply
+  inSections : List At → ℕ → Reply
+  someRemoval : Removal → Reply
+  refusal : ℕ → Reply
 
 -- ---- what is lent
 
@@ -46,7 +46,7 @@ rowPlaces = tables (replicate 3 zeros) places places
 
 -- unowned flags of a base and records
 abbrev pub unowned : ℕ → List At → Held
-unowned base rs = held (headOf (flags base none rs)) (epochsOf rs) (countsOf rs)
+unowned base rs = holding (headOf (flags base none rs)) (epochsOf rs) (countsOf rs)
 
 -- incoming flags of kind 0 at an epoch, and an amount
 abbrev pub edit : ℕ → ℕ → Edit
@@ -56,26 +56,26 @@ edit e n =
 -- ---- what is told
 
 -- by a reader
-abbrev pub toldOfReader : After → Answered
-toldOfReader a = cond (a .present) (flagged (flagsOf (a .head) (a .epochs) (a .counts))) (cond (eqb (a .refusal) 0) nothing (refusedWith (a .refusal)))
+abbrev pub toldOfReader : After → Reply
+toldOfReader a = cond (a .present) (someFlags (flagsOf (a .head) (a .epochs) (a .counts))) (cond (eqb (a .refusal) 0) noFlags (refusal (a .refusal)))
 
 -- by a split
-abbrev pub toldOfSplit : Answer Told → Tables → Answered
-toldOfSplit (refused n) t = refusedWith n
-toldOfSplit (ok s) t = parted (partsOf (rowsOfRemoval (removalOf (s .value) t))) (s .visited)
+abbrev pub toldOfSplit : Answer Told → Tables → Reply
+toldOfSplit (refused n) t = refusal n
+toldOfSplit (ok s) t = inSections (partsOf (rowsOfRemoval (removalOf (s .value) t))) (s .visited)
 
 -- by a step of a history
-abbrev pub toldOfStep : Answer State → Answered
-toldOfStep (refused n) = refusedWith n
-toldOfStep (ok st) = flagged (flagsIn (st .flags))
+abbrev pub toldOfStep : Answer State → Reply
+toldOfStep (refused n) = refusal n
+toldOfStep (ok st) = someFlags (flagsIn (st .flags))
 
 -- by a sum
-abbrev pub toldOfSum : Answer Removed → Tables → Answered
-toldOfSum (refused n) t = refusedWith n
-toldOfSum (ok x) t = removed (removalOf x t)
+abbrev pub toldOfSum : Answer Removed → Tables → Reply
+toldOfSum (refused n) t = refusal n
+toldOfSum (ok x) t = someRemoval (removalOf x t)
 
 -- what the calls tell
-unfoldable pub tell : Question → Answered
+unfoldable pub tell : Question → Reply
 tell (reads bytes) = toldOfReader (deserialized bytes places places)
 tell (splits rs n) =
     let a = splitInto (unowned 5 rs) 0 n rowPlaces rowPlaces in
@@ -90,33 +90,33 @@ tell (sums version x y) =
 
 -- a question, and what is to be told
 abbrev pub Example : Type 0
-Example = Question × Answered
+Example = Question × Reply
 
 unfoldable pub examples : List Example
 examples =
     -- P1 to P9
-    (reads [], nothing)
-    ∷ (reads (0x00 ∷ 0x00 ∷ 0x05 ∷ []), flagged (flags 5 none []))
-    ∷ (reads (0x00 ∷ 0x05 ∷ []), refusedWith 2)
-    ∷ (reads (0x01 ∷ 0x00 ∷ 0x05 ∷ []), refusedWith 2)
-    ∷ (reads (0x01 ∷ 0x00 ∷ 0x05 ∷ 0x00 ∷ 0x07 ∷ 0xAC ∷ 0x02 ∷ []), flagged (flags 5 none (7 ⦂ 300 ∷ [])))
-    ∷ (reads (0x01 ∷ 0x00 ∷ 0x05 ∷ 0x00 ∷ 0x05 ∷ 0x01 ∷ []), refusedWith 3)
-    ∷ (reads (0x01 ∷ 0x00 ∷ 0x05 ∷ 0x00 ∷ 0x07 ∷ 0x81 ∷ 0x00 ∷ []), refusedWith 3)
-    ∷ (reads (0x01 ∷ 0x00 ∷ 0x05 ∷ 0x00 ∷ 0x07 ∷ 0x80 ∷ []), refusedWith 2)
-    ∷ (reads (0x04 ∷ []), refusedWith 1)
+    (reads [], noFlags)
+    ∷ (reads (0x00 ∷ 0x00 ∷ 0x05 ∷ []), someFlags (flags 5 none []))
+    ∷ (reads (0x00 ∷ 0x05 ∷ []), refusal 2)
+    ∷ (reads (0x01 ∷ 0x00 ∷ 0x05 ∷ []), refusal 2)
+    ∷ (reads (0x01 ∷ 0x00 ∷ 0x05 ∷ 0x00 ∷ 0x07 ∷ 0xAC ∷ 0x02 ∷ []), someFlags (flags 5 none (7 ⦂ 300 ∷ [])))
+    ∷ (reads (0x01 ∷ 0x00 ∷ 0x05 ∷ 0x00 ∷ 0x05 ∷ 0x01 ∷ []), refusal 3)
+    ∷ (reads (0x01 ∷ 0x00 ∷ 0x05 ∷ 0x00 ∷ 0x07 ∷ 0x81 ∷ 0x00 ∷ []), refusal 3)
+    ∷ (reads (0x01 ∷ 0x00 ∷ 0x05 ∷ 0x00 ∷ 0x07 ∷ 0x80 ∷ []), refusal 2)
+    ∷ (reads (0x04 ∷ []), refusal 1)
     -- P10
-    ∷ (splits (7 ⦂ 10 ∷ 9 ⦂ 5 ∷ []) 6, parted (7 ⦂ 4 ∷ 9 ⦂ 2 ∷ []) 2)
-    ∷ (merges (7 ⦂ 10 ∷ 9 ⦂ 5 ∷ []) 6, flagged (flags 5 none (7 ⦂ 6 ∷ [])))
+    ∷ (splits (7 ⦂ 10 ∷ 9 ⦂ 5 ∷ []) 6, inSections (7 ⦂ 4 ∷ 9 ⦂ 2 ∷ []) 2)
+    ∷ (merges (7 ⦂ 10 ∷ 9 ⦂ 5 ∷ []) 6, someFlags (flags 5 none (7 ⦂ 6 ∷ [])))
     -- P11
-    ∷ (splits (7 ⦂ 10 ∷ 9 ⦂ 5 ∷ []) 20, parted (5 ⦂ 11 ∷ 7 ⦂ 7 ∷ 9 ⦂ 2 ∷ []) 2)
-    ∷ (merges (7 ⦂ 10 ∷ 9 ⦂ 5 ∷ []) 20, flagged (flags 5 none []))
+    ∷ (splits (7 ⦂ 10 ∷ 9 ⦂ 5 ∷ []) 20, inSections (5 ⦂ 11 ∷ 7 ⦂ 7 ∷ 9 ⦂ 2 ∷ []) 2)
+    ∷ (merges (7 ⦂ 10 ∷ 9 ⦂ 5 ∷ []) 20, someFlags (flags 5 none []))
     -- P12
-    ∷ (splits (7 ⦂ 10 ∷ 9 ⦂ 3 ∷ []) 1, parted (7 ⦂ 1 ∷ 9 ⦂ 0 ∷ []) 2)
-    ∷ (merges (7 ⦂ 10 ∷ 9 ⦂ 3 ∷ []) 1, flagged (flags 5 none (7 ⦂ 9 ∷ [])))
+    ∷ (splits (7 ⦂ 10 ∷ 9 ⦂ 3 ∷ []) 1, inSections (7 ⦂ 1 ∷ 9 ⦂ 0 ∷ []) 2)
+    ∷ (merges (7 ⦂ 10 ∷ 9 ⦂ 3 ∷ []) 1, someFlags (flags 5 none (7 ⦂ 9 ∷ [])))
     -- P13
-    ∷ (adds (7 ⦂ 300 ∷ []) 7 50, flagged (flags 5 none (7 ⦂ 350 ∷ [])))
-    ∷ (adds (7 ⦂ 300 ∷ []) 8 0, flagged (flags 5 none (7 ⦂ 300 ∷ 8 ⦂ 0 ∷ [])))
+    ∷ (adds (7 ⦂ 300 ∷ []) 7 50, someFlags (flags 5 none (7 ⦂ 350 ∷ [])))
+    ∷ (adds (7 ⦂ 300 ∷ []) 8 0, someFlags (flags 5 none (7 ⦂ 300 ∷ 8 ⦂ 0 ∷ [])))
     -- P14
-    ∷ (sums 0 (basic 4) (sectioned (row zeros 3 10 ∷ [])), removed (sectioned []))
-    ∷ (sums 1 (basic 4) (sectioned (row zeros 3 10 ∷ [])), removed (sectioned (row zeros 3 10 ∷ row zeros 65535 4 ∷ [])))
+    ∷ (sums 0 (basic 4) (sectioned (row zeros 3 10 ∷ [])), someRemoval (sectioned []))
+    ∷ (sums 1 (basic 4) (sectioned (row zeros 3 10 ∷ [])), someRemoval (sectioned (row zeros 3 10 ∷ row zeros 65535 4 ∷ [])))
     ∷ []
