@@ -1,0 +1,210 @@
+/* Storage flags of a GroveDB store: reading, writing and merging them, and splitting and adding up what was removed.
+ *
+ * Every function is proved: on any input it ends, in an answer or in a refusal, and equals a short definition (docs/STATEMENTS.md).
+ * A refusal is one of the numbers below; then everything else in the answer is 0, and nothing that was lent has changed. An answer
+ * stands at the start of what was lent for it, and what lies behind it is untouched.
+ *
+ * What a caller owes: a pointer and its length (in elements) name memory that may be read, and where the pointer is not const, written;
+ * a pointer may be null where its length is 0. What is written overlaps nothing else that the same call is given. Pointers are aligned
+ * as C asks. Nothing is kept after a call, and nothing is shared, so calls may run on any thread.
+ *
+ * Truth values (`present`, `has_owner`, `given`) are 0 for no, and anything else for yes. Link with libpetasunok.a. */
+#ifndef PETASUNOK_H
+#define PETASUNOK_H
+
+#include <stddef.h>
+#include <stdint.h>
+
+#ifdef __cplusplus
+extern "C" {
+#endif
+
+/* The refusals. */
+#define PETASUNOK_UNKNOWN_TYPE 1          /* a kind byte above 3 */
+#define PETASUNOK_WRONG_SIZE 2            /* bytes are missing, or there are too many */
+#define PETASUNOK_NON_CANONICAL 3         /* a count that is too large or not minimal, or epochs that do not rise */
+#define PETASUNOK_DIFFERENT_BASE_EPOCH 4  /* the incoming base is below ours */
+#define PETASUNOK_DIFFERENT_OWNERS 5      /* the owners differ, or a removal is not under our owner */
+#define PETASUNOK_OVERFLOW 6              /* a count would pass 32 bits, or a section takes more than its record holds */
+#define PETASUNOK_NO_STORAGE_AT_EPOCH 7   /* a section's epoch is not the base and has no record */
+#define PETASUNOK_REMOVAL_TOO_LARGE 8     /* a value split of flags with records, more than 4,294,967,292 bytes */
+#define PETASUNOK_TOTAL_TOO_LARGE 9       /* a total passes 32 bits */
+#define PETASUNOK_NO_ROOM 10              /* the answer needs more room than was lent */
+#define PETASUNOK_BAD_TABLE 11            /* flags or rows that are not proper, or a kind or strategy that does not exist */
+
+/* The kinds of flags. */
+#define PETASUNOK_SINGLE_EPOCH 0
+#define PETASUNOK_MULTI_EPOCH 1
+#define PETASUNOK_SINGLE_EPOCH_OWNED 2
+#define PETASUNOK_MULTI_EPOCH_OWNED 3
+
+/* Which owner stands where both are owned and differ. */
+#define PETASUNOK_RAISE_ISSUE 0
+#define PETASUNOK_USE_OURS 1
+#define PETASUNOK_USE_THEIRS 2
+
+/* The kinds of a removal. */
+#define PETASUNOK_NO_REMOVAL 0
+#define PETASUNOK_BASIC_REMOVAL 1
+#define PETASUNOK_SECTIONED_REMOVAL 2
+
+/* Flags without their records, which stand in the first `records` places of two tables. The owner of flags of kinds 0 and 1 is not read,
+ * and is zeros in an answer. */
+typedef struct {
+    uint8_t kind;
+    uint16_t base;
+    uint8_t owner[32];
+    size_t records;
+} petasunok_head;
+
+/* Flags, or none (present is 0), or a refusal. */
+typedef struct {
+    uint32_t refusal; /* 0: answered */
+    uint8_t present;  /* 0: no flags */
+    petasunok_head head;
+} petasunok_flags;
+
+/* A number, or a refusal. */
+typedef struct {
+    uint32_t refusal;
+    uint64_t count;
+} petasunok_count;
+
+/* A removal without its rows, which stand in the first `rows` places of three tables: 0 none, 1 basic (`bytes`), 2 sectioned (`rows`).
+ * What a kind does not have is not read, and is 0 in an answer. */
+typedef struct {
+    uint8_t kind;
+    uint32_t bytes;
+    size_t rows;
+} petasunok_removal;
+
+/* A removal, or a refusal. */
+typedef struct {
+    uint32_t refusal;
+    petasunok_removal removal;
+} petasunok_sum;
+
+/* The removals of the key's and the value's bytes, and how many records were visited for the value's; or a refusal. */
+typedef struct {
+    uint32_t refusal;
+    petasunok_removal key;
+    petasunok_removal value;
+    size_t visited;
+} petasunok_split;
+
+/* Whose owner stands: 0 none, 1 ours, 2 theirs; or a refusal. */
+typedef struct {
+    uint32_t refusal;
+    uint8_t which;
+} petasunok_owner;
+
+/* ---- reading: 1, 2, 3, 10 */
+
+/* Flags of the kind that byte 0 names; no bytes are no flags. */
+petasunok_flags petasunok_deserialize(
+    const uint8_t *src, size_t src_len,
+    uint16_t *epochs, size_t epochs_len, uint32_t *counts, size_t counts_len);
+
+/* Flags of kind 0, 1, 2 or 3, whatever byte 0 says. */
+petasunok_flags petasunok_deserialize_single_epoch(
+    const uint8_t *src, size_t src_len,
+    uint16_t *epochs, size_t epochs_len, uint32_t *counts, size_t counts_len);
+petasunok_flags petasunok_deserialize_multi_epoch(
+    const uint8_t *src, size_t src_len,
+    uint16_t *epochs, size_t epochs_len, uint32_t *counts, size_t counts_len);
+petasunok_flags petasunok_deserialize_single_epoch_owned(
+    const uint8_t *src, size_t src_len,
+    uint16_t *epochs, size_t epochs_len, uint32_t *counts, size_t counts_len);
+petasunok_flags petasunok_deserialize_multi_epoch_owned(
+    const uint8_t *src, size_t src_len,
+    uint16_t *epochs, size_t epochs_len, uint32_t *counts, size_t counts_len);
+
+/* ---- writing */
+
+/* Writes flags, and answers how many bytes they are: 11, 10. */
+petasunok_count petasunok_serialize(
+    petasunok_head flags, const uint16_t *flags_epochs, size_t flags_epochs_len, const uint32_t *flags_counts, size_t flags_counts_len,
+    uint8_t *out, size_t out_len);
+
+/* How many bytes flags are: 11. */
+petasunok_count petasunok_serialized_size(
+    petasunok_head flags, const uint16_t *flags_epochs, size_t flags_epochs_len, const uint32_t *flags_counts, size_t flags_counts_len);
+
+/* The size of flags before they are made; `changes` and `size` (of one change) count where `given` is not 0. Never refused. */
+uint32_t petasunok_approximate_size(uint8_t has_owner, uint8_t given, uint16_t changes, uint8_t size);
+
+/* ---- owners and merging */
+
+/* Whose owner stands in two encodings; it is then bytes 1 to 32 of that one: 11 for the strategy, 1, 2, 3 (ours first), 5. */
+petasunok_owner petasunok_combine_owner_id(
+    const uint8_t *ours, size_t ours_len, const uint8_t *theirs, size_t theirs_len, uint8_t strategy);
+
+/* Merges ours with the incoming flags that came with added bytes: 11, 4, 5, 6, 10. */
+petasunok_flags petasunok_combine_added_bytes(
+    petasunok_head ours, const uint16_t *ours_epochs, size_t ours_epochs_len, const uint32_t *ours_counts, size_t ours_counts_len,
+    petasunok_head theirs, const uint16_t *theirs_epochs, size_t theirs_epochs_len, const uint32_t *theirs_counts, size_t theirs_counts_len,
+    uint32_t amount, uint8_t strategy,
+    uint16_t *epochs, size_t epochs_len, uint32_t *counts, size_t counts_len);
+
+/* The same; where `present` is 0 ours is not looked at, and the answer is theirs. */
+petasunok_flags petasunok_optional_combine_added_bytes(
+    uint8_t present,
+    petasunok_head ours, const uint16_t *ours_epochs, size_t ours_epochs_len, const uint32_t *ours_counts, size_t ours_counts_len,
+    petasunok_head theirs, const uint16_t *theirs_epochs, size_t theirs_epochs_len, const uint32_t *theirs_counts, size_t theirs_counts_len,
+    uint32_t amount, uint8_t strategy,
+    uint16_t *epochs, size_t epochs_len, uint32_t *counts, size_t counts_len);
+
+/* Merges ours with the incoming flags that came with removed bytes: 11, 4, 5, then 7 or 6 at the first section, 10. */
+petasunok_flags petasunok_combine_removed_bytes(
+    petasunok_head ours, const uint16_t *ours_epochs, size_t ours_epochs_len, const uint32_t *ours_counts, size_t ours_counts_len,
+    petasunok_head theirs, const uint16_t *theirs_epochs, size_t theirs_epochs_len, const uint32_t *theirs_counts, size_t theirs_counts_len,
+    petasunok_removal removal, const uint8_t (*removal_ids)[32], size_t removal_ids_len,
+    const uint16_t *removal_epochs, size_t removal_epochs_len, const uint32_t *removal_bytes, size_t removal_bytes_len,
+    uint8_t strategy,
+    uint16_t *epochs, size_t epochs_len, uint32_t *counts, size_t counts_len);
+
+/* The same; where `present` is 0 ours is not looked at, and the answer is theirs. */
+petasunok_flags petasunok_optional_combine_removed_bytes(
+    uint8_t present,
+    petasunok_head ours, const uint16_t *ours_epochs, size_t ours_epochs_len, const uint32_t *ours_counts, size_t ours_counts_len,
+    petasunok_head theirs, const uint16_t *theirs_epochs, size_t theirs_epochs_len, const uint32_t *theirs_counts, size_t theirs_counts_len,
+    petasunok_removal removal, const uint8_t (*removal_ids)[32], size_t removal_ids_len,
+    const uint16_t *removal_epochs, size_t removal_epochs_len, const uint32_t *removal_bytes, size_t removal_bytes_len,
+    uint8_t strategy,
+    uint16_t *epochs, size_t epochs_len, uint32_t *counts, size_t counts_len);
+
+/* ---- removals */
+
+/* Splits a removal: the key's bytes at the base, the value's from the latest record down: 11, 8, 10. */
+petasunok_split petasunok_split_storage_removed_bytes(
+    petasunok_head flags, const uint16_t *flags_epochs, size_t flags_epochs_len, const uint32_t *flags_counts, size_t flags_counts_len,
+    uint32_t key, uint32_t value,
+    uint8_t (*key_ids)[32], size_t key_ids_len,
+    uint16_t *key_epochs, size_t key_epochs_len, uint32_t *key_bytes, size_t key_bytes_len,
+    uint8_t (*value_ids)[32], size_t value_ids_len,
+    uint16_t *value_epochs, size_t value_epochs_len, uint32_t *value_bytes, size_t value_bytes_len);
+
+/* Adds the right removal to the left one, in the left one's tables: 11, 10. At version 0 a basic number plus rows loses what the
+ * original's first versions lose. */
+petasunok_sum petasunok_add_assign(
+    petasunok_removal self, uint8_t (*self_ids)[32], size_t self_ids_len,
+    uint16_t *self_epochs, size_t self_epochs_len, uint32_t *self_bytes, size_t self_bytes_len,
+    petasunok_removal rhs, const uint8_t (*rhs_ids)[32], size_t rhs_ids_len,
+    const uint16_t *rhs_epochs, size_t rhs_epochs_len, const uint32_t *rhs_bytes, size_t rhs_bytes_len,
+    uint16_t version);
+
+/* Whether anything was removed, 1 or 0: 11. */
+petasunok_count petasunok_has_removal(
+    petasunok_removal removal, const uint8_t (*removal_ids)[32], size_t removal_ids_len,
+    const uint16_t *removal_epochs, size_t removal_epochs_len, const uint32_t *removal_bytes, size_t removal_bytes_len);
+
+/* All bytes of a removal: 11, 9. */
+petasunok_count petasunok_total_removed_bytes(
+    petasunok_removal removal, const uint8_t (*removal_ids)[32], size_t removal_ids_len,
+    const uint16_t *removal_epochs, size_t removal_epochs_len, const uint32_t *removal_bytes, size_t removal_bytes_len);
+
+#ifdef __cplusplus
+}
+#endif
+
+#endif

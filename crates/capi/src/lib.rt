@@ -1,0 +1,16 @@
+// Every public call under a name and in a form that C can call: a static library. A slice passes as a pointer and a length.
+mod given;
+mod merging;
+mod reading;
+mod removals;
+mod told;
+mod types;
+mod writing;
+
+pub use types::CCount;
+pub use types::CFlags;
+pub use types::CHead;
+pub use types::COwner;
+pub use types::CRemoval;
+pub use types::CSplit;
+pub use types::CSum;
