@@ -1,0 +1,2 @@
+//! Storage flags of a GroveDB store, over a static library whose every function is proved.
+pub mod sys;
