@@ -1,49 +1,48 @@
-// What C gives, as the calls take it. A byte that names no kind, removal or strategy is found before any call is made.
+// What C gives, as the calls take it. A byte that names no kind, removal or strategy is found before a call is made.
+ghost use mathlib.Core.Path.{_≡_};
+ghost use Rattle.capi.specs.Given.{isTrue, isKind, kindFound, headGiven, changesGiven, isStrategy, strategyGiven, canMerge, isRemoval, removedGiven};
+ghost use Rattle.records.specs.Flags.{kindOfByte};
 use crate::types::CHead;
 use crate::types::CRemoval;
 use codec::Changes;
 use flags::MergingOwnersStrategy;
 use records::Head;
 use records::Kind;
+use records::KindByte;
 use rows::Removed;
 use rows::StorageRemovedBytes;
 
-// Whether a byte says yes, as in C.
-pub fn is_true(byte: u8) -> bool {
-    byte != 0
+// Whether a byte says yes.
+pub fn is_true(byte: u8) -> bool
+    ensures { λ r. ⌜ r ≡ isTrue byte ⌝ }
+{
+    0 < byte
 }
 
 // Whether a byte is that of a kind.
-pub fn is_kind(byte: u8) -> bool {
-    byte <= 3
-}
-
-// Whether a byte is that of a removal.
-pub fn is_removal(byte: u8) -> bool {
-    byte <= 2
-}
-
-// Whether a byte is that of a strategy.
-pub fn is_strategy(byte: u8) -> bool {
-    byte <= 2
-}
-
-// The kind of a byte 0 to 3.
-fn kind(byte: u8) -> Kind {
-    if byte == 0 {
-        return Kind::SingleEpoch;
+pub fn is_kind(byte: u8) -> bool
+    ensures { λ r. ⌜ r ≡ isKind byte ⌝ }
+{
+    match records::kind_of_byte(byte) {
+        KindByte::Known(_) => true,
+        KindByte::Unknown => false,
     }
-    if byte == 1 {
-        return Kind::MultiEpoch;
-    }
-    if byte == 2 {
-        return Kind::SingleEpochOwned;
-    }
-    Kind::MultiEpochOwned
 }
 
-// The head whose kind is a byte 0 to 3.
-pub fn head(given: CHead) -> Head {
+// The kind of a byte; any, where it has none.
+fn kind(byte: u8) -> Kind
+    ensures { λ r. ⌜ r ≡ kindFound (kindOfByte byte) ⌝ }
+{
+    match records::kind_of_byte(byte) {
+        KindByte::Known(kind) => kind,
+        KindByte::Unknown => Kind::SingleEpoch,
+    }
+}
+
+// The head that C's head stands for.
+pub fn head(given: CHead) -> Head
+    ensures { λ r. ⌜ r ≡ headGiven given ⌝ }
+{
     let owner = given.owner;
     Head {
         kind: kind(given.kind),
@@ -53,8 +52,27 @@ pub fn head(given: CHead) -> Head {
     }
 }
 
-// The strategy of a byte 0 to 2.
-pub fn strategy(byte: u8) -> MergingOwnersStrategy {
+// The changes, if given.
+pub fn changes(given: u8, count: u16, size: u8) -> Changes
+    ensures { λ r. ⌜ r ≡ changesGiven given count size ⌝ }
+{
+    if 0 < given {
+        return Changes::Given(count, size);
+    }
+    Changes::NotGiven
+}
+
+// Whether a byte is that of a strategy.
+pub fn is_strategy(byte: u8) -> bool
+    ensures { λ r. ⌜ r ≡ isStrategy byte ⌝ }
+{
+    byte <= 2
+}
+
+// The strategy of a byte.
+pub fn strategy(byte: u8) -> MergingOwnersStrategy
+    ensures { λ r. ⌜ r ≡ strategyGiven byte ⌝ }
+{
     if byte == 0 {
         return MergingOwnersStrategy::RaiseIssue;
     }
@@ -64,8 +82,30 @@ pub fn strategy(byte: u8) -> MergingOwnersStrategy {
     MergingOwnersStrategy::UseTheirs
 }
 
-// The removal whose kind is a byte 0 to 2.
-pub fn removal(given: CRemoval) -> StorageRemovedBytes {
+// Whether the bytes that a merge is given are those of kinds and of a strategy; absent ours is not looked at.
+pub fn can_merge(present: bool, ours: CHead, theirs: CHead, strategy: u8) -> bool
+    ensures { λ r. ⌜ r ≡ canMerge present ours theirs strategy ⌝ }
+{
+    if present {
+        if is_kind(ours.kind) {
+            return is_kind(theirs.kind) & is_strategy(strategy);
+        }
+        return false;
+    }
+    is_kind(theirs.kind) & is_strategy(strategy)
+}
+
+// Whether a byte is that of a removal.
+pub fn is_removal(byte: u8) -> bool
+    ensures { λ r. ⌜ r ≡ isRemoval byte ⌝ }
+{
+    byte <= 2
+}
+
+// The removal that C's removal stands for.
+pub fn removal(given: CRemoval) -> StorageRemovedBytes
+    ensures { λ r. ⌜ r .removed ≡ removedGiven given ⌝ }
+{
     if given.kind == 0 {
         return StorageRemovedBytes {
             removed: Removed::None,
@@ -79,23 +119,4 @@ pub fn removal(given: CRemoval) -> StorageRemovedBytes {
     StorageRemovedBytes {
         removed: Removed::Sectioned(given.rows),
     }
-}
-
-// Whether the bytes that a merge is given name something: the kind of ours, if ours is present, the kind of theirs, and the strategy.
-pub fn can_merge(present: bool, ours: u8, theirs: u8, strategy: u8) -> bool {
-    if present {
-        if is_kind(ours) {
-            return is_kind(theirs) & is_strategy(strategy);
-        }
-        return false;
-    }
-    is_kind(theirs) & is_strategy(strategy)
-}
-
-// The changes, if given.
-pub fn changes(given: u8, changes: u16, size: u8) -> Changes {
-    if is_true(given) {
-        return Changes::Given(changes, size);
-    }
-    Changes::NotGiven
 }

@@ -1,18 +1,26 @@
 // The owner rule and the merges, for C.
+ghost use mathlib.Core.Path.{_≡_};
+ghost use Rattle.rows.specs.Rows.{tables};
+ghost use Rattle.capi.specs.Told.{flagsLeft, flagsTold, ownerTold};
+ghost use Rattle.capi.specs.Calls.{ownerC, combinedAddedC, optionalCombinedAddedC, combinedRemovedC, optionalCombinedRemovedC};
 use crate::given;
 use crate::told;
 use crate::types::CFlags;
 use crate::types::CHead;
 use crate::types::COwner;
 use crate::types::CRemoval;
+use flags::Choice;
+use records::Refusal;
 
 // Whose owner stands in two encodings.
 #[no_mangle]
-pub extern "C" fn petasunok_combine_owner_id(ours: &[u8], theirs: &[u8], strategy: u8) -> COwner {
+pub extern "C" fn petasunok_combine_owner_id(ours: &[u8], theirs: &[u8], strategy: u8) -> COwner
+    ensures { λ r. ⌜ r ≡ ownerTold (ownerC strategy (now (ours .entry)) (now (theirs .entry))) ⌝ }
+{
     if given::is_strategy(strategy) {
         return told::owner(flags::choose_owner_id(ours, theirs, given::strategy(strategy)));
     }
-    told::bad_owner()
+    told::owner(Choice::Refused(Refusal::BadTable))
 }
 
 // Merges ours with the incoming flags that came with added bytes.
@@ -28,8 +36,10 @@ pub extern "C" fn petasunok_combine_added_bytes(
     strategy: u8,
     epochs: &mut [u16],
     counts: &mut [u32],
-) -> CFlags {
-    if given::can_merge(true, ours.kind, theirs.kind, strategy) {
+) -> CFlags
+    ensures { λ r. ⌜ flagsLeft r (now (epochs .exit)) (now (counts .exit)) ≡ flagsTold (combinedAddedC ours (now («ours_epochs» .entry)) (now («ours_counts» .entry)) theirs (now («theirs_epochs» .entry)) (now («theirs_counts» .entry)) amount strategy (now (epochs .entry)) (now (counts .entry))) ⌝ }
+{
+    if given::can_merge(true, ours, theirs, strategy) {
         return told::flags(flags::combine_added_bytes(
             given::head(ours),
             ours_epochs,
@@ -43,7 +53,7 @@ pub extern "C" fn petasunok_combine_added_bytes(
             counts,
         ));
     }
-    told::bad_flags()
+    told::flags(records::refused(Refusal::BadTable))
 }
 
 // The same where ours may be absent; then ours is not looked at.
@@ -60,8 +70,10 @@ pub extern "C" fn petasunok_optional_combine_added_bytes(
     strategy: u8,
     epochs: &mut [u16],
     counts: &mut [u32],
-) -> CFlags {
-    if given::can_merge(given::is_true(present), ours.kind, theirs.kind, strategy) {
+) -> CFlags
+    ensures { λ r. ⌜ flagsLeft r (now (epochs .exit)) (now (counts .exit)) ≡ flagsTold (optionalCombinedAddedC present ours (now («ours_epochs» .entry)) (now («ours_counts» .entry)) theirs (now («theirs_epochs» .entry)) (now («theirs_counts» .entry)) amount strategy (now (epochs .entry)) (now (counts .entry))) ⌝ }
+{
+    if given::can_merge(given::is_true(present), ours, theirs, strategy) {
         return told::flags(flags::optional_combine_added_bytes(
             given::is_true(present),
             given::head(ours),
@@ -76,7 +88,7 @@ pub extern "C" fn petasunok_optional_combine_added_bytes(
             counts,
         ));
     }
-    told::bad_flags()
+    told::flags(records::refused(Refusal::BadTable))
 }
 
 // Merges ours with the incoming flags that came with removed bytes.
@@ -95,8 +107,10 @@ pub extern "C" fn petasunok_combine_removed_bytes(
     strategy: u8,
     epochs: &mut [u16],
     counts: &mut [u32],
-) -> CFlags {
-    if given::can_merge(true, ours.kind, theirs.kind, strategy) {
+) -> CFlags
+    ensures { λ r. ⌜ flagsLeft r (now (epochs .exit)) (now (counts .exit)) ≡ flagsTold (combinedRemovedC ours (now («ours_epochs» .entry)) (now («ours_counts» .entry)) theirs (now («theirs_epochs» .entry)) (now («theirs_counts» .entry)) removal (tables (now («removal_ids» .entry)) (now («removal_epochs» .entry)) (now («removal_bytes» .entry))) strategy (now (epochs .entry)) (now (counts .entry))) ⌝ }
+{
+    if given::can_merge(true, ours, theirs, strategy) {
         if given::is_removal(removal.kind) {
             return told::flags(removal::combine_removed_bytes(
                 given::head(ours),
@@ -114,9 +128,9 @@ pub extern "C" fn petasunok_combine_removed_bytes(
                 counts,
             ));
         }
-        return told::bad_flags();
+        return told::flags(records::refused(Refusal::BadTable));
     }
-    told::bad_flags()
+    told::flags(records::refused(Refusal::BadTable))
 }
 
 // The same where ours may be absent; then ours is not looked at.
@@ -136,8 +150,10 @@ pub extern "C" fn petasunok_optional_combine_removed_bytes(
     strategy: u8,
     epochs: &mut [u16],
     counts: &mut [u32],
-) -> CFlags {
-    if given::can_merge(given::is_true(present), ours.kind, theirs.kind, strategy) {
+) -> CFlags
+    ensures { λ r. ⌜ flagsLeft r (now (epochs .exit)) (now (counts .exit)) ≡ flagsTold (optionalCombinedRemovedC present ours (now («ours_epochs» .entry)) (now («ours_counts» .entry)) theirs (now («theirs_epochs» .entry)) (now («theirs_counts» .entry)) removal (tables (now («removal_ids» .entry)) (now («removal_epochs» .entry)) (now («removal_bytes» .entry))) strategy (now (epochs .entry)) (now (counts .entry))) ⌝ }
+{
+    if given::can_merge(given::is_true(present), ours, theirs, strategy) {
         if given::is_removal(removal.kind) {
             return told::flags(removal::optional_combine_removed_bytes(
                 given::is_true(present),
@@ -156,7 +172,7 @@ pub extern "C" fn petasunok_optional_combine_removed_bytes(
                 counts,
             ));
         }
-        return told::bad_flags();
+        return told::flags(records::refused(Refusal::BadTable));
     }
-    told::bad_flags()
+    told::flags(records::refused(Refusal::BadTable))
 }

@@ -1,4 +1,8 @@
 // Reading flags, for C.
+ghost use mathlib.Core.Path.{_≡_};
+ghost use Rattle.records.specs.declared.head.Kind.the-variants.{SingleEpoch, MultiEpoch, SingleEpochOwned, MultiEpochOwned};
+ghost use Rattle.codec.specs.Calls.{deserializedAs, deserialized};
+ghost use Rattle.capi.specs.Told.{flagsLeft, flagsTold};
 use crate::told;
 use crate::types::CFlags;
 
@@ -8,7 +12,9 @@ pub extern "C" fn petasunok_deserialize(
     src: &[u8],
     epochs: &mut [u16],
     counts: &mut [u32],
-) -> CFlags {
+) -> CFlags
+    ensures { λ r. ⌜ flagsLeft r (now (epochs .exit)) (now (counts .exit)) ≡ flagsTold (deserialized (now (src .entry)) (now (epochs .entry)) (now (counts .entry))) ⌝ }
+{
     told::flags(codec::deserialize(src, epochs, counts))
 }
 
@@ -18,7 +24,9 @@ pub extern "C" fn petasunok_deserialize_single_epoch(
     src: &[u8],
     epochs: &mut [u16],
     counts: &mut [u32],
-) -> CFlags {
+) -> CFlags
+    ensures { λ r. ⌜ flagsLeft r (now (epochs .exit)) (now (counts .exit)) ≡ flagsTold (deserializedAs SingleEpoch (now (src .entry)) (now (epochs .entry)) (now (counts .entry))) ⌝ }
+{
     told::flags(codec::deserialize_single_epoch(src, epochs, counts))
 }
 
@@ -28,7 +36,9 @@ pub extern "C" fn petasunok_deserialize_multi_epoch(
     src: &[u8],
     epochs: &mut [u16],
     counts: &mut [u32],
-) -> CFlags {
+) -> CFlags
+    ensures { λ r. ⌜ flagsLeft r (now (epochs .exit)) (now (counts .exit)) ≡ flagsTold (deserializedAs MultiEpoch (now (src .entry)) (now (epochs .entry)) (now (counts .entry))) ⌝ }
+{
     told::flags(codec::deserialize_multi_epoch(src, epochs, counts))
 }
 
@@ -38,7 +48,9 @@ pub extern "C" fn petasunok_deserialize_single_epoch_owned(
     src: &[u8],
     epochs: &mut [u16],
     counts: &mut [u32],
-) -> CFlags {
+) -> CFlags
+    ensures { λ r. ⌜ flagsLeft r (now (epochs .exit)) (now (counts .exit)) ≡ flagsTold (deserializedAs SingleEpochOwned (now (src .entry)) (now (epochs .entry)) (now (counts .entry))) ⌝ }
+{
     told::flags(codec::deserialize_single_epoch_owned(src, epochs, counts))
 }
 
@@ -48,6 +60,8 @@ pub extern "C" fn petasunok_deserialize_multi_epoch_owned(
     src: &[u8],
     epochs: &mut [u16],
     counts: &mut [u32],
-) -> CFlags {
+) -> CFlags
+    ensures { λ r. ⌜ flagsLeft r (now (epochs .exit)) (now (counts .exit)) ≡ flagsTold (deserializedAs MultiEpochOwned (now (src .entry)) (now (epochs .entry)) (now (counts .entry))) ⌝ }
+{
     told::flags(codec::deserialize_multi_epoch_owned(src, epochs, counts))
 }

@@ -1,4 +1,8 @@
 // Splitting and adding up removals, for C.
+ghost use mathlib.Core.Path.{_≡_};
+ghost use Rattle.rows.specs.Rows.{tables};
+ghost use Rattle.capi.specs.Told.{countTold, truthTold, sumLeft, sumTold, splitLeft, splitTold};
+ghost use Rattle.capi.specs.Calls.{splitRemovedC, summedC, hasRemovalC, totalRemovedC};
 use crate::given;
 use crate::told;
 use crate::types::CCount;
@@ -6,6 +10,11 @@ use crate::types::CHead;
 use crate::types::CRemoval;
 use crate::types::CSplit;
 use crate::types::CSum;
+use records::Refusal;
+use rows::HasRemoval;
+use rows::Total;
+use splitting::Splitting;
+use sums::Summed;
 
 // Splits a removal of key bytes and value bytes.
 #[no_mangle]
@@ -21,7 +30,9 @@ pub extern "C" fn petasunok_split_storage_removed_bytes(
     value_ids: &mut [[u8; 32]],
     value_epochs: &mut [u16],
     value_bytes: &mut [u32],
-) -> CSplit {
+) -> CSplit
+    ensures { λ r. ⌜ splitLeft r (tables (now («key_ids» .exit)) (now («key_epochs» .exit)) (now («key_bytes» .exit))) (tables (now («value_ids» .exit)) (now («value_epochs» .exit)) (now («value_bytes» .exit))) ≡ splitTold (splitRemovedC flags (now («flags_epochs» .entry)) (now («flags_counts» .entry)) key value (tables (now («key_ids» .entry)) (now («key_epochs» .entry)) (now («key_bytes» .entry))) (tables (now («value_ids» .entry)) (now («value_epochs» .entry)) (now («value_bytes» .entry)))) ⌝ }
+{
     if given::is_kind(flags.kind) {
         return told::split(splitting::split_storage_removed_bytes(
             given::head(flags),
@@ -37,7 +48,7 @@ pub extern "C" fn petasunok_split_storage_removed_bytes(
             value_bytes,
         ));
     }
-    told::bad_split()
+    told::split(Splitting::Refused(Refusal::BadTable))
 }
 
 // Adds the right removal to the left one, in the left one's tables.
@@ -52,7 +63,9 @@ pub extern "C" fn petasunok_add_assign(
     rhs_epochs: &[u16],
     rhs_bytes: &[u32],
     version: u16,
-) -> CSum {
+) -> CSum
+    ensures { λ r. ⌜ sumLeft r (tables (now («lhs_ids» .exit)) (now («lhs_epochs» .exit)) (now («lhs_bytes» .exit))) ≡ sumTold (summedC version lhs (tables (now («lhs_ids» .entry)) (now («lhs_epochs» .entry)) (now («lhs_bytes» .entry))) rhs (tables (now («rhs_ids» .entry)) (now («rhs_epochs» .entry)) (now («rhs_bytes» .entry)))) ⌝ }
+{
     if given::is_removal(lhs.kind) {
         if given::is_removal(rhs.kind) {
             return told::sum(sums::add_assign(
@@ -67,9 +80,9 @@ pub extern "C" fn petasunok_add_assign(
                 version,
             ));
         }
-        return told::bad_sum();
+        return told::sum(Summed::Refused(Refusal::BadTable));
     }
-    told::bad_sum()
+    told::sum(Summed::Refused(Refusal::BadTable))
 }
 
 // Whether anything was removed: 1 or 0.
@@ -79,7 +92,9 @@ pub extern "C" fn petasunok_has_removal(
     removal_ids: &[[u8; 32]],
     removal_epochs: &[u16],
     removal_bytes: &[u32],
-) -> CCount {
+) -> CCount
+    ensures { λ r. ⌜ r ≡ truthTold (hasRemovalC removal (tables (now («removal_ids» .entry)) (now («removal_epochs» .entry)) (now («removal_bytes» .entry)))) ⌝ }
+{
     if given::is_removal(removal.kind) {
         return told::has(rows::has_removal(
             given::removal(removal),
@@ -88,7 +103,7 @@ pub extern "C" fn petasunok_has_removal(
             removal_bytes,
         ));
     }
-    told::bad_count()
+    told::has(HasRemoval::Refused(Refusal::BadTable))
 }
 
 // All bytes of a removal.
@@ -98,7 +113,9 @@ pub extern "C" fn petasunok_total_removed_bytes(
     removal_ids: &[[u8; 32]],
     removal_epochs: &[u16],
     removal_bytes: &[u32],
-) -> CCount {
+) -> CCount
+    ensures { λ r. ⌜ r ≡ countTold (totalRemovedC removal (tables (now («removal_ids» .entry)) (now («removal_epochs» .entry)) (now («removal_bytes» .entry)))) ⌝ }
+{
     if given::is_removal(removal.kind) {
         return told::total(rows::total_removed_bytes(
             given::removal(removal),
@@ -107,5 +124,5 @@ pub extern "C" fn petasunok_total_removed_bytes(
             removal_bytes,
         ));
     }
-    told::bad_count()
+    told::total(Total::Refused(Refusal::BadTable))
 }

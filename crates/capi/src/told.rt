@@ -1,4 +1,12 @@
-// What the calls answer, as C takes it. In a refused answer everything but the number is 0.
+// What the calls answer, as C gets it. In a refused answer everything but the number is 0.
+ghost use mathlib.Core.Path.{_≡_};
+ghost use mathlib.Core.List.{[]};
+ghost use Rattle.records.specs.Answers.{shown, counted};
+ghost use Rattle.rows.specs.Calls.{told, totalled};
+ghost use Rattle.sums.specs.Calls.{told as toldSum};
+ghost use Rattle.splitting.specs.Calls.{told as toldSplit};
+ghost use Rattle.rows.specs.declared.removed.Removed.the-variants.{None};
+ghost use Rattle.capi.specs.Told.{headTold, flagsAnswer, countTold, truthTold, ownerTold, removalTold, sumAnswer, splitAnswer};
 use crate::types::CCount;
 use crate::types::CFlags;
 use crate::types::CHead;
@@ -18,11 +26,10 @@ use rows::Total;
 use splitting::Splitting;
 use sums::Summed;
 
-// The number of BadTable, for a byte that names nothing.
-const BAD_TABLE: u32 = 11;
-
-// A head.
-fn head(h: Head) -> CHead {
+// A head, its kind a byte.
+fn head(h: Head) -> CHead
+    ensures { λ r. ⌜ r ≡ headTold h ⌝ }
+{
     let owner = h.owner;
     let kind = h.kind;
     CHead {
@@ -34,7 +41,9 @@ fn head(h: Head) -> CHead {
 }
 
 // Flags, none, or a refusal.
-pub fn flags(answered: Answered) -> CFlags {
+pub fn flags(answered: Answered) -> CFlags
+    ensures { λ r. ⌜ r ≡ flagsAnswer (shown answered [] []) ⌝ }
+{
     let outcome = answered.outcome;
     let found = answered.head;
     let head = head(found);
@@ -57,72 +66,55 @@ pub fn flags(answered: Answered) -> CFlags {
     }
 }
 
-// No flags, because a byte names nothing.
-pub fn bad_flags() -> CFlags {
-    let head = head(records::no_head());
-    CFlags {
-        refusal: BAD_TABLE,
-        present: 0,
-        head,
-    }
+// A number.
+fn number(count: u64) -> CCount
+    ensures { λ r. ⌜ r ≡ record { refusal = 0; count = count } ⌝ }
+{
+    CCount { refusal: 0, count }
+}
+
+// No number.
+fn no_number(refusal: u32) -> CCount
+    ensures { λ r. ⌜ r ≡ record { refusal = refusal; count = 0 } ⌝ }
+{
+    CCount { refusal, count: 0 }
 }
 
 // A number, or a refusal.
-pub fn count(counted: Counted) -> CCount {
-    match counted {
-        Counted::Count(n) => CCount {
-            refusal: 0,
-            count: n as u64,
-        },
-        Counted::Refused(refusal) => CCount {
-            refusal: refusal.number(),
-            count: 0,
-        },
-    }
-}
-
-// No number, because a byte names nothing.
-pub fn bad_count() -> CCount {
-    CCount {
-        refusal: BAD_TABLE,
-        count: 0,
+pub fn count(answer: Counted) -> CCount
+    ensures { λ r. ⌜ r ≡ countTold (counted answer) ⌝ }
+{
+    match answer {
+        Counted::Count(n) => number(n as u64),
+        Counted::Refused(refusal) => no_number(refusal.number()),
     }
 }
 
 // 1 or 0 for yes or no, or a refusal.
-pub fn has(answer: HasRemoval) -> CCount {
+pub fn has(answer: HasRemoval) -> CCount
+    ensures { λ r. ⌜ r ≡ truthTold (told answer) ⌝ }
+{
     match answer {
-        HasRemoval::Yes => CCount {
-            refusal: 0,
-            count: 1,
-        },
-        HasRemoval::No => CCount {
-            refusal: 0,
-            count: 0,
-        },
-        HasRemoval::Refused(refusal) => CCount {
-            refusal: refusal.number(),
-            count: 0,
-        },
+        HasRemoval::Yes => number(1),
+        HasRemoval::No => number(0),
+        HasRemoval::Refused(refusal) => no_number(refusal.number()),
     }
 }
 
 // A number of bytes, or a refusal.
-pub fn total(answer: Total) -> CCount {
+pub fn total(answer: Total) -> CCount
+    ensures { λ r. ⌜ r ≡ countTold (totalled answer) ⌝ }
+{
     match answer {
-        Total::Bytes(n) => CCount {
-            refusal: 0,
-            count: n as u64,
-        },
-        Total::Refused(refusal) => CCount {
-            refusal: refusal.number(),
-            count: 0,
-        },
+        Total::Bytes(n) => number(n as u64),
+        Total::Refused(refusal) => no_number(refusal.number()),
     }
 }
 
 // Whose owner, or a refusal.
-pub fn owner(choice: Choice) -> COwner {
+pub fn owner(choice: Choice) -> COwner
+    ensures { λ r. ⌜ r ≡ ownerTold choice ⌝ }
+{
     match choice {
         Choice::Neither => COwner {
             refusal: 0,
@@ -143,16 +135,10 @@ pub fn owner(choice: Choice) -> COwner {
     }
 }
 
-// No owner, because a byte names nothing.
-pub fn bad_owner() -> COwner {
-    COwner {
-        refusal: BAD_TABLE,
-        which: 0,
-    }
-}
-
-// No removal: kind 0 and zeros.
-fn no_removal() -> CRemoval {
+// None: 0 and zeros.
+fn no_removal() -> CRemoval
+    ensures { λ r. ⌜ r ≡ removalTold None ⌝ }
+{
     CRemoval {
         kind: 0,
         bytes: 0,
@@ -161,7 +147,9 @@ fn no_removal() -> CRemoval {
 }
 
 // A removal; what its kind does not have is 0.
-fn removal(state: StorageRemovedBytes) -> CRemoval {
+fn removal(state: StorageRemovedBytes) -> CRemoval
+    ensures { λ r. ⌜ r ≡ removalTold (state .removed) ⌝ }
+{
     let removed = state.removed;
     match removed {
         Removed::None => no_removal(),
@@ -179,31 +167,25 @@ fn removal(state: StorageRemovedBytes) -> CRemoval {
 }
 
 // A removal, or a refusal.
-pub fn sum(summed: Summed) -> CSum {
+pub fn sum(summed: Summed) -> CSum
+    ensures { λ r. ⌜ r ≡ sumAnswer (toldSum summed) ⌝ }
+{
     match summed {
         Summed::Sum(state) => CSum {
             refusal: 0,
             removal: removal(state),
         },
-        Summed::Refused(refusal) => refused_sum(refusal.number()),
+        Summed::Refused(refusal) => CSum {
+            refusal: refusal.number(),
+            removal: no_removal(),
+        },
     }
-}
-
-// A refused sum.
-fn refused_sum(refusal: u32) -> CSum {
-    CSum {
-        refusal,
-        removal: no_removal(),
-    }
-}
-
-// No sum, because a byte names nothing.
-pub fn bad_sum() -> CSum {
-    refused_sum(BAD_TABLE)
 }
 
 // Two removals and the number of records visited, or a refusal.
-pub fn split(splitting: Splitting) -> CSplit {
+pub fn split(splitting: Splitting) -> CSplit
+    ensures { λ r. ⌜ r ≡ splitAnswer (toldSplit splitting) ⌝ }
+{
     match splitting {
         Splitting::Done(done) => CSplit {
             refusal: 0,
@@ -211,21 +193,11 @@ pub fn split(splitting: Splitting) -> CSplit {
             value: removal(done.value),
             visited: done.visited,
         },
-        Splitting::Refused(refusal) => refused_split(refusal.number()),
+        Splitting::Refused(refusal) => CSplit {
+            refusal: refusal.number(),
+            key: no_removal(),
+            value: no_removal(),
+            visited: 0,
+        },
     }
-}
-
-// A refused split.
-fn refused_split(refusal: u32) -> CSplit {
-    CSplit {
-        refusal,
-        key: no_removal(),
-        value: no_removal(),
-        visited: 0,
-    }
-}
-
-// No split, because a byte names nothing.
-pub fn bad_split() -> CSplit {
-    refused_split(BAD_TABLE)
 }

@@ -1,9 +1,15 @@
 // Writing flags and their sizes, for C.
+ghost use mathlib.Core.Path.{_≡_};
+ghost use Rattle.codec.specs.Sizes.{approximate};
+ghost use Rattle.capi.specs.Given.{isTrue, changesGiven};
+ghost use Rattle.capi.specs.Told.{countTold, bytesLeft, bytesTold};
+ghost use Rattle.capi.specs.Calls.{serializedC, sizeC};
 use crate::given;
 use crate::told;
 use crate::types::CCount;
 use crate::types::CHead;
-use codec::Changes;
+use records::Counted;
+use records::Refusal;
 
 // Writes flags as bytes.
 #[no_mangle]
@@ -12,11 +18,13 @@ pub extern "C" fn petasunok_serialize(
     flags_epochs: &[u16],
     flags_counts: &[u32],
     out: &mut [u8],
-) -> CCount {
+) -> CCount
+    ensures { λ r. ⌜ bytesLeft r (now (out .exit)) ≡ bytesTold (serializedC flags (now («flags_epochs» .entry)) (now («flags_counts» .entry)) (now (out .entry))) ⌝ }
+{
     if given::is_kind(flags.kind) {
         return told::count(codec::serialize(given::head(flags), flags_epochs, flags_counts, out));
     }
-    told::bad_count()
+    told::count(Counted::Refused(Refusal::BadTable))
 }
 
 // The number of bytes of flags.
@@ -25,11 +33,13 @@ pub extern "C" fn petasunok_serialized_size(
     flags: CHead,
     flags_epochs: &[u16],
     flags_counts: &[u32],
-) -> CCount {
+) -> CCount
+    ensures { λ r. ⌜ r ≡ countTold (sizeC flags (now («flags_epochs» .entry)) (now («flags_counts» .entry))) ⌝ }
+{
     if given::is_kind(flags.kind) {
         return told::count(codec::serialized_size(given::head(flags), flags_epochs, flags_counts));
     }
-    told::bad_count()
+    told::count(Counted::Refused(Refusal::BadTable))
 }
 
 // The size of flags before they are made.
@@ -39,7 +49,9 @@ pub extern "C" fn petasunok_approximate_size(
     given: u8,
     changes: u16,
     size: u8,
-) -> u32 {
+) -> u32
+    ensures { λ r. ⌜ r ≡ approximate (isTrue «has_owner») (changesGiven given changes size) ⌝ }
+{
     codec::approximate_size(
         given::is_true(has_owner),
         given::changes(given, changes, size),

@@ -1,0 +1,54 @@
+-- What C gets of a call, from what the call shows: one law for each form of answer. Each takes C's answer as it was made of the call's own, and
+-- what the call's contract says of that. Beside them, the two ways of a test on what C gave.
+-- Assumes nothing.
+use Prim.Native.Nat.{ℕ}
+use mathlib.Core.Path.{_≡_, sym, ap, _∙_}
+use mathlib.Core.Bool.{Bool, true, false, cond}
+use mathlib.Core.List.{List, []}
+use Rattle.records.specs.Answers.{After, shown, Written, counted, wrote, kept}
+use Rattle.records.specs.Flags.{noHead}
+use Rattle.records.specs.declared.refusal.Refusal.the-variants.{BadTable}
+use Rattle.records.specs.declared.answer.Outcome.the-variants.{Refused}
+use Rattle.records.specs.declared.answer.Answered.{Answered}
+use Rattle.records.specs.declared.answer.Counted.{Counted}
+use Rattle.rows.specs.Rows.{Tables}
+use Rattle.sums.specs.Calls.{After as AfterSum, told as toldSum, shown as shownSum}
+use Rattle.sums.specs.declared.sum.Summed.{Summed}
+use Rattle.splitting.specs.Calls.{After as AfterSplit, told as toldSplit, shown as shownSplit}
+use Rattle.splitting.specs.declared.split.Splitting.{Splitting}
+use Rattle.capi.specs.Told.{flagsLeft, flagsAnswer, flagsTold, countTold, bytesLeft, bytesTold, sumLeft, sumAnswer, sumTold, splitLeft, splitAnswer, splitTold}
+use Rattle.capi.specs.declared.types.CFlags.{CFlags}
+use Rattle.capi.specs.declared.types.CCount.{CCount}
+use Rattle.capi.specs.declared.types.CSum.{CSum}
+use Rattle.capi.specs.declared.types.CSplit.{CSplit}
+
+-- ---- tests
+
+module _ {A : Type 0} (b : Bool) (x y : A) {z : A} where
+  pub when-true : b ≡ true → z ≡ x → z ≡ cond b x y
+  when-true t h = h ∙ sym (ap (λ (q : Bool). cond q x y) t)
+
+  pub when-false : b ≡ false → z ≡ y → z ≡ cond b x y
+  when-false f h = h ∙ sym (ap (λ (q : Bool). cond q x y) f)
+
+-- ---- forms of answers
+
+-- the answer that a table is bad
+abbrev badTable : Answered
+badTable = record { outcome = Refused BadTable; head = noHead }
+
+pub flags-told : (r : CFlags) (a : Answered) (es cs : List ℕ) (x : After) → r ≡ flagsAnswer (shown a [] []) → shown a es cs ≡ x → flagsLeft r es cs ≡ flagsTold x
+flags-told r a es cs x h k = ap (λ (z : CFlags). flagsLeft z es cs) h ∙ ap flagsTold k
+
+-- no flags, because a byte names nothing
+pub flags-bad : (r : CFlags) (a : Answered) (es cs : List ℕ) (b : Bool) (x : After) → r ≡ flagsAnswer (shown a [] []) → a ≡ badTable → b ≡ false → flagsLeft r es cs ≡ flagsTold (cond b x (kept 11 es cs))
+flags-bad r a es cs b x h e f = flags-told r a es cs _ h (when-false b x (kept 11 es cs) f (ap (λ (z : Answered). shown z es cs) e))
+
+pub bytes-told : (r : CCount) (a : Counted) (out : List ℕ) (w : Written) → r ≡ countTold (counted a) → wrote a out ≡ w → bytesLeft r out ≡ bytesTold w
+bytes-told r a out w h k = ap (λ (z : CCount). bytesLeft z out) h ∙ ap bytesTold k
+
+pub sum-told : (r : CSum) (a : Summed) (t : Tables) (x : AfterSum) → r ≡ sumAnswer (toldSum a) → shownSum a t ≡ x → sumLeft r t ≡ sumTold x
+sum-told r a t x h k = ap (λ (z : CSum). sumLeft z t) h ∙ ap sumTold k
+
+pub split-told : (r : CSplit) (a : Splitting) (kt vt : Tables) (x : AfterSplit) → r ≡ splitAnswer (toldSplit a) → shownSplit a kt vt ≡ x → splitLeft r kt vt ≡ splitTold x
+split-told r a kt vt x h k = ap (λ (z : CSplit). splitLeft z kt vt) h ∙ ap splitTold k

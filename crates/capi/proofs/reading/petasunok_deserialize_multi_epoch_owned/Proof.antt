@@ -1,0 +1,19 @@
+-- `capi::reading::petasunok_deserialize_multi_epoch_owned` meets its contract: the call's own answer is told. Assumes nothing.
+use Rattle.capi.proofs.Telling.{flags-told}
+use borrow.Author.Needs.{needs}
+use Rattle.capi.proofs.reading.petasunok_deserialize_multi_epoch_owned.Statement.{statement}
+use Rattle.capi.proofs.reading.petasunok_deserialize_multi_epoch_owned.Tie as tie
+
+returns : tie.Need-returns
+returns c =
+    flags-told _ (c .before .before .before .before .before .deserialize-multi-epoch-owned .result) _ _ _ (c .flags .ensures) (c .before .before .before .before .before .deserialize-multi-epoch-owned .ensures)
+
+pub petasunok-deserialize-multi-epoch-owned-spec : {M : Type 1} → statement M
+petasunok-deserialize-multi-epoch-owned-spec =
+    tie.close
+    (tie.spec
+    (λ c κs. search needs)
+    (λ c κs. search needs)
+    (λ c. search needs)
+    (λ c. search needs)
+    returns)

@@ -1,0 +1,19 @@
+-- `capi::reading::petasunok_deserialize_single_epoch` meets its contract: the call's own answer is told. Assumes nothing.
+use Rattle.capi.proofs.Telling.{flags-told}
+use borrow.Author.Needs.{needs}
+use Rattle.capi.proofs.reading.petasunok_deserialize_single_epoch.Statement.{statement}
+use Rattle.capi.proofs.reading.petasunok_deserialize_single_epoch.Tie as tie
+
+returns : tie.Need-returns
+returns c =
+    flags-told _ (c .before .before .before .before .before .deserialize-single-epoch .result) _ _ _ (c .flags .ensures) (c .before .before .before .before .before .deserialize-single-epoch .ensures)
+
+pub petasunok-deserialize-single-epoch-spec : {M : Type 1} → statement M
+petasunok-deserialize-single-epoch-spec =
+    tie.close
+    (tie.spec
+    (λ c κs. search needs)
+    (λ c κs. search needs)
+    (λ c. search needs)
+    (λ c. search needs)
+    returns)

@@ -1,0 +1,34 @@
+-- `capi::removals::petasunok_split_storage_removed_bytes` meets its contract: the call's own answer is told, or 11. Assumes nothing.
+use Rattle.records.specs.declared.refusal.Refusal.the-variants.{BadTable}
+use Rattle.splitting.specs.declared.split.Splitting.the-variants.{Refused}
+use mathlib.Core.Path.{refl, sym, _∙_}
+use Rattle.capi.proofs.Telling.{when-true, when-false, split-told}
+use borrow.Author.Needs.{needs}
+use Rattle.capi.proofs.removals.petasunok_split_storage_removed_bytes.Statement.{statement}
+use Rattle.capi.proofs.removals.petasunok_split_storage_removed_bytes.Tie as tie
+
+returns : tie.Need-returns
+returns c =
+    split-told _ (c .before .before .before .before .before .before .before .before .before .before .before .split-storage-removed-bytes .result) _ _ _ (c .split .ensures) (when-true _ _ _ (sym (c .before .before .before .before .before .before .before .before .before .before .before .before .before .before .before .before .before .before .before .before .is-kind .ensures) ∙ c .before .before .before .before .before .before .before .before .before .before .before .before .before .before .before .before .before .before .before .if1 .taken) (c .before .before .before .before .before .before .before .before .before .before .before .split-storage-removed-bytes .ensures ∙ simp (c .before .before .before .before .before .before .before .before .before .before .before .before .before .before .before .before .before .before .head .ensures)))
+
+returns-2 : tie.Need-returns-2
+returns-2 c =
+    split-told _ (Refused BadTable) _ _ _ (c .split2 .ensures) (when-false _ _ _ (sym (c .before .before .is-kind .ensures) ∙ c .before .if1 .left) refl)
+
+pub petasunok-split-storage-removed-bytes-spec : {M : Type 1} → statement M
+petasunok-split-storage-removed-bytes-spec =
+    tie.close
+    (tie.spec
+    (λ c κs. search needs)
+    (λ c κs. search needs)
+    (λ c κs. search needs)
+    (λ c κs. search needs)
+    (λ c. search needs)
+    (λ c. search needs)
+    (λ c. search needs)
+    (λ c. search needs)
+    (λ c. search needs)
+    (λ c. search needs)
+    returns
+    (λ c κs. search needs)
+    returns-2)

@@ -1,0 +1,29 @@
+-- `capi::writing::petasunok_serialize` meets its contract: the call's own answer is told, or 11. Assumes nothing.
+use Rattle.records.specs.declared.refusal.Refusal.the-variants.{BadTable}
+use Rattle.records.specs.declared.answer.Counted.the-variants.{Refused}
+use mathlib.Core.Path.{refl, sym, _∙_}
+use Rattle.capi.proofs.Telling.{when-true, when-false, bytes-told}
+use borrow.Author.Needs.{needs}
+use Rattle.capi.proofs.writing.petasunok_serialize.Statement.{statement}
+use Rattle.capi.proofs.writing.petasunok_serialize.Tie as tie
+
+returns : tie.Need-returns
+returns c =
+    bytes-told _ (c .before .before .before .serialize .result) _ _ (c .count .ensures) (when-true _ _ _ (sym (c .before .before .before .before .before .before .before .is-kind .ensures) ∙ c .before .before .before .before .before .before .if1 .taken) (c .before .before .before .serialize .ensures ∙ simp (c .before .before .before .before .before .head .ensures)))
+
+returns-2 : tie.Need-returns-2
+returns-2 c =
+    bytes-told _ (Refused BadTable) _ _ (c .count2 .ensures) (when-false _ _ _ (sym (c .before .before .is-kind .ensures) ∙ c .before .if1 .left) refl)
+
+pub petasunok-serialize-spec : {M : Type 1} → statement M
+petasunok-serialize-spec =
+    tie.close
+    (tie.spec
+    (λ c κs. search needs)
+    (λ c κs. search needs)
+    (λ c κs. search needs)
+    (λ c κs. search needs)
+    (λ c. search needs)
+    returns
+    (λ c κs. search needs)
+    returns-2)

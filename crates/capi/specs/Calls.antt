@@ -1,0 +1,73 @@
+-- The calls that C makes, each the definition of its layer on what C gives, or 11 where a byte names nothing.
+-- Assumes nothing.
+use Prim.Native.Nat.{ℕ}
+use mathlib.Core.Bool.{Bool, true, cond, _&&_}
+use mathlib.Core.List.{List}
+use Rattle.records.specs.Answers.{Answer, refused, After, kept, Written}
+use Rattle.records.specs.declared.refusal.Refusal.the-variants.{BadTable}
+use Rattle.codec.specs.Calls.{serialized, sizeOf}
+use Rattle.flags.specs.Calls.{ownerChoice, combinedAdded, optionalCombinedAdded}
+use Rattle.flags.specs.declared.owners.Choice.{Choice}
+use Rattle.flags.specs.declared.owners.Choice.the-variants.{Refused}
+use Rattle.rows.specs.Rows.{Tables}
+use Rattle.rows.specs.Calls.{hasRemoval, totalRemoved}
+use Rattle.sums.specs.Calls.{After as AfterSum, kept as keptSum, summed}
+use Rattle.splitting.specs.Calls.{After as AfterSplit, kept as keptSplit, splitRemoved}
+use Rattle.removal.specs.Calls.{combinedRemoved, optionalCombinedRemoved}
+use Rattle.capi.specs.Given.{isTrue, isKind, headGiven, isStrategy, strategyGiven, canMerge, isRemoval, removedGiven}
+use Rattle.capi.specs.declared.types.CHead.{CHead}
+use Rattle.capi.specs.declared.types.CRemoval.{CRemoval}
+
+-- `petasunok_serialize`
+abbrev pub serializedC : CHead → List ℕ → List ℕ → List ℕ → Written
+serializedC h es cs out = cond (isKind (h .kind)) (serialized (headGiven h) es cs out) (record { answer = refused 11; out = out })
+
+-- `petasunok_serialized_size`
+abbrev pub sizeC : CHead → List ℕ → List ℕ → Answer ℕ
+sizeC h es cs = cond (isKind (h .kind)) (sizeOf (headGiven h) es cs) (refused 11)
+
+-- `petasunok_combine_owner_id`
+abbrev pub ownerC : ℕ → List ℕ → List ℕ → Choice
+ownerC s ours theirs = cond (isStrategy s) (ownerChoice (strategyGiven s) ours theirs) (Refused BadTable)
+
+-- `petasunok_combine_added_bytes`
+abbrev pub combinedAddedC : CHead → List ℕ → List ℕ → CHead → List ℕ → List ℕ → ℕ → ℕ → List ℕ → List ℕ → After
+combinedAddedC ours oes ocs theirs tes tcs amount s es cs =
+    cond (canMerge true ours theirs s) (combinedAdded (headGiven ours) oes ocs (headGiven theirs) tes tcs amount (strategyGiven s) es cs) (kept 11 es cs)
+
+-- `petasunok_optional_combine_added_bytes`
+abbrev pub optionalCombinedAddedC : ℕ → CHead → List ℕ → List ℕ → CHead → List ℕ → List ℕ → ℕ → ℕ → List ℕ → List ℕ → After
+optionalCombinedAddedC present ours oes ocs theirs tes tcs amount s es cs =
+    cond (canMerge (isTrue present) ours theirs s)
+    (optionalCombinedAdded (isTrue present) (headGiven ours) oes ocs (headGiven theirs) tes tcs amount (strategyGiven s) es cs)
+    (kept 11 es cs)
+
+-- `petasunok_combine_removed_bytes`
+abbrev pub combinedRemovedC : CHead → List ℕ → List ℕ → CHead → List ℕ → List ℕ → CRemoval → Tables → ℕ → List ℕ → List ℕ → After
+combinedRemovedC ours oes ocs theirs tes tcs x t s es cs =
+    cond (canMerge true ours theirs s && isRemoval (x .kind))
+    (combinedRemoved (headGiven ours) oes ocs (headGiven theirs) tes tcs (removedGiven x) t (strategyGiven s) es cs)
+    (kept 11 es cs)
+
+-- `petasunok_optional_combine_removed_bytes`
+abbrev pub optionalCombinedRemovedC : ℕ → CHead → List ℕ → List ℕ → CHead → List ℕ → List ℕ → CRemoval → Tables → ℕ → List ℕ → List ℕ → After
+optionalCombinedRemovedC present ours oes ocs theirs tes tcs x t s es cs =
+    cond (canMerge (isTrue present) ours theirs s && isRemoval (x .kind))
+    (optionalCombinedRemoved (isTrue present) (headGiven ours) oes ocs (headGiven theirs) tes tcs (removedGiven x) t (strategyGiven s) es cs)
+    (kept 11 es cs)
+
+-- `petasunok_split_storage_removed_bytes`
+abbrev pub splitRemovedC : CHead → List ℕ → List ℕ → ℕ → ℕ → Tables → Tables → AfterSplit
+splitRemovedC h es cs key value kt vt = cond (isKind (h .kind)) (splitRemoved (headGiven h) es cs key value kt vt) (keptSplit 11 kt vt)
+
+-- `petasunok_add_assign`
+abbrev pub summedC : ℕ → CRemoval → Tables → CRemoval → Tables → AfterSum
+summedC version x t y u = cond (isRemoval (x .kind) && isRemoval (y .kind)) (summed version (removedGiven x) t (removedGiven y) u) (keptSum 11 t)
+
+-- `petasunok_has_removal`
+abbrev pub hasRemovalC : CRemoval → Tables → Answer Bool
+hasRemovalC x t = cond (isRemoval (x .kind)) (hasRemoval (removedGiven x) t) (refused 11)
+
+-- `petasunok_total_removed_bytes`
+abbrev pub totalRemovedC : CRemoval → Tables → Answer ℕ
+totalRemovedC x t = cond (isRemoval (x .kind)) (totalRemoved (removedGiven x) t) (refused 11)
