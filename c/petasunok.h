@@ -98,6 +98,18 @@ typedef struct {
     uint8_t which;
 } petasunok_owner;
 
+/* 32 bytes that name who paid. */
+typedef struct {
+    uint8_t bytes[32];
+} petasunok_id;
+
+/* An owner, or none (present is 0), or a refusal. */
+typedef struct {
+    uint32_t refusal;
+    uint8_t present;
+    petasunok_id id;
+} petasunok_maybe_owner;
+
 /* ---- reading: 1, 2, 3, 10 */
 
 /* Flags of the kind that byte 0 names; no bytes are no flags. */
@@ -202,6 +214,23 @@ petasunok_count petasunok_has_removal(
 petasunok_count petasunok_total_removed_bytes(
     petasunok_removal removal, const uint8_t (*removal_ids)[32], size_t removal_ids_len,
     const uint16_t *removal_epochs, size_t removal_epochs_len, const uint32_t *removal_bytes, size_t removal_bytes_len);
+
+/* ---- the head alone: no record is looked at; 11 only for a kind that does not exist */
+
+/* Flags whose bytes were all paid in one epoch, owned where `owned` is not 0. Never refused. */
+petasunok_head petasunok_new_single_epoch(uint16_t epoch, uint8_t owned, petasunok_id owner);
+
+/* The head with another owner, where it is owned. */
+petasunok_flags petasunok_set_owner_id(petasunok_head head, petasunok_id owner);
+
+/* The epoch of the bytes that no record counts. */
+petasunok_count petasunok_base_epoch(petasunok_head head);
+
+/* The owner or none. */
+petasunok_maybe_owner petasunok_owner_id(petasunok_head head);
+
+/* Byte 0 of the flags. */
+petasunok_count petasunok_type_byte(petasunok_head head);
 
 #ifdef __cplusplus
 }

@@ -3,7 +3,10 @@
 use Prim.Native.Nat.{ℕ}
 use mathlib.Core.Bool.{Bool, true, cond, _&&_}
 use mathlib.Core.List.{List}
-use Rattle.records.specs.Answers.{Answer, refused, After, kept, Written}
+use Rattle.records.specs.Flags.{typeByte, ownerOf, maybeOwner, withOwner}
+use Rattle.records.specs.declared.head.Head.{Head}
+use Rattle.records.specs.declared.head.MaybeOwner.{MaybeOwner}
+use Rattle.records.specs.Answers.{Answer, ok, refused, After, kept, Written}
 use Rattle.records.specs.declared.refusal.Refusal.the-variants.{BadTable}
 use Rattle.codec.specs.Calls.{serialized, sizeOf}
 use Rattle.flags.specs.Calls.{ownerChoice, combinedAdded, optionalCombinedAdded}
@@ -17,6 +20,7 @@ use Rattle.removal.specs.Calls.{combinedRemoved, optionalCombinedRemoved}
 use Rattle.capi.specs.Given.{isTrue, isKind, headGiven, isStrategy, strategyGiven, canMerge, isRemoval, removedGiven}
 use Rattle.capi.specs.declared.types.CHead.{CHead}
 use Rattle.capi.specs.declared.types.CRemoval.{CRemoval}
+use Rattle.capi.specs.declared.types.CId.{CId}
 
 -- `petasunok_serialize`
 abbrev pub serializedC : CHead → List ℕ → List ℕ → List ℕ → Written
@@ -71,3 +75,21 @@ hasRemovalC x t = cond (isRemoval (x .kind)) (hasRemoval (removedGiven x) t) (re
 -- `petasunok_total_removed_bytes`
 abbrev pub totalRemovedC : CRemoval → Tables → Answer ℕ
 totalRemovedC x t = cond (isRemoval (x .kind)) (totalRemoved (removedGiven x) t) (refused 11)
+
+-- ---- the head alone
+
+-- `petasunok_set_owner_id`
+abbrev pub withOwnerC : CHead → CId → Answer Head
+withOwnerC h i = cond (isKind (h .kind)) (ok (withOwner (headGiven h) (i .bytes))) (refused 11)
+
+-- `petasunok_base_epoch`
+abbrev pub baseC : CHead → Answer ℕ
+baseC h = cond (isKind (h .kind)) (ok (headGiven h .base)) (refused 11)
+
+-- `petasunok_owner_id`
+abbrev pub ownerIdC : CHead → Answer MaybeOwner
+ownerIdC h = cond (isKind (h .kind)) (ok (maybeOwner (ownerOf (headGiven h)))) (refused 11)
+
+-- `petasunok_type_byte`
+abbrev pub typeByteC : CHead → Answer ℕ
+typeByteC h = cond (isKind (h .kind)) (ok (typeByte (headGiven h .kind))) (refused 11)

@@ -4,9 +4,10 @@ use Prim.Native.Nat.{ℕ}
 use mathlib.Core.Bool.{Bool, true, false}
 use mathlib.Core.List.{List}
 use Rattle.records.specs.Refusals.{number}
-use Rattle.records.specs.Flags.{typeByte}
+use Rattle.records.specs.Flags.{typeByte, noHead, zeros}
 use Rattle.records.specs.Answers.{Answer, ok, refused, After, Written}
 use Rattle.records.specs.declared.head.Head.{Head}
+use Rattle.records.specs.declared.head.MaybeOwner.{MaybeOwner}
 use Rattle.flags.specs.declared.owners.Choice.{Choice}
 use Rattle.flags.specs.declared.owners.Choice.the-variants.{Ours, Theirs, Neither, Refused}
 use Rattle.rows.specs.Rows.{Tables}
@@ -21,6 +22,7 @@ use Rattle.capi.specs.declared.types.CRemoval.{CRemoval}
 use Rattle.capi.specs.declared.types.CSum.{CSum}
 use Rattle.capi.specs.declared.types.CSplit.{CSplit}
 use Rattle.capi.specs.declared.types.COwner.{COwner}
+use Rattle.capi.specs.declared.types.CMaybeOwner.{CMaybeOwner}
 
 -- yes is 1 and no is 0
 abbrev pub truth : Bool → ℕ
@@ -50,6 +52,11 @@ flagsAnswer a = record { refusal = a .refusal; present = truth (a .present); hea
 -- the same with the lent tables
 abbrev pub flagsTold : After → FlagsLeft
 flagsTold a = flagsLeft (flagsAnswer a) (a .epochs) (a .counts)
+
+-- a head, or a refusal's number
+abbrev pub headAnswer : Answer Head → CFlags
+headAnswer (ok h) = record { refusal = 0; present = 1; head = headTold h }
+headAnswer (refused r) = record { refusal = r; present = 0; head = headTold noHead }
 
 -- ---- calls that answer a number
 
@@ -84,6 +91,11 @@ ownerTold Neither = record { refusal = 0; which = 0 }
 ownerTold Ours = record { refusal = 0; which = 1 }
 ownerTold Theirs = record { refusal = 0; which = 2 }
 ownerTold (Refused r) = record { refusal = number r; which = 0 }
+
+-- an owner or none, or a refusal's number
+abbrev pub ownerIdTold : Answer MaybeOwner → CMaybeOwner
+ownerIdTold (ok o) = record { refusal = 0; present = truth (o .owned); id = record { bytes = o .id } }
+ownerIdTold (refused r) = record { refusal = r; present = 0; id = record { bytes = zeros } }
 
 -- ---- removals
 

@@ -1,5 +1,6 @@
 // Every public call under a name and in a form that C can call: a static library. A slice passes as a pointer and a length.
 mod given;
+mod heads;
 mod merging;
 mod reading;
 mod removals;
@@ -10,6 +11,8 @@ mod writing;
 pub use types::CCount;
 pub use types::CFlags;
 pub use types::CHead;
+pub use types::CId;
+pub use types::CMaybeOwner;
 pub use types::COwner;
 pub use types::CRemoval;
 pub use types::CSplit;

@@ -1,15 +1,18 @@
 // What the calls answer, as C gets it. In a refused answer everything but the number is 0.
 ghost use mathlib.Core.Path.{_≡_};
 ghost use mathlib.Core.List.{[]};
-ghost use Rattle.records.specs.Answers.{shown, counted};
+ghost use Rattle.records.specs.Refusals.{number};
+ghost use Rattle.records.specs.Answers.{ok, refused, shown, counted};
 ghost use Rattle.rows.specs.Calls.{told, totalled};
 ghost use Rattle.sums.specs.Calls.{told as toldSum};
 ghost use Rattle.splitting.specs.Calls.{told as toldSplit};
 ghost use Rattle.rows.specs.declared.removed.Removed.the-variants.{None};
-ghost use Rattle.capi.specs.Told.{headTold, flagsAnswer, countTold, truthTold, ownerTold, removalTold, sumAnswer, splitAnswer};
+ghost use Rattle.capi.specs.Told.{headTold, flagsAnswer, countTold, truthTold, ownerTold, ownerIdTold, removalTold, sumAnswer, splitAnswer};
 use crate::types::CCount;
 use crate::types::CFlags;
 use crate::types::CHead;
+use crate::types::CId;
+use crate::types::CMaybeOwner;
 use crate::types::COwner;
 use crate::types::CRemoval;
 use crate::types::CSplit;
@@ -18,7 +21,9 @@ use flags::Choice;
 use records::Answered;
 use records::Counted;
 use records::Head;
+use records::MaybeOwner;
 use records::Outcome;
+use records::Refusal;
 use rows::HasRemoval;
 use rows::Removed;
 use rows::StorageRemovedBytes;
@@ -27,7 +32,7 @@ use splitting::Splitting;
 use sums::Summed;
 
 // A head, its kind a byte.
-fn head(h: Head) -> CHead
+pub fn head(h: Head) -> CHead
     ensures { λ r. ⌜ r ≡ headTold h ⌝ }
 {
     let owner = h.owner;
@@ -67,7 +72,7 @@ pub fn flags(answered: Answered) -> CFlags
 }
 
 // A number.
-fn number(count: u64) -> CCount
+fn some_number(count: u64) -> CCount
     ensures { λ r. ⌜ r ≡ record { refusal = 0; count = count } ⌝ }
 {
     CCount { refusal: 0, count }
@@ -85,7 +90,7 @@ pub fn count(answer: Counted) -> CCount
     ensures { λ r. ⌜ r ≡ countTold (counted answer) ⌝ }
 {
     match answer {
-        Counted::Count(n) => number(n as u64),
+        Counted::Count(n) => some_number(n as u64),
         Counted::Refused(refusal) => no_number(refusal.number()),
     }
 }
@@ -95,8 +100,8 @@ pub fn has(answer: HasRemoval) -> CCount
     ensures { λ r. ⌜ r ≡ truthTold (told answer) ⌝ }
 {
     match answer {
-        HasRemoval::Yes => number(1),
-        HasRemoval::No => number(0),
+        HasRemoval::Yes => some_number(1),
+        HasRemoval::No => some_number(0),
         HasRemoval::Refused(refusal) => no_number(refusal.number()),
     }
 }
@@ -106,7 +111,7 @@ pub fn total(answer: Total) -> CCount
     ensures { λ r. ⌜ r ≡ countTold (totalled answer) ⌝ }
 {
     match answer {
-        Total::Bytes(n) => number(n as u64),
+        Total::Bytes(n) => some_number(n as u64),
         Total::Refused(refusal) => no_number(refusal.number()),
     }
 }
@@ -132,6 +137,36 @@ pub fn owner(choice: Choice) -> COwner
             refusal: refusal.number(),
             which: 0,
         },
+    }
+}
+
+// An owner or none.
+pub fn owner_id(owner: MaybeOwner) -> CMaybeOwner
+    ensures { λ r. ⌜ r ≡ ownerIdTold (ok owner) ⌝ }
+{
+    let bytes = owner.id;
+    if owner.owned {
+        return CMaybeOwner {
+            refusal: 0,
+            present: 1,
+            id: CId { bytes },
+        };
+    }
+    CMaybeOwner {
+        refusal: 0,
+        present: 0,
+        id: CId { bytes },
+    }
+}
+
+// A refusal in place of an owner.
+pub fn no_owner_id(refusal: Refusal) -> CMaybeOwner
+    ensures { λ r. ⌜ r ≡ ownerIdTold (refused (number refusal)) ⌝ }
+{
+    CMaybeOwner {
+        refusal: refusal.number(),
+        present: 0,
+        id: CId { bytes: [0u8; 32] },
     }
 }
 

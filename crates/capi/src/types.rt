@@ -54,3 +54,17 @@ pub struct COwner {
     pub refusal: u32,
     pub which: u8,
 }
+
+// 32 bytes that name who paid.
+#[repr(C)]
+pub struct CId {
+    pub bytes: [u8; 32],
+}
+
+// An owner or none, or a refusal.
+#[repr(C)]
+pub struct CMaybeOwner {
+    pub refusal: u32,
+    pub present: u8,
+    pub id: CId,
+}

@@ -13,5 +13,5 @@ total-spec =
     (λ c. search needs)
     (λ c κs. search needs)
     (λ c κs. search needs)
-    (λ c. simp (c .before .before .answer .given .1, c .number .ensures))
-    (λ c. simp (c .before .before .before .answer2 .given .1, c .before .number2 .ensures, c .no-number .ensures)))
+    (λ c. simp (c .before .before .answer .given .1, c .some-number .ensures))
+    (λ c. simp (c .before .before .before .answer2 .given .1, c .before .number .ensures, c .no-number .ensures)))

@@ -1,0 +1,30 @@
+-- `capi::heads::petasunok_base_epoch` meets its contract: the call's own number is told, or 11. Assumes nothing.
+use mathlib.Core.Path.{refl, sym, ap, _∙_}
+use Prim.Native.Nat.{ℕ}
+use Rattle.records.specs.Answers.{ok}
+use Rattle.capi.proofs.Telling.{when-true, when-false}
+use Rattle.capi.specs.Told.{countTold}
+use borrow.Author.Needs.{needs}
+use Rattle.capi.proofs.heads.petasunok_base_epoch.Statement.{statement}
+use Rattle.capi.proofs.heads.petasunok_base_epoch.Tie as tie
+
+returns : tie.Need-returns
+returns c =
+    c .count .ensures ∙ ap countTold (when-true _ _ _ (sym (c .before .before .before .before .is-kind .ensures) ∙ c .before .before .before .if1 .taken) (ap (λ (n : ℕ). ok n) (c .before .base-epoch .ensures ∙ simp (c .before .before .head .ensures))))
+
+returns-2 : tie.Need-returns-2
+returns-2 c =
+    c .count2 .ensures ∙ ap countTold (when-false _ _ _ (sym (c .before .before .is-kind .ensures) ∙ c .before .if1 .left) refl)
+
+pub petasunok-base-epoch-spec : {M : Type 1} → statement M
+petasunok-base-epoch-spec =
+    tie.close
+    (tie.spec
+    (λ c κs. search needs)
+    (λ c κs. search needs)
+    (λ c κs. search needs)
+    (λ c. search needs)
+    (λ c κs. search needs)
+    returns
+    (λ c κs. search needs)
+    returns-2)

@@ -1,0 +1,79 @@
+// The calls on a head alone, for C.
+ghost use mathlib.Core.Path.{_≡_};
+ghost use Rattle.records.specs.Flags.{ownerIf, headFor};
+ghost use Rattle.capi.specs.Given.{isTrue};
+ghost use Rattle.capi.specs.Told.{headTold, headAnswer, countTold, ownerIdTold};
+ghost use Rattle.capi.specs.Calls.{withOwnerC, baseC, ownerIdC, typeByteC};
+use crate::given;
+use crate::told;
+use crate::types::CCount;
+use crate::types::CFlags;
+use crate::types::CHead;
+use crate::types::CId;
+use crate::types::CMaybeOwner;
+use records::Counted;
+use records::Head;
+use records::MaybeOwner;
+use records::Refusal;
+
+// Flags whose bytes were all paid in one epoch.
+#[no_mangle]
+pub extern "C" fn petasunok_new_single_epoch(epoch: u16, owned: u8, owner: CId) -> CHead
+    ensures { λ r. ⌜ r ≡ headTold (headFor epoch (ownerIf (isTrue owned) (owner .bytes)) 0) ⌝ }
+{
+    let id = owner.bytes;
+    let maybe_owner_id = MaybeOwner {
+        owned: given::is_true(owned),
+        id,
+    };
+    told::head(Head::new_single_epoch(epoch, maybe_owner_id))
+}
+
+// The head with another owner, where it is owned.
+#[no_mangle]
+pub extern "C" fn petasunok_set_owner_id(head: CHead, owner: CId) -> CFlags
+    ensures { λ r. ⌜ r ≡ headAnswer (withOwnerC head owner) ⌝ }
+{
+    if given::is_kind(head.kind) {
+        let found = given::head(head);
+        let id = owner.bytes;
+        return told::flags(records::present(found.set_owner_id(id)));
+    }
+    told::flags(records::refused(Refusal::BadTable))
+}
+
+// The epoch of the bytes that no record counts.
+#[no_mangle]
+pub extern "C" fn petasunok_base_epoch(head: CHead) -> CCount
+    ensures { λ r. ⌜ r ≡ countTold (baseC head) ⌝ }
+{
+    if given::is_kind(head.kind) {
+        let found = given::head(head);
+        return told::count(Counted::Count(found.base_epoch() as usize));
+    }
+    told::count(Counted::Refused(Refusal::BadTable))
+}
+
+// The owner or none.
+#[no_mangle]
+pub extern "C" fn petasunok_owner_id(head: CHead) -> CMaybeOwner
+    ensures { λ r. ⌜ r ≡ ownerIdTold (ownerIdC head) ⌝ }
+{
+    if given::is_kind(head.kind) {
+        let found = given::head(head);
+        return told::owner_id(found.owner_id());
+    }
+    told::no_owner_id(Refusal::BadTable)
+}
+
+// Byte 0 of the flags.
+#[no_mangle]
+pub extern "C" fn petasunok_type_byte(head: CHead) -> CCount
+    ensures { λ r. ⌜ r ≡ countTold (typeByteC head) ⌝ }
+{
+    if given::is_kind(head.kind) {
+        let found = given::head(head);
+        return told::count(Counted::Count(found.type_byte() as usize));
+    }
+    told::count(Counted::Refused(Refusal::BadTable))
+}
