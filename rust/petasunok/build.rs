@@ -19,7 +19,12 @@ fn main() {
 fn find() -> (PathBuf, &'static str) {
     if let Some(named) = std::env::var_os("PETASUNOK_LIB") {
         let folder = PathBuf::from(named);
-        return holds(&folder).unwrap_or_else(|| panic!("petasunok: there is no libpetasunok.a in {}, which PETASUNOK_LIB names", folder.display()));
+        return holds(&folder).unwrap_or_else(|| {
+            panic!(
+                "petasunok: there is no libpetasunok.a in {}, which PETASUNOK_LIB names",
+                folder.display()
+            )
+        });
     }
     let here = PathBuf::from(std::env::var_os("CARGO_MANIFEST_DIR").expect("cargo names this folder"));
     // installed: PREFIX/src/petasunok beside PREFIX/lib
@@ -33,7 +38,9 @@ fn find() -> (PathBuf, &'static str) {
 
 /// The archive of a folder, if it has one.
 fn holds(folder: &Path) -> Option<(PathBuf, &'static str)> {
-    let name = ["petasunok", "capi"].into_iter().find(|name| folder.join(format!("lib{name}.a")).is_file())?;
+    let name = ["petasunok", "capi"]
+        .into_iter()
+        .find(|name| folder.join(format!("lib{name}.a")).is_file())?;
     Some((folder.to_path_buf(), name))
 }
 

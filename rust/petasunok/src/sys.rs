@@ -115,12 +115,7 @@ extern "C" {
         flags_counts: *const u32,
         flags_counts_len: usize,
     ) -> petasunok_count;
-    pub fn petasunok_approximate_size(
-        has_owner: u8,
-        given: u8,
-        changes: u16,
-        size: u8,
-    ) -> u32;
+    pub fn petasunok_approximate_size(has_owner: u8, given: u8, changes: u16, size: u8) -> u32;
     pub fn petasunok_combine_owner_id(
         ours: *const u8,
         ours_len: usize,
