@@ -79,21 +79,36 @@ impl Head {
 }
 
 impl Removal {
+    /// The kind of no removal.
+    pub const NO_REMOVAL: u8 = 0;
+    /// The kind of a number of bytes.
+    pub const BASIC_REMOVAL: u8 = 1;
+    /// The kind of rows in tables.
+    pub const SECTIONED_REMOVAL: u8 = 2;
+
     /// No removal.
     pub const NONE: Self = Self {
-        kind: 0,
+        kind: Self::NO_REMOVAL,
         bytes: 0,
         rows: 0,
     };
 
     /// A removal of some bytes, of which no more is known.
     pub const fn basic(bytes: u32) -> Self {
-        Self { kind: 1, bytes, rows: 0 }
+        Self {
+            kind: Self::BASIC_REMOVAL,
+            bytes,
+            ..Self::NONE
+        }
     }
 
     /// A removal whose sections stand in the first rows of three tables.
     pub const fn sectioned(rows: usize) -> Self {
-        Self { kind: 2, bytes: 0, rows }
+        Self {
+            kind: Self::SECTIONED_REMOVAL,
+            rows,
+            ..Self::NONE
+        }
     }
 }
 

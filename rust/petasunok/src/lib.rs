@@ -32,7 +32,7 @@
 //! | maps of removals | `BTreeMap<Identifier, IntMap<u16, u32>>` | [`StorageRemovalPerEpochByIdentifier`], made from a map of maps and back |
 //! | an identifier without sections | can stand in the map | is left out |
 //! | errors | carry a text | are [`StorageFlagsError`] alone, each with a number; `RemovalTooLarge`, `TotalTooLarge`, `NoRoom` and `BadTable` are new |
-//! | flags and rows that are not proper | are taken as they are; `serialize` has debug assertions | are refused with `BadTable` (11) by every call |
+//! | flags and rows that are not proper | are taken as they are; `serialize` has debug assertions | are refused with `BadTable` (11) by every call that reads, merges, splits or adds them |
 //! | `serialize`, `serialized_size` and what is built on them | cannot fail | answer a `Result`, for `BadTable` |
 //! | `split_storage_removed_bytes` | overflows for the top three amounts | answers a `Result`, `RemovalTooLarge` (8) there; a second form also counts the records visited |
 //! | `total_removed_bytes` | overflows | answers a `Result`, `TotalTooLarge` (9) there |

@@ -7,9 +7,12 @@ use petasunok::StorageFlagsError::*;
 use petasunok::StorageRemovedBytes::{self, *};
 use petasunok::{StorageFlags, StorageRemovalPerEpochByIdentifier};
 
+/// An example of reading: its name, the bytes, and what they say.
+type Reading = (&'static str, &'static [u8], Answer<Option<StorageFlags>>);
+
 #[test]
 fn p1_to_p9_reading() {
-    let examples: [(&str, &[u8], Answer<Option<StorageFlags>>); 9] = [
+    let examples: [Reading; 9] = [
         ("P1", &[], Ok(None)),
         ("P2", &[0, 0, 5], Ok(Some(SingleEpoch(5)))),
         ("P3", &[0, 5], Err(StorageFlagsWrongSize)),

@@ -39,9 +39,12 @@ fn what_flags_say() {
     assert_eq!(MergingOwnersStrategy::default(), RaiseIssue);
 }
 
+/// A reader of one kind.
+type Reader = fn(&[u8]) -> Answer<StorageFlags>;
+
 #[test]
 fn all_kinds_are_written_and_read() {
-    let readers: [fn(&[u8]) -> Answer<StorageFlags>; 4] = [
+    let readers: [Reader; 4] = [
         StorageFlags::deserialize_single_epoch,
         StorageFlags::deserialize_multi_epoch,
         StorageFlags::deserialize_single_epoch_owned,

@@ -92,8 +92,8 @@ impl Rows {
         );
         let removal = answer?;
         Ok(match removal.kind {
-            0 => StorageRemovedBytes::NoStorageRemoval,
-            1 => StorageRemovedBytes::BasicStorageRemoval(removal.bytes),
+            Removal::NO_REMOVAL => StorageRemovedBytes::NoStorageRemoval,
+            Removal::BASIC_REMOVAL => StorageRemovedBytes::BasicStorageRemoval(removal.bytes),
             _ => StorageRemovedBytes::SectionedStorageRemoval(
                 StorageRemovalPerEpochByIdentifier::from_tables(self.0, self.1, self.2).unwrap(),
             ),
