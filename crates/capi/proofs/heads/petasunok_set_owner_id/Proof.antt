@@ -1,6 +1,5 @@
 -- `capi::heads::petasunok_set_owner_id` meets its contract: the call's own head is told, or 11. Assumes nothing.
 use mathlib.Core.Path.{sym, _∙_}
-use Rattle.records.specs.Answers.{refused}
 use borrow.Author.Needs.{needs}
 use Rattle.capi.proofs.heads.petasunok_set_owner_id.Statement.{statement}
 use Rattle.capi.proofs.heads.petasunok_set_owner_id.Tie as tie
