@@ -57,11 +57,13 @@ macro_rules! call {
     };
 }
 
+mod heads;
 mod merging;
 mod reading;
 mod removals;
 mod writing;
 
+pub use heads::*;
 pub use merging::*;
 pub use reading::*;
 pub use removals::*;

@@ -74,6 +74,22 @@ pub struct petasunok_owner {
     pub which: u8,
 }
 
+/// 32 bytes that name who paid.
+#[repr(C)]
+#[derive(Clone, Copy, Debug, Default, PartialEq, Eq)]
+pub struct petasunok_id {
+    pub bytes: [u8; 32],
+}
+
+/// An owner, or none, or a refusal.
+#[repr(C)]
+#[derive(Clone, Copy, Debug, Default, PartialEq, Eq)]
+pub struct petasunok_maybe_owner {
+    pub refusal: u32,
+    pub present: u8,
+    pub id: petasunok_id,
+}
+
 /// Declares functions of the library by their parts: `value`, `slice` (read) and `room` (written), and `flags`, `rows` (read) and
 /// `rows_room` (written), which stand for their tables in the header's order.
 macro_rules! declare {
@@ -124,4 +140,9 @@ declare! {
     petasunok_add_assign(value lhs: petasunok_removal, rows_room lhs_rows, rows rhs, value version: u16) -> petasunok_sum;
     petasunok_has_removal(rows removal) -> petasunok_count;
     petasunok_total_removed_bytes(rows removal) -> petasunok_count;
+    petasunok_new_single_epoch(value epoch: u16, value owned: u8, value owner: petasunok_id) -> petasunok_head;
+    petasunok_set_owner_id(value head: petasunok_head, value owner: petasunok_id) -> petasunok_flags;
+    petasunok_base_epoch(value head: petasunok_head) -> petasunok_count;
+    petasunok_owner_id(value head: petasunok_head) -> petasunok_maybe_owner;
+    petasunok_type_byte(value head: petasunok_head) -> petasunok_count;
 }

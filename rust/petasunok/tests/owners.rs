@@ -39,6 +39,35 @@ fn what_flags_say() {
     assert_eq!(MergingOwnersStrategy::default(), RaiseIssue);
 }
 
+#[test]
+fn heads_say_what_owned_flags_say() {
+    for flags in all_kinds(A) {
+        let head = flags.as_lent().head;
+        let mut changed = flags.clone();
+        changed.set_owner_id(B);
+        assert_eq!(lent::set_owner_id(head, B), Ok(changed.as_lent().head));
+        assert_eq!(lent::base_epoch(head), Ok(*flags.base_epoch()));
+        assert_eq!(lent::owner_id(head), Ok(flags.owner_id().copied()));
+        assert_eq!(lent::type_byte(head), Ok(flags.type_byte()));
+    }
+    for owner in [None, Some(A)] {
+        let made = StorageFlags::new_single_epoch(5, owner);
+        assert_eq!(lent::new_single_epoch(5, owner), made.as_lent().head);
+    }
+}
+
+#[test]
+fn a_kind_that_does_not_exist_is_refused() {
+    let head = lent::Head {
+        kind: 4,
+        ..lent::Head::default()
+    };
+    assert_eq!(lent::set_owner_id(head, B), Err(BadTable));
+    assert_eq!(lent::base_epoch(head), Err(BadTable));
+    assert_eq!(lent::owner_id(head), Err(BadTable));
+    assert_eq!(lent::type_byte(head), Err(BadTable));
+}
+
 /// A reader of one kind.
 type Reader = fn(&[u8]) -> Answer<StorageFlags>;
 
