@@ -1,9 +1,11 @@
 // Every public call under a name and in a form that C can call: a static library. A slice passes as a pointer and a length.
+mod adding;
 mod given;
 mod heads;
-mod merging;
+mod owners;
 mod reading;
 mod removals;
+mod removing;
 mod told;
 mod types;
 mod writing;

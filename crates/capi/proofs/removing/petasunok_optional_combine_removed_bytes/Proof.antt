@@ -1,11 +1,11 @@
--- `capi::merging::petasunok_optional_combine_removed_bytes` meets its contract: the call's own answer is told, or 11. Assumes nothing.
+-- `capi::removing::petasunok_optional_combine_removed_bytes` meets its contract: the call's own answer is told, or 11. Assumes nothing.
 use mathlib.Core.Path.{_≡_, sym, _∙_}
 use Rattle.capi.proofs.Telling.{when-true, flags-told, flags-bad}
 use mathlib.Core.Bool.{true, false, _&&_}
 use Rattle.capi.specs.Given.{isTrue, canMerge, isRemoval}
 use borrow.Author.Needs.{needs}
-use Rattle.capi.proofs.merging.petasunok_optional_combine_removed_bytes.Statement.{statement}
-use Rattle.capi.proofs.merging.petasunok_optional_combine_removed_bytes.Tie as tie
+use Rattle.capi.proofs.removing.petasunok_optional_combine_removed_bytes.Statement.{statement}
+use Rattle.capi.proofs.removing.petasunok_optional_combine_removed_bytes.Tie as tie
 
 returns : tie.Need-returns
 returns c =

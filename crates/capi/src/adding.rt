@@ -1,0 +1,77 @@
+// The adding merge, for C.
+ghost use mathlib.Core.Path.{_≡_};
+ghost use Rattle.capi.specs.Told.{flagsLeft, flagsTold};
+ghost use Rattle.capi.specs.Calls.{combinedAddedC, optionalCombinedAddedC};
+use crate::given;
+use crate::told;
+use crate::types::CFlags;
+use crate::types::CHead;
+use records::Refusal;
+
+// Merges ours with the incoming flags that came with added bytes.
+#[no_mangle]
+pub extern "C" fn petasunok_combine_added_bytes(
+    ours: CHead,
+    ours_epochs: &[u16],
+    ours_counts: &[u32],
+    theirs: CHead,
+    theirs_epochs: &[u16],
+    theirs_counts: &[u32],
+    amount: u32,
+    strategy: u8,
+    epochs: &mut [u16],
+    counts: &mut [u32],
+) -> CFlags
+    ensures { λ r. ⌜ flagsLeft r (now (epochs .exit)) (now (counts .exit)) ≡ flagsTold (combinedAddedC ours (now («ours_epochs» .entry)) (now («ours_counts» .entry)) theirs (now («theirs_epochs» .entry)) (now («theirs_counts» .entry)) amount strategy (now (epochs .entry)) (now (counts .entry))) ⌝ }
+{
+    if given::can_merge(true, ours, theirs, strategy) {
+        return told::flags(flags::combine_added_bytes(
+            given::head(ours),
+            ours_epochs,
+            ours_counts,
+            given::head(theirs),
+            theirs_epochs,
+            theirs_counts,
+            amount,
+            given::strategy(strategy),
+            epochs,
+            counts,
+        ));
+    }
+    told::flags(records::refused(Refusal::BadTable))
+}
+
+// The same where ours may be absent; then ours is not looked at.
+#[no_mangle]
+pub extern "C" fn petasunok_optional_combine_added_bytes(
+    present: u8,
+    ours: CHead,
+    ours_epochs: &[u16],
+    ours_counts: &[u32],
+    theirs: CHead,
+    theirs_epochs: &[u16],
+    theirs_counts: &[u32],
+    amount: u32,
+    strategy: u8,
+    epochs: &mut [u16],
+    counts: &mut [u32],
+) -> CFlags
+    ensures { λ r. ⌜ flagsLeft r (now (epochs .exit)) (now (counts .exit)) ≡ flagsTold (optionalCombinedAddedC present ours (now («ours_epochs» .entry)) (now («ours_counts» .entry)) theirs (now («theirs_epochs» .entry)) (now («theirs_counts» .entry)) amount strategy (now (epochs .entry)) (now (counts .entry))) ⌝ }
+{
+    if given::can_merge(given::is_true(present), ours, theirs, strategy) {
+        return told::flags(flags::optional_combine_added_bytes(
+            given::is_true(present),
+            given::head(ours),
+            ours_epochs,
+            ours_counts,
+            given::head(theirs),
+            theirs_epochs,
+            theirs_counts,
+            amount,
+            given::strategy(strategy),
+            epochs,
+            counts,
+        ));
+    }
+    told::flags(records::refused(Refusal::BadTable))
+}

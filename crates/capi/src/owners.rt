@@ -1,0 +1,20 @@
+// The owner rule, for C.
+ghost use mathlib.Core.Path.{_≡_};
+ghost use Rattle.capi.specs.Told.{ownerTold};
+ghost use Rattle.capi.specs.Calls.{ownerC};
+use crate::given;
+use crate::told;
+use crate::types::COwner;
+use flags::Choice;
+use records::Refusal;
+
+// Whose owner stands in two encodings.
+#[no_mangle]
+pub extern "C" fn petasunok_combine_owner_id(ours: &[u8], theirs: &[u8], strategy: u8) -> COwner
+    ensures { λ r. ⌜ r ≡ ownerTold (ownerC strategy (now (ours .entry)) (now (theirs .entry))) ⌝ }
+{
+    if given::is_strategy(strategy) {
+        return told::owner(flags::choose_owner_id(ours, theirs, given::strategy(strategy)));
+    }
+    told::owner(Choice::Refused(Refusal::BadTable))
+}
