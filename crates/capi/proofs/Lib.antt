@@ -1,2 +1,3 @@
 -- What the proofs share. Assumes nothing.
 pub mod Telling
+pub mod Marked
