@@ -1,0 +1,2 @@
+-- What the proofs share. Assumes nothing.
+pub mod Counting
