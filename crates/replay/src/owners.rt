@@ -1,39 +1,41 @@
 // Replaying the owner rule: 9.
-use crate::question::take_part;
-use crate::question::take_strategy;
-use crate::reply::put_accepted;
-use crate::reply::put_part;
-use crate::reply::put_refusal;
-use crate::reply::put_u8;
 use flags::Choice;
+use wire::byte_of;
+use wire::take_part;
+use wire::take_strategy;
+use wire::tell_part;
+use wire::tell_u8;
+use wire::turn;
 
-// Whose owner it is: 0 none, 1 ours, 2 theirs; or a refusal.
-fn put_choice(out: &mut [u8], to: &mut usize, choice: Choice) {
+// The number of the refusal in a choice, or 0.
+fn refusal_in(choice: Choice) -> u8 {
     match choice {
-        Choice::Neither => {
-            put_accepted(out, to);
-            put_u8(out, to, 0);
-        }
-        Choice::Ours => {
-            put_accepted(out, to);
-            put_u8(out, to, 1);
-        }
-        Choice::Theirs => {
-            put_accepted(out, to);
-            put_u8(out, to, 2);
-        }
-        Choice::Refused(refusal) => {
-            put_refusal(out, to, refusal);
-            put_u8(out, to, 0);
-        }
+        Choice::Neither => 0,
+        Choice::Ours => 0,
+        Choice::Theirs => 0,
+        Choice::Refused(refusal) => byte_of(refusal),
+    }
+}
+
+// Whose owner is chosen: 0 none, 1 ours, 2 theirs.
+fn chosen_in(choice: Choice) -> u8 {
+    match choice {
+        Choice::Neither => 0,
+        Choice::Ours => 1,
+        Choice::Theirs => 2,
+        Choice::Refused(_) => 0,
     }
 }
 
 // The owner rule on two encodings, and the part that is handed back.
-pub fn combine_owner_id(question: &[u8], at: &mut usize, out: &mut [u8], to: &mut usize) {
-    let ours = take_part(question, at);
-    let theirs = take_part(question, at);
-    let strategy = take_strategy(question, at);
-    put_choice(out, to, flags::choose_owner_id(ours, theirs, strategy));
-    put_part(out, to, flags::combine_owner_id(ours, theirs, strategy));
+pub fn combine_owner_id(question: &[u8], reply: &[u8]) -> usize {
+    let mut at: usize = 1;
+    let ours = take_part(question, &mut at);
+    let theirs = take_part(question, &mut at);
+    let strategy = take_strategy(question, &mut at);
+    let choice = flags::choose_owner_id(ours, theirs, strategy);
+    let owner = flags::combine_owner_id(ours, theirs, strategy);
+    let which = tell_u8(reply, turn(question, at), refusal_in(choice));
+    let part = tell_u8(reply, which, chosen_in(choice));
+    tell_part(reply, part, owner)
 }

@@ -1,9 +1,10 @@
 // Replaying the readers: 1 to 5.
-use crate::question::take_counts;
-use crate::question::take_epochs;
-use crate::question::take_part;
-use crate::reply::put_answer;
 use records::Answered;
+use wire::take_counts;
+use wire::take_epochs;
+use wire::take_part;
+use wire::tell_answer;
+use wire::turn;
 
 // The reader of a number.
 fn deserialize_by(call: u8, src: &[u8], epochs: &mut [u16], counts: &mut [u32]) -> Answered {
@@ -16,25 +17,14 @@ fn deserialize_by(call: u8, src: &[u8], epochs: &mut [u16], counts: &mut [u32]) 
     }
 }
 
-// Reads flags, and tells the answer and the tables.
-fn tell(
-    call: u8,
-    src: &[u8],
-    epochs: &mut [u16],
-    counts: &mut [u32],
-    out: &mut [u8],
-    to: &mut usize,
-) {
-    let answered = deserialize_by(call, src, epochs, counts);
-    put_answer(out, to, answered, epochs, counts);
-}
-
 // A reader: bytes, and the tables that are lent.
-pub fn deserialize(call: u8, question: &[u8], at: &mut usize, out: &mut [u8], to: &mut usize) {
-    let src = take_part(question, at);
+pub fn deserialize(call: u8, question: &[u8], reply: &[u8]) -> usize {
+    let mut at: usize = 1;
+    let src = take_part(question, &mut at);
     let mut epochs = [0u16; 16];
-    let n = take_epochs(question, at, &mut epochs);
+    let epochs = take_epochs(question, &mut at, &mut epochs);
     let mut counts = [0u32; 16];
-    let m = take_counts(question, at, &mut counts);
-    tell(call, src, &mut epochs[..n], &mut counts[..m], out, to);
+    let counts = take_counts(question, &mut at, &mut counts);
+    let answered = deserialize_by(call, src, epochs, counts);
+    tell_answer(reply, turn(question, at), answered, epochs, counts)
 }

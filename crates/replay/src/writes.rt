@@ -1,54 +1,58 @@
 // Replaying the writer and the sizes: 6 to 8.
-use crate::question::take_bool;
-use crate::question::take_bytes;
-use crate::question::take_counts;
-use crate::question::take_epochs;
-use crate::question::take_head;
-use crate::question::take_u8;
-use crate::question::take_u16;
-use crate::reply::put_counted;
-use crate::reply::put_part;
-use crate::reply::put_u32;
 use codec::Changes;
-use records::Head;
+use records::Counted;
+use wire::DIFFERS;
+use wire::byte_of;
+use wire::take_bool;
+use wire::take_bytes;
+use wire::take_counts;
+use wire::take_epochs;
+use wire::take_head;
+use wire::take_u8;
+use wire::take_u16;
+use wire::tell_number;
+use wire::tell_part;
+use wire::tell_u32;
+use wire::turn;
 
-// Writes flags, and tells the count and the bytes.
-fn tell(
-    flags: Head,
-    epochs: &[u16],
-    counts: &[u32],
-    bytes: &mut [u8],
-    out: &mut [u8],
-    to: &mut usize,
-) {
-    put_counted(out, to, codec::serialize(flags, epochs, counts, bytes));
-    put_part(out, to, bytes);
+// A number of bytes, or a refusal.
+fn tell_counted(reply: &[u8], at: usize, counted: Counted) -> usize {
+    match counted {
+        Counted::Count(n) => {
+            if n < 4294967296 {
+                return tell_number(reply, at, 0, n as u32);
+            }
+            DIFFERS
+        }
+        Counted::Refused(refusal) => tell_number(reply, at, byte_of(refusal), 0),
+    }
 }
 
 // The writer: flags, and the bytes that are lent.
-pub fn serialize(question: &[u8], at: &mut usize, out: &mut [u8], to: &mut usize) {
-    let flags = take_head(question, at);
+pub fn serialize(question: &[u8], reply: &[u8]) -> usize {
+    let mut at: usize = 1;
+    let flags = take_head(question, &mut at);
     let mut epochs = [0u16; 16];
-    let n = take_epochs(question, at, &mut epochs);
+    let epochs = take_epochs(question, &mut at, &mut epochs);
     let mut counts = [0u32; 16];
-    let m = take_counts(question, at, &mut counts);
-    let mut bytes = [0u8; 1024];
-    let k = take_bytes(question, at, &mut bytes);
-    tell(flags, &epochs[..n], &counts[..m], &mut bytes[..k], out, to);
+    let counts = take_counts(question, &mut at, &mut counts);
+    let mut out = [0u8; 1024];
+    let out = take_bytes(question, &mut at, &mut out);
+    let counted = codec::serialize(flags, epochs, counts, out);
+    let to = tell_counted(reply, turn(question, at), counted);
+    tell_part(reply, to, out)
 }
 
 // The size of flags.
-pub fn serialized_size(question: &[u8], at: &mut usize, out: &mut [u8], to: &mut usize) {
-    let flags = take_head(question, at);
+pub fn serialized_size(question: &[u8], reply: &[u8]) -> usize {
+    let mut at: usize = 1;
+    let flags = take_head(question, &mut at);
     let mut epochs = [0u16; 16];
-    let n = take_epochs(question, at, &mut epochs);
+    let epochs = take_epochs(question, &mut at, &mut epochs);
     let mut counts = [0u32; 16];
-    let m = take_counts(question, at, &mut counts);
-    put_counted(
-        out,
-        to,
-        codec::serialized_size(flags, &epochs[..n], &counts[..m]),
-    );
+    let counts = take_counts(question, &mut at, &mut counts);
+    let counted = codec::serialized_size(flags, epochs, counts);
+    tell_counted(reply, turn(question, at), counted)
 }
 
 // The changes, if given.
@@ -63,8 +67,10 @@ fn take_changes(question: &[u8], at: &mut usize) -> Changes {
 }
 
 // The size of flags before they are made.
-pub fn approximate_size(question: &[u8], at: &mut usize, out: &mut [u8], to: &mut usize) {
-    let has_owner = take_bool(question, at);
-    let changes = take_changes(question, at);
-    put_u32(out, to, codec::approximate_size(has_owner, changes));
+pub fn approximate_size(question: &[u8], reply: &[u8]) -> usize {
+    let mut at: usize = 1;
+    let has_owner = take_bool(question, &mut at);
+    let changes = take_changes(question, &mut at);
+    let size = codec::approximate_size(has_owner, changes);
+    tell_u32(reply, turn(question, at), size)
 }
