@@ -4,6 +4,7 @@ mod names;
 mod tally;
 
 use crate::line::Line;
+use crate::tally::CALLS;
 use crate::tally::count;
 use crate::tally::name_fault;
 use libc::STDIN_FILENO;
@@ -137,8 +138,8 @@ fn read_all(question: &mut [u8], reply: &mut [u8], agree: &mut [u64], differ: &m
 fn main() {
     let mut question = [0u8; 1024];
     let mut reply = [0u8; 1024];
-    let mut agree = [0u64; 23];
-    let mut differ = [0u64; 23];
+    let mut agree = [0u64; CALLS];
+    let mut differ = [0u64; CALLS];
     read_all(&mut question, &mut reply, &mut agree, &mut differ);
     tally::print(&agree, &differ);
 }

@@ -28,7 +28,6 @@ pub use reply::tell_number;
 pub use reply::tell_part;
 pub use reply::tell_removal;
 pub use reply::tell_rows;
-pub use reply::tell_tables;
 pub use reply::tell_u8;
 pub use reply::tell_u16;
 pub use reply::tell_u32;

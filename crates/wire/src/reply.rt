@@ -2,9 +2,7 @@
 // field, or `DIFFERS` where the reply says something else or is too short.
 use crate::question::BEYOND;
 use records::Answered;
-use records::Counted;
 use records::Head;
-use records::MaybeOwner;
 use records::Outcome;
 use records::Refusal;
 use rows::Removed;
@@ -106,7 +104,7 @@ fn tell_ids(reply: &[u8], at: usize, ids: &[[u8; 32]]) -> usize {
 }
 
 // The tables of records.
-pub fn tell_tables(reply: &[u8], at: usize, epochs: &[u16], counts: &[u32]) -> usize {
+fn tell_tables(reply: &[u8], at: usize, epochs: &[u16], counts: &[u32]) -> usize {
     tell_counts(reply, tell_epochs(reply, at, epochs), counts)
 }
 
