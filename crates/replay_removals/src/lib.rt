@@ -1,0 +1,7 @@
+// Replaying the calls on removals: the split and the sums.
+mod removals;
+mod splits;
+
+pub use removals::add_assign;
+pub use removals::count;
+pub use splits::split;

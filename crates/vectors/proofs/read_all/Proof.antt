@@ -1,0 +1,35 @@
+-- `vectors::read_all` is safe and ends: what is lent keeps its length, and the measure is the number of turns left. Assumes nothing.
+use mathlib.Core.Path.{_≡_}
+use lib.ListN.{length}
+use borrow.Author.Needs.{needs}
+use Rattle.vectors.proofs.read_all.Statement.{statement}
+use Rattle.vectors.proofs.read_all.Tie as tie
+
+abbrev Inv-loop : tie.InvT-loop
+Inv-loop question₀ reply₀ agree₀ differ₀ line₀ turns₀ question reply agree differ line turns = ((length question ≡ length question₀) × (length reply ≡ length reply₀)) × ((length agree ≡ length agree₀) × (length differ ≡ length differ₀))
+
+abbrev μ-loop : tie.MeasureT-loop
+μ-loop question₀ reply₀ agree₀ differ₀ line₀ turns₀ question reply agree differ line turns = turns
+
+pub read-all-spec : {M : Type 1} → statement M
+read-all-spec =
+    tie.close
+    (tie.spec
+    Inv-loop
+    μ-loop
+    (λ c κs. search needs)
+    (λ c. search needs)
+    (λ c κs. search needs)
+    (λ c. search needs)
+    (λ c. search needs)
+    (λ c. search needs)
+    (λ c. search needs)
+    (λ c. search needs)
+    (λ c. search needs)
+    (λ c. search needs)
+    (λ c. search needs)
+    (λ c. search needs)
+    (λ c. search needs)
+    (λ c. search needs)
+    (λ c. search needs)
+    (λ c. search needs))

@@ -1,0 +1,31 @@
+-- `vectors::take_piece` is safe and ends: what is lent keeps its length, and the measure is the number of bytes left. Assumes nothing.
+use Prim.Native.Nat.{_-_}
+use mathlib.Core.Path.{_≡_}
+use lib.ListN.{length}
+use borrow.Author.Needs.{needs}
+use Rattle.vectors.proofs.take_piece.Statement.{statement}
+use Rattle.vectors.proofs.take_piece.Tie as tie
+
+abbrev Inv-loop : tie.InvT-loop
+Inv-loop piece question₀ reply₀ agree₀ differ₀ line₀ k₀ question reply agree differ line k = ((length question ≡ length question₀) × (length reply ≡ length reply₀)) × ((length agree ≡ length agree₀) × (length differ ≡ length differ₀))
+
+abbrev μ-loop : tie.MeasureT-loop
+μ-loop piece question₀ reply₀ agree₀ differ₀ line₀ k₀ question reply agree differ line k = length piece - k
+
+pub take-piece-spec : {M : Type 1} → statement M
+take-piece-spec =
+    tie.close
+    (tie.spec
+    Inv-loop
+    μ-loop
+    (λ c. search needs)
+    (λ c. search needs)
+    (λ c κs. search needs)
+    (λ c. search needs)
+    (λ c. search needs)
+    (λ c. search needs)
+    (λ c. search needs)
+    (λ c. search needs)
+    (λ c. search needs)
+    (λ c. search needs)
+    (λ c. search needs))

@@ -1,0 +1,34 @@
+// The fields of stored questions and replies: reading a question, and holding an answer against a reply.
+mod question;
+mod reply;
+
+pub use question::BEYOND;
+pub use question::take_bool;
+pub use question::take_bytes;
+pub use question::take_counts;
+pub use question::take_epochs;
+pub use question::take_head;
+pub use question::take_id;
+pub use question::take_ids;
+pub use question::take_owner;
+pub use question::take_part;
+pub use question::take_removal;
+pub use question::take_strategy;
+pub use question::take_u8;
+pub use question::take_u16;
+pub use question::take_u32;
+pub use reply::DIFFERS;
+pub use reply::byte_of;
+pub use reply::tell_answer;
+pub use reply::tell_bytes;
+pub use reply::tell_head;
+pub use reply::tell_len;
+pub use reply::tell_no_removal;
+pub use reply::tell_number;
+pub use reply::tell_part;
+pub use reply::tell_removal;
+pub use reply::tell_rows;
+pub use reply::tell_u8;
+pub use reply::tell_u16;
+pub use reply::tell_u32;
+pub use reply::turn;
