@@ -1,0 +1,3 @@
+fn main() {
+    print!("{}", differential::vectors::list(1));
+}
