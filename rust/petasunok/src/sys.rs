@@ -1,17 +1,24 @@
 //! The static library as C sees it: the structs and functions of `c/petasunok.h`, in its order.
 //!
-//! A slice is a pointer and a length in elements. Everything here is also there as safe functions on slices, in [`crate::lent`].
+//! A slice is a pointer and a length in elements, which stands behind the pointer without a name of its own. Everything here is also
+//! there as safe functions on slices, in [`crate::lent`].
 #![allow(non_camel_case_types, missing_docs)]
 
+/// Flags without their records, which stand in the first `records` places of two tables.
 #[repr(C)]
 #[derive(Clone, Copy, Debug, Default, PartialEq, Eq)]
 pub struct petasunok_head {
+    /// 0 to 3: the first byte of the flags' encoding.
     pub kind: u8,
+    /// The base epoch.
     pub base: u16,
+    /// The owner of flags of kinds 2 and 3; else not read, and zeros in an answer.
     pub owner: [u8; 32],
+    /// How many places of the two tables count: 0 for kinds 0 and 2.
     pub records: usize,
 }
 
+/// Flags, or none where `present` is 0, or a refusal.
 #[repr(C)]
 #[derive(Clone, Copy, Debug, Default, PartialEq, Eq)]
 pub struct petasunok_flags {
@@ -20,6 +27,7 @@ pub struct petasunok_flags {
     pub head: petasunok_head,
 }
 
+/// A number, or a refusal.
 #[repr(C)]
 #[derive(Clone, Copy, Debug, Default, PartialEq, Eq)]
 pub struct petasunok_count {
@@ -27,14 +35,20 @@ pub struct petasunok_count {
     pub count: u64,
 }
 
+/// A removal without its rows, which stand in the first `rows` places of three tables. What a kind does not have is not read, and is 0
+/// in an answer.
 #[repr(C)]
 #[derive(Clone, Copy, Debug, Default, PartialEq, Eq)]
 pub struct petasunok_removal {
+    /// 0 none, 1 basic, 2 sectioned.
     pub kind: u8,
+    /// The bytes of a basic removal.
     pub bytes: u32,
+    /// How many places of the three tables count in a sectioned removal.
     pub rows: usize,
 }
 
+/// A removal, or a refusal.
 #[repr(C)]
 #[derive(Clone, Copy, Debug, Default, PartialEq, Eq)]
 pub struct petasunok_sum {
@@ -42,6 +56,7 @@ pub struct petasunok_sum {
     pub removal: petasunok_removal,
 }
 
+/// The removals of the key's and the value's bytes, and how many records were visited for the value's; or a refusal.
 #[repr(C)]
 #[derive(Clone, Copy, Debug, Default, PartialEq, Eq)]
 pub struct petasunok_split {
@@ -51,6 +66,7 @@ pub struct petasunok_split {
     pub visited: usize,
 }
 
+/// Whose owner stands: 0 none, 1 ours, 2 theirs; or a refusal.
 #[repr(C)]
 #[derive(Clone, Copy, Debug, Default, PartialEq, Eq)]
 pub struct petasunok_owner {
@@ -58,216 +74,54 @@ pub struct petasunok_owner {
     pub which: u8,
 }
 
-extern "C" {
-    pub fn petasunok_deserialize(
-        src: *const u8,
-        src_len: usize,
-        epochs: *mut u16,
-        epochs_len: usize,
-        counts: *mut u32,
-        counts_len: usize,
+/// Declares functions of the library by their parts: `value`, `slice` (read) and `room` (written), and `flags`, `rows` (read) and
+/// `rows_room` (written), which stand for their tables in the header's order.
+macro_rules! declare {
+    ($($name:ident($($part:tt)*) -> $answer:ident;)*) => { $(declare!(@ $name $answer [] $($part)*,);)* };
+    (@ $name:ident $answer:ident [$($parameter:tt)*] $(,)?) => { extern "C" { pub fn $name($($parameter)*) -> $answer; } };
+    (@ $name:ident $answer:ident [$($parameter:tt)*] value $value:ident: $type:ty, $($rest:tt)*) => {
+        declare!(@ $name $answer [$($parameter)* $value: $type,] $($rest)*);
+    };
+    (@ $name:ident $answer:ident [$($parameter:tt)*] slice $slice:tt: $type:ty, $($rest:tt)*) => {
+        declare!(@ $name $answer [$($parameter)* $slice: *const $type, _: usize,] $($rest)*);
+    };
+    (@ $name:ident $answer:ident [$($parameter:tt)*] room $room:tt: $type:ty, $($rest:tt)*) => {
+        declare!(@ $name $answer [$($parameter)* $room: *mut $type, _: usize,] $($rest)*);
+    };
+    (@ $name:ident $answer:ident [$($parameter:tt)*] flags $flags:ident, $($rest:tt)*) => {
+        declare!(@ $name $answer [$($parameter)*] value $flags: petasunok_head, slice _: u16, slice _: u32, $($rest)*);
+    };
+    (@ $name:ident $answer:ident [$($parameter:tt)*] rows $rows:ident, $($rest:tt)*) => {
+        declare!(@ $name $answer [$($parameter)*] value $rows: petasunok_removal, slice _: [u8; 32], slice _: u16, slice _: u32, $($rest)*);
+    };
+    (@ $name:ident $answer:ident [$($parameter:tt)*] rows_room $rows:ident, $($rest:tt)*) => {
+        declare!(@ $name $answer [$($parameter)*] room $rows: [u8; 32], room _: u16, room _: u32, $($rest)*);
+    };
+}
+
+declare! {
+    petasunok_deserialize(slice src: u8, room epochs: u16, room counts: u32) -> petasunok_flags;
+    petasunok_deserialize_single_epoch(slice src: u8, room epochs: u16, room counts: u32) -> petasunok_flags;
+    petasunok_deserialize_multi_epoch(slice src: u8, room epochs: u16, room counts: u32) -> petasunok_flags;
+    petasunok_deserialize_single_epoch_owned(slice src: u8, room epochs: u16, room counts: u32) -> petasunok_flags;
+    petasunok_deserialize_multi_epoch_owned(slice src: u8, room epochs: u16, room counts: u32) -> petasunok_flags;
+    petasunok_serialize(flags flags, room out: u8) -> petasunok_count;
+    petasunok_serialized_size(flags flags) -> petasunok_count;
+    petasunok_approximate_size(value has_owner: u8, value given: u8, value changes: u16, value size: u8) -> u32;
+    petasunok_combine_owner_id(slice ours: u8, slice theirs: u8, value strategy: u8) -> petasunok_owner;
+    petasunok_combine_added_bytes(
+        flags ours, flags theirs, value amount: u32, value strategy: u8, room epochs: u16, room counts: u32) -> petasunok_flags;
+    petasunok_optional_combine_added_bytes(
+        value present: u8, flags ours, flags theirs, value amount: u32, value strategy: u8, room epochs: u16, room counts: u32
     ) -> petasunok_flags;
-    pub fn petasunok_deserialize_single_epoch(
-        src: *const u8,
-        src_len: usize,
-        epochs: *mut u16,
-        epochs_len: usize,
-        counts: *mut u32,
-        counts_len: usize,
+    petasunok_combine_removed_bytes(
+        flags ours, flags theirs, rows removal, value strategy: u8, room epochs: u16, room counts: u32) -> petasunok_flags;
+    petasunok_optional_combine_removed_bytes(
+        value present: u8, flags ours, flags theirs, rows removal, value strategy: u8, room epochs: u16, room counts: u32
     ) -> petasunok_flags;
-    pub fn petasunok_deserialize_multi_epoch(
-        src: *const u8,
-        src_len: usize,
-        epochs: *mut u16,
-        epochs_len: usize,
-        counts: *mut u32,
-        counts_len: usize,
-    ) -> petasunok_flags;
-    pub fn petasunok_deserialize_single_epoch_owned(
-        src: *const u8,
-        src_len: usize,
-        epochs: *mut u16,
-        epochs_len: usize,
-        counts: *mut u32,
-        counts_len: usize,
-    ) -> petasunok_flags;
-    pub fn petasunok_deserialize_multi_epoch_owned(
-        src: *const u8,
-        src_len: usize,
-        epochs: *mut u16,
-        epochs_len: usize,
-        counts: *mut u32,
-        counts_len: usize,
-    ) -> petasunok_flags;
-    pub fn petasunok_serialize(
-        flags: petasunok_head,
-        flags_epochs: *const u16,
-        flags_epochs_len: usize,
-        flags_counts: *const u32,
-        flags_counts_len: usize,
-        out: *mut u8,
-        out_len: usize,
-    ) -> petasunok_count;
-    pub fn petasunok_serialized_size(
-        flags: petasunok_head,
-        flags_epochs: *const u16,
-        flags_epochs_len: usize,
-        flags_counts: *const u32,
-        flags_counts_len: usize,
-    ) -> petasunok_count;
-    pub fn petasunok_approximate_size(
-        has_owner: u8,
-        given: u8,
-        changes: u16,
-        size: u8,
-    ) -> u32;
-    pub fn petasunok_combine_owner_id(
-        ours: *const u8,
-        ours_len: usize,
-        theirs: *const u8,
-        theirs_len: usize,
-        strategy: u8,
-    ) -> petasunok_owner;
-    pub fn petasunok_combine_added_bytes(
-        ours: petasunok_head,
-        ours_epochs: *const u16,
-        ours_epochs_len: usize,
-        ours_counts: *const u32,
-        ours_counts_len: usize,
-        theirs: petasunok_head,
-        theirs_epochs: *const u16,
-        theirs_epochs_len: usize,
-        theirs_counts: *const u32,
-        theirs_counts_len: usize,
-        amount: u32,
-        strategy: u8,
-        epochs: *mut u16,
-        epochs_len: usize,
-        counts: *mut u32,
-        counts_len: usize,
-    ) -> petasunok_flags;
-    pub fn petasunok_optional_combine_added_bytes(
-        present: u8,
-        ours: petasunok_head,
-        ours_epochs: *const u16,
-        ours_epochs_len: usize,
-        ours_counts: *const u32,
-        ours_counts_len: usize,
-        theirs: petasunok_head,
-        theirs_epochs: *const u16,
-        theirs_epochs_len: usize,
-        theirs_counts: *const u32,
-        theirs_counts_len: usize,
-        amount: u32,
-        strategy: u8,
-        epochs: *mut u16,
-        epochs_len: usize,
-        counts: *mut u32,
-        counts_len: usize,
-    ) -> petasunok_flags;
-    pub fn petasunok_combine_removed_bytes(
-        ours: petasunok_head,
-        ours_epochs: *const u16,
-        ours_epochs_len: usize,
-        ours_counts: *const u32,
-        ours_counts_len: usize,
-        theirs: petasunok_head,
-        theirs_epochs: *const u16,
-        theirs_epochs_len: usize,
-        theirs_counts: *const u32,
-        theirs_counts_len: usize,
-        removal: petasunok_removal,
-        removal_ids: *const [u8; 32],
-        removal_ids_len: usize,
-        removal_epochs: *const u16,
-        removal_epochs_len: usize,
-        removal_bytes: *const u32,
-        removal_bytes_len: usize,
-        strategy: u8,
-        epochs: *mut u16,
-        epochs_len: usize,
-        counts: *mut u32,
-        counts_len: usize,
-    ) -> petasunok_flags;
-    pub fn petasunok_optional_combine_removed_bytes(
-        present: u8,
-        ours: petasunok_head,
-        ours_epochs: *const u16,
-        ours_epochs_len: usize,
-        ours_counts: *const u32,
-        ours_counts_len: usize,
-        theirs: petasunok_head,
-        theirs_epochs: *const u16,
-        theirs_epochs_len: usize,
-        theirs_counts: *const u32,
-        theirs_counts_len: usize,
-        removal: petasunok_removal,
-        removal_ids: *const [u8; 32],
-        removal_ids_len: usize,
-        removal_epochs: *const u16,
-        removal_epochs_len: usize,
-        removal_bytes: *const u32,
-        removal_bytes_len: usize,
-        strategy: u8,
-        epochs: *mut u16,
-        epochs_len: usize,
-        counts: *mut u32,
-        counts_len: usize,
-    ) -> petasunok_flags;
-    pub fn petasunok_split_storage_removed_bytes(
-        flags: petasunok_head,
-        flags_epochs: *const u16,
-        flags_epochs_len: usize,
-        flags_counts: *const u32,
-        flags_counts_len: usize,
-        key: u32,
-        value: u32,
-        key_ids: *mut [u8; 32],
-        key_ids_len: usize,
-        key_epochs: *mut u16,
-        key_epochs_len: usize,
-        key_bytes: *mut u32,
-        key_bytes_len: usize,
-        value_ids: *mut [u8; 32],
-        value_ids_len: usize,
-        value_epochs: *mut u16,
-        value_epochs_len: usize,
-        value_bytes: *mut u32,
-        value_bytes_len: usize,
-    ) -> petasunok_split;
-    pub fn petasunok_add_assign(
-        lhs: petasunok_removal,
-        lhs_ids: *mut [u8; 32],
-        lhs_ids_len: usize,
-        lhs_epochs: *mut u16,
-        lhs_epochs_len: usize,
-        lhs_bytes: *mut u32,
-        lhs_bytes_len: usize,
-        rhs: petasunok_removal,
-        rhs_ids: *const [u8; 32],
-        rhs_ids_len: usize,
-        rhs_epochs: *const u16,
-        rhs_epochs_len: usize,
-        rhs_bytes: *const u32,
-        rhs_bytes_len: usize,
-        version: u16,
-    ) -> petasunok_sum;
-    pub fn petasunok_has_removal(
-        removal: petasunok_removal,
-        removal_ids: *const [u8; 32],
-        removal_ids_len: usize,
-        removal_epochs: *const u16,
-        removal_epochs_len: usize,
-        removal_bytes: *const u32,
-        removal_bytes_len: usize,
-    ) -> petasunok_count;
-    pub fn petasunok_total_removed_bytes(
-        removal: petasunok_removal,
-        removal_ids: *const [u8; 32],
-        removal_ids_len: usize,
-        removal_epochs: *const u16,
-        removal_epochs_len: usize,
-        removal_bytes: *const u32,
-        removal_bytes_len: usize,
-    ) -> petasunok_count;
+    petasunok_split_storage_removed_bytes(
+        flags flags, value key: u32, value value: u32, rows_room key_rows, rows_room value_rows) -> petasunok_split;
+    petasunok_add_assign(value lhs: petasunok_removal, rows_room lhs_rows, rows rhs, value version: u16) -> petasunok_sum;
+    petasunok_has_removal(rows removal) -> petasunok_count;
+    petasunok_total_removed_bytes(rows removal) -> petasunok_count;
 }
