@@ -39,19 +39,18 @@ pub fn removal(ours: &Removal) -> StorageRemovedBytes {
     }
 }
 
-/// The original's removal as a state, and its rows in order.
-pub fn from_removal(theirs: &StorageRemovedBytes) -> (petasunok_removal, Vec<(Id, u16, u32)>) {
+/// The original's removal as ours, in tables that hold exactly its rows.
+pub fn from_removal(theirs: &StorageRemovedBytes) -> Removal {
     match theirs {
-        StorageRemovedBytes::NoStorageRemoval => (petasunok_removal::default(), Vec::new()),
-        StorageRemovedBytes::BasicStorageRemoval(bytes) => (petasunok_removal { kind: 1, bytes: *bytes, rows: 0 }, Vec::new()),
+        StorageRemovedBytes::NoStorageRemoval => Removal::default(),
+        StorageRemovedBytes::BasicStorageRemoval(bytes) => Removal::basic(*bytes),
         StorageRemovedBytes::SectionedStorageRemoval(sections) => {
-            let of_one = |(id, epochs): (&Id, &intmap::IntMap<u16, u32>)| {
-                let id = *id;
-                epochs.iter().map(move |(epoch, bytes)| (id, epoch, *bytes)).collect::<Vec<_>>()
-            };
-            let mut rows: Vec<_> = sections.iter().flat_map(of_one).collect();
+            let mut rows = Vec::new();
+            for (id, epochs) in sections {
+                rows.extend(epochs.iter().map(|(epoch, bytes)| (*id, epoch, *bytes)));
+            }
             rows.sort_unstable();
-            (petasunok_removal { kind: 2, bytes: 0, rows: rows.len() }, rows)
+            Removal::sectioned(&rows)
         }
     }
 }

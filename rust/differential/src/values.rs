@@ -42,13 +42,11 @@ impl Tables {
         self.epochs.len().min(self.counts.len())
     }
 
-    /// These tables with records written over their first places.
-    pub fn with(&self, records: &[(u16, u32)]) -> Tables {
+    /// These tables with the places of other ones over their first places.
+    pub fn with(&self, first: &Tables) -> Tables {
         let mut after = self.clone();
-        for (place, (epoch, count)) in records.iter().enumerate() {
-            after.epochs[place] = *epoch;
-            after.counts[place] = *count;
-        }
+        after.epochs[..first.epochs.len()].copy_from_slice(&first.epochs);
+        after.counts[..first.counts.len()].copy_from_slice(&first.counts);
         after
     }
 }
@@ -59,14 +57,12 @@ impl Rows {
         self.ids.len().min(self.epochs.len()).min(self.bytes.len())
     }
 
-    /// These tables with rows written over their first places.
-    pub fn with(&self, rows: &[(Id, u16, u32)]) -> Rows {
+    /// These tables with the places of other ones over their first places.
+    pub fn with(&self, first: &Rows) -> Rows {
         let mut after = self.clone();
-        for (place, (id, epoch, bytes)) in rows.iter().enumerate() {
-            after.ids[place] = *id;
-            after.epochs[place] = *epoch;
-            after.bytes[place] = *bytes;
-        }
+        after.ids[..first.ids.len()].copy_from_slice(&first.ids);
+        after.epochs[..first.epochs.len()].copy_from_slice(&first.epochs);
+        after.bytes[..first.bytes.len()].copy_from_slice(&first.bytes);
         after
     }
 }

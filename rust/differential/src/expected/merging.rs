@@ -1,9 +1,9 @@
 //! The owner rule and the merges.
-use super::{bad_flags, place_flags, Expected};
+use super::{flags, Expected};
 use crate::convert;
 use crate::intended::Intended;
 use crate::model;
-use crate::question::Reply;
+use crate::placed;
 use crate::values::*;
 use grovedb_epoch_based_storage_flags::error::StorageFlagsError;
 use grovedb_epoch_based_storage_flags::StorageFlags;
@@ -11,9 +11,8 @@ use grovedb_epoch_based_storage_flags::StorageFlags;
 /// Whose owner stands in two encodings. The original's rule is private; it is seen in the owner that `combine_added_bytes` gives to flags of
 /// equal bases.
 pub fn combine_owner_id(ours: &[u8], theirs: &[u8], strategy: u8) -> Expected {
-    let reply = |refusal, which, part: &[u8]| Reply::Owner { answer: petasunok_owner { refusal, which }, part: part.to_vec() };
     if let Some(fault) = model::strategy_fault(strategy) {
-        return Expected::added(fault.into(), reply(11, 0, &[]));
+        return Expected::added(fault, placed::owner(Err(11)));
     }
     let choose = || -> Result<(Option<Id>, Option<Id>), StorageFlagsError> {
         let owner = |bytes| Ok(StorageFlags::deserialize(bytes)?.and_then(|flags| flags.owner_id().copied()));
@@ -22,12 +21,12 @@ pub fn combine_owner_id(ours: &[u8], theirs: &[u8], strategy: u8) -> Expected {
         let merged = alone(our_owner).combine_added_bytes(alone(their_owner), 0, convert::strategy(strategy))?;
         Ok((merged.owner_id().copied(), our_owner))
     };
-    Expected::original(match choose() {
-        Err(error) => reply(convert::number(&error), 0, &[]),
-        Ok((None, _)) => reply(0, 0, &[]),
-        Ok((chosen, our_owner)) if chosen == our_owner => reply(0, 1, &ours[1..33]),
-        Ok(_) => reply(0, 2, &theirs[1..33]),
-    })
+    Expected::original(placed::owner(match choose() {
+        Err(error) => Err(convert::number(&error)),
+        Ok((None, _)) => Ok((0, &[])),
+        Ok((chosen, our_owner)) if chosen == our_owner => Ok((1, &ours[1..33])),
+        Ok(_) => Ok((2, &theirs[1..33])),
+    }))
 }
 
 /// Ours, if there; a merge without the byte always has it.
@@ -45,7 +44,7 @@ fn merge_fault(is_present: bool, ours: &Flags, theirs: &Flags, strategy: u8) -> 
 pub fn combine_added(present_byte: Option<u8>, ours: &Flags, theirs: &Flags, amount: u32, strategy: u8, lent: &Tables) -> Expected {
     let is_present = present(present_byte);
     if let Some(fault) = merge_fault(is_present, ours, theirs, strategy) {
-        return bad_flags(fault, lent);
+        return Expected::added(fault, placed::flags(Err(11), lent));
     }
     let (theirs, strategy) = (convert::flags(theirs), convert::strategy(strategy));
     let result = match present_byte {
@@ -55,7 +54,7 @@ pub fn combine_added(present_byte: Option<u8>, ours: &Flags, theirs: &Flags, amo
             StorageFlags::optional_combine_added_bytes(ours, theirs, amount, strategy)
         }
     };
-    place_flags(result.map(Some), lent)
+    Expected::original(placed::flags(flags(result.map(Some)), lent))
 }
 
 /// The removing merge, in both forms. Where another order of visiting gives another error, two sections are at fault.
@@ -63,7 +62,7 @@ pub fn combine_removed(present_byte: Option<u8>, ours: &Flags, theirs: &Flags, r
     let is_present = present(present_byte);
     let fault = merge_fault(is_present, ours, theirs, strategy).or_else(|| model::removal_fault(removal));
     if let Some(fault) = fault {
-        return bad_flags(fault, lent);
+        return Expected::added(fault, placed::flags(Err(11), lent));
     }
     let ask = || {
         let (theirs, removal, strategy) = (convert::flags(theirs), convert::removal(removal), convert::strategy(strategy));
@@ -80,7 +79,7 @@ pub fn combine_removed(present_byte: Option<u8>, ours: &Flags, theirs: &Flags, r
         Err(error) => intmap::descending(ask).map_err(|other| convert::number(&other)) != Err(convert::number(error)),
         Ok(_) => false,
     };
-    let mut expected = place_flags(result.map(Some), lent);
+    let mut expected = Expected::original(placed::flags(flags(result.map(Some)), lent));
     if two_faults {
         expected.intended = Some(Intended::TwoFaults);
     }

@@ -5,10 +5,10 @@ mod reading;
 mod removals;
 mod writing;
 
+use crate::convert;
 use crate::intended::Intended;
-use crate::model::Fault;
 use crate::question::{Question, Reply};
-use crate::values::*;
+use crate::values::Flags;
 use grovedb_epoch_based_storage_flags::error::StorageFlagsError;
 use grovedb_epoch_based_storage_flags::StorageFlags;
 
@@ -20,14 +20,15 @@ pub struct Expected {
 }
 
 impl Expected {
-    /// The original's own answer.
+    /// The original's own answer, or 10 where there is not the room for it.
     fn original(reply: Reply) -> Expected {
-        Expected { reply, intended: None }
+        let intended = (reply.refusal() == 10).then_some(Intended::NoRoom);
+        Expected { reply, intended }
     }
 
     /// An answer of document 01's.
-    fn added(intended: Intended, reply: Reply) -> Expected {
-        Expected { reply, intended: Some(intended) }
+    fn added(intended: impl Into<Intended>, reply: Reply) -> Expected {
+        Expected { reply, intended: Some(intended.into()) }
     }
 }
 
@@ -60,33 +61,7 @@ pub fn expected(question: &Question) -> Expected {
     }
 }
 
-/// A refused answer with flags: nothing lent has changed.
-fn refused_flags(refusal: u32, lent: &Tables) -> Reply {
-    let answer = petasunok_flags { refusal, ..Default::default() };
-    Reply::Flags { answer, lent: lent.clone() }
-}
-
-/// A refusal with 11 of a call that answers flags.
-fn bad_flags(fault: Fault, lent: &Tables) -> Expected {
-    Expected::added(fault.into(), refused_flags(11, lent))
-}
-
-/// A refused count.
-fn refused_count(refusal: u32) -> Reply {
-    Reply::Count(petasunok_count { refusal, count: 0 })
-}
-
-/// The original's flags or error, put into what was lent; 10 where there is not the room.
-fn place_flags(result: Result<Option<StorageFlags>, StorageFlagsError>, lent: &Tables) -> Expected {
-    let found = match result {
-        Err(error) => return Expected::original(refused_flags(crate::convert::number(&error), lent)),
-        Ok(None) => return Expected::original(refused_flags(0, lent)),
-        Ok(Some(found)) => crate::convert::from_flags(&found),
-    };
-    if found.head.records > lent.room() {
-        return Expected::added(Intended::NoRoom, refused_flags(10, lent));
-    }
-    let records: Vec<_> = found.records().collect();
-    let answer = petasunok_flags { refusal: 0, present: 1, head: found.head };
-    Expected::original(Reply::Flags { answer, lent: lent.with(&records) })
+/// The original's flags or error, as ours.
+fn flags(result: Result<Option<StorageFlags>, StorageFlagsError>) -> Result<Option<Flags>, u32> {
+    result.map(|flags| flags.as_ref().map(convert::from_flags)).map_err(|error| convert::number(&error))
 }

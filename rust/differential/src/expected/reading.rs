@@ -1,5 +1,6 @@
 //! The five readers.
-use super::{place_flags, Expected};
+use super::{flags, Expected};
+use crate::placed;
 use crate::question::Reader;
 use crate::values::Tables;
 use grovedb_epoch_based_storage_flags::StorageFlags;
@@ -13,5 +14,5 @@ pub fn read(reader: Reader, src: &[u8], lent: &Tables) -> Expected {
         Reader::SingleEpochOwned => StorageFlags::deserialize_single_epoch_owned(src).map(Some),
         Reader::MultiEpochOwned => StorageFlags::deserialize_multi_epoch_owned(src).map(Some),
     };
-    place_flags(result, lent)
+    Expected::original(placed::flags(flags(result), lent))
 }

@@ -63,8 +63,7 @@ fn a_split(random: &mut Random, ours: &Flags) -> Removal {
     let most = held.clamp(1, model::MOST_REMOVED.into());
     let amount = if random.one_in(2) { random.below(most as usize) as u32 } else { numbers::count(random).min(model::MOST_REMOVED) };
     let (_, value) = convert::flags(ours).split_storage_removed_bytes(0, amount);
-    let (state, rows) = convert::from_removal(&value);
-    Removal { state, ..Removal::sectioned(&rows) }
+    convert::from_removal(&value)
 }
 
 /// A removal with some rows of another one and some of its own.

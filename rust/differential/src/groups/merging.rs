@@ -8,9 +8,10 @@ use crate::values::*;
 /// Incoming bases below, at and above ours.
 const BASES: [u16; 4] = [4, 5, 6, 7];
 
-/// Owners, kinds, bases and strategies together; counts with amounts and sections; rooms and present bytes.
+/// Owners, kinds, bases and strategies together; unions; counts with amounts and sections; rooms and present bytes.
 pub fn boundaries(visit: &mut Visit) {
     owners(visit);
+    unions(visit);
     amounts(visit);
     sections(visit);
     bases(visit);
@@ -35,9 +36,9 @@ fn theirs(kind: u8, base: u16, owner: Id) -> Flags {
 /// Both merges of two flags, with a removal of all kinds under an owner.
 fn both(ours: Flags, theirs: Flags, strategy: u8, id: Id, visit: &mut Visit) {
     for removal in [Removal::default(), Removal::basic(1), Removal::sectioned(&[]), Removal::sectioned(&[(id, 7, 1)])] {
-        visit(Question::CombineRemoved { present: None, ours: ours.clone(), theirs: theirs.clone(), removal, strategy, lent: room(4) });
+        visit(Question::CombineRemoved { present: None, ours: ours.clone(), theirs: theirs.clone(), removal, strategy, lent: room(6) });
     }
-    visit(Question::CombineAdded { present: None, ours, theirs, amount: 5, strategy, lent: room(4) });
+    visit(Question::CombineAdded { present: None, ours, theirs, amount: 5, strategy, lent: room(6) });
 }
 
 /// Kinds, owners, bases and strategies.
@@ -52,6 +53,19 @@ fn owners(visit: &mut Visit) {
                     both(ours, theirs, strategy, id, visit);
                 }
             }
+        }
+    }
+}
+
+/// Records on both sides, some at the same epoch, below, at and above the incoming base.
+fn unions(visit: &mut Visit) {
+    for (count, incoming) in pairs() {
+        for base in [5, 6, 7, 8] {
+            let ours = Flags::new(1, 5, ZEROS, &[(6, 50), (7, count), (8, 60)]);
+            let theirs = Flags::new(1, base, ZEROS, &[(9, 70), (10, incoming)]);
+            both(ours.clone(), theirs, 0, ZEROS, visit);
+            let theirs = Flags::new(1, base, ZEROS, &[(6, 80), (7, incoming), (8, 90), (9, 70)][usize::from(base) - 5..]);
+            both(ours, theirs, 0, ZEROS, visit);
         }
     }
 }
