@@ -128,6 +128,14 @@ impl StorageFlags {
     }
 
     /// Returns epoch index map
+    ///
+    /// ```
+    /// use petasunok::StorageFlags;
+    ///
+    /// let flags = StorageFlags::MultiEpochOwned(5, [(7, 300)].into(), [1; 32]);
+    /// assert_eq!(flags.epoch_index_map().unwrap().get(&7), Some(&300));
+    /// assert_eq!((flags.base_epoch(), flags.owner_id(), flags.type_byte()), (&5, Some(&[1; 32]), 3));
+    /// ```
     pub fn epoch_index_map(&self) -> Option<&EpochMap> {
         match self {
             MultiEpoch(_, epoch_map) | MultiEpochOwned(_, epoch_map, _) => Some(epoch_map),

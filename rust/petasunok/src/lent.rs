@@ -26,7 +26,8 @@ use crate::{Identifier, StorageFlagsError};
 pub use crate::sys::{petasunok_head as Head, petasunok_removal as Removal};
 
 /// Calls a function of the library: `call!(name(part, ..))`, where a part is `value`, `slice` (read) or `room` (written), or stands for
-/// the parts of `flags`, `rows` (read) or `rows_room` (written) in the header's order. A slice goes as its pointer and its length.
+/// the parts of `flags`, `optional` flags, `rows` (read) or `rows_room` (written) in the header's order. A slice goes as its pointer and
+/// its length.
 macro_rules! call {
     ($name:ident($($part:tt)*)) => { call!(@ $name [] $($part)*,) };
     (@ $name:ident [$($given:expr,)*] $(,)?) => {
@@ -44,6 +45,10 @@ macro_rules! call {
     (@ $name:ident [$($given:tt)*] flags $flags:ident, $($rest:tt)*) => {
         call!(@ $name [$($given)*] value $flags.head, slice $flags.epochs, slice $flags.counts, $($rest)*)
     };
+    (@ $name:ident [$($given:tt)*] optional $flags:ident, $($rest:tt)*) => {{
+        let flags = $flags.unwrap_or(Flags::of(Head::default()));
+        call!(@ $name [$($given)*] value u8::from($flags.is_some()), flags flags, $($rest)*)
+    }};
     (@ $name:ident [$($given:tt)*] rows $rows:ident, $($rest:tt)*) => {
         call!(@ $name [$($given)*] value $rows.removal, slice $rows.ids, slice $rows.epochs, slice $rows.bytes, $($rest)*)
     };
@@ -74,21 +79,36 @@ impl Head {
 }
 
 impl Removal {
+    /// The kind of no removal.
+    pub const NO_REMOVAL: u8 = 0;
+    /// The kind of a number of bytes.
+    pub const BASIC_REMOVAL: u8 = 1;
+    /// The kind of rows in tables.
+    pub const SECTIONED_REMOVAL: u8 = 2;
+
     /// No removal.
     pub const NONE: Self = Self {
-        kind: 0,
+        kind: Self::NO_REMOVAL,
         bytes: 0,
         rows: 0,
     };
 
     /// A removal of some bytes, of which no more is known.
     pub const fn basic(bytes: u32) -> Self {
-        Self { kind: 1, bytes, rows: 0 }
+        Self {
+            kind: Self::BASIC_REMOVAL,
+            bytes,
+            ..Self::NONE
+        }
     }
 
     /// A removal whose sections stand in the first rows of three tables.
     pub const fn sectioned(rows: usize) -> Self {
-        Self { kind: 2, bytes: 0, rows }
+        Self {
+            kind: Self::SECTIONED_REMOVAL,
+            rows,
+            ..Self::NONE
+        }
     }
 }
 

@@ -1,4 +1,58 @@
 //! Storage flags of a GroveDB store, over a static library whose every function is proved.
+//!
+//! Each element of the store carries flags: in which epochs its bytes were paid, and by whom. When an element is shortened, the flags
+//! decide which bytes are refunded. This crate reads, writes and merges flags, splits a removal over their epochs, and adds removals up.
+//! The work is done by a library written in Rattle, whose checker proves that each call ends on any input and equals a short definition.
+//! The crate has the names of the original Rust, GroveDB's `grovedb-epoch-based-storage-flags` and the `removal` module of `costs`, and
+//! needs no other crate.
+//!
+//! # A first example
+//!
+//! ```
+//! use petasunok::{MergingOwnersStrategy, StorageFlags};
+//!
+//! // flags made in epoch 5, with 10 bytes added in epoch 7 and 5 in epoch 9
+//! let flags = StorageFlags::deserialize(&[1, 0, 5, 0, 7, 10, 0, 9, 5])?.expect("there are bytes");
+//! assert_eq!(flags, StorageFlags::MultiEpoch(5, [(7, 10), (9, 5)].into()));
+//!
+//! // 6 bytes of the value are removed in epoch 9: from the latest epoch down, and each keeps 3
+//! let (_, removed) = flags.split_storage_removed_bytes(0, 6)?;
+//! assert_eq!(removed.total_removed_bytes()?, 6);
+//! let incoming = StorageFlags::new_single_epoch(9, None);
+//! let merged = flags.combine_removed_bytes(incoming, &removed, MergingOwnersStrategy::RaiseIssue)?;
+//! assert_eq!(merged.serialize()?, [1, 0, 5, 0, 7, 6]);
+//! # Ok::<(), petasunok::StorageFlagsError>(())
+//! ```
+//!
+//! # What differs from the original
+//!
+//! | What | The original | Here |
+//! |---|---|---|
+//! | maps of flags | `BTreeMap<EpochIndex, BytesAddedInEpoch>` | [`EpochMap`], made from a map and back |
+//! | maps of removals | `BTreeMap<Identifier, IntMap<u16, u32>>` | [`StorageRemovalPerEpochByIdentifier`], made from a map of maps and back |
+//! | an identifier without sections | can stand in the map | is left out |
+//! | errors | carry a text | are [`StorageFlagsError`] alone, each with a number; `RemovalTooLarge`, `TotalTooLarge`, `NoRoom` and `BadTable` are new |
+//! | flags and rows that are not proper | are taken as they are; `serialize` has debug assertions | are refused with `BadTable` (11) by every call that reads, merges, splits or adds them |
+//! | `serialize`, `serialized_size` and what is built on them | cannot fail | answer a `Result`, for `BadTable` |
+//! | `split_storage_removed_bytes` | overflows for the top three amounts | answers a `Result`, `RemovalTooLarge` (8) there; a second form also counts the records visited |
+//! | `total_removed_bytes` | overflows | answers a `Result`, `TotalTooLarge` (9) there |
+//! | `add_assign` | the operator `+=`, with the thread's version | a method with the version as an argument, and a `Result` |
+//! | two sections at fault in one merge | either error | the first by epoch |
+//! | `+`, comparing removals, the guards of the thread's version | there | left out |
+//!
+//! # Calls that allocate nothing
+//!
+//! The calls above allocate what they need, so they never refuse for lack of room. [`lent`] has every call on memory that the caller
+//! lends; [`StorageFlags::as_lent`] and [`StorageRemovedBytes::as_lent`] hand owned values to it without a copy. [`sys`] has the bare C
+//! functions. All unsafe code stands in these two modules.
+//!
+//! # Where the library is found
+//!
+//! The library is `libpetasunok.a`, for x86-64 and Linux. The build looks for it
+//!
+//! 1. in the folder that the environment variable `PETASUNOK_LIB` names, if it is set (a whole path);
+//! 2. in `PREFIX/lib`, where this crate is installed in `PREFIX/src/petasunok`;
+//! 3. in the repository that this crate comes from, where the kit's `rt staticlib capi` makes it if it is missing.
 #![deny(unsafe_code, unsafe_op_in_unsafe_fn)]
 #![warn(missing_docs)]
 

@@ -46,13 +46,11 @@ impl StorageRemovedBytes {
 
     /// The removal that a call has answered, with its rows at the start of the tables.
     pub(crate) fn from_answer(removal: Removal, mut tables: StorageRemovalPerEpochByIdentifier) -> Self {
-        if removal == Removal::NONE {
-            NoStorageRemoval
-        } else if removal == Removal::basic(removal.bytes) {
-            BasicStorageRemoval(removal.bytes)
-        } else {
-            tables.resize(removal.rows);
-            SectionedStorageRemoval(tables)
+        tables.resize(removal.rows);
+        match removal.kind {
+            Removal::NO_REMOVAL => NoStorageRemoval,
+            Removal::BASIC_REMOVAL => BasicStorageRemoval(removal.bytes),
+            _ => SectionedStorageRemoval(tables),
         }
     }
 

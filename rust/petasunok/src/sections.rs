@@ -95,9 +95,12 @@ impl StorageRemovalPerEpochByIdentifier {
         self.ids.is_empty()
     }
 
-    /// The bytes removed under an identifier in an epoch.
+    /// The bytes removed under an identifier in an epoch, in sections whose rows rise.
     pub fn get(&self, identifier: &Identifier, epoch: u16) -> Option<u32> {
-        self.iter().find(|row| (row.0, row.1) == (identifier, epoch)).map(|row| row.2)
+        let first = self.ids.partition_point(|id| id < identifier);
+        let end = self.ids.partition_point(|id| id <= identifier).max(first);
+        let place = self.epochs[first..end].binary_search(&epoch).ok()?;
+        Some(self.bytes[first + place])
     }
 
     /// The rows, each an identifier, an epoch and its bytes.

@@ -68,6 +68,12 @@ impl StorageFlags {
     }
 
     /// Deserialize single epoch storage flags from bytes, whatever byte 0 says. Refusal: 2.
+    ///
+    /// ```
+    /// use petasunok::StorageFlags;
+    ///
+    /// assert_eq!(StorageFlags::deserialize_single_epoch(&[9, 0, 5]), Ok(StorageFlags::SingleEpoch(5)));
+    /// ```
     pub fn deserialize_single_epoch(data: &[u8]) -> Result<Self, StorageFlagsError> {
         Self::filled(room_for(data), |epochs, counts| {
             lent::deserialize_single_epoch(data, epochs, counts)

@@ -50,6 +50,13 @@ impl StorageFlags {
     }
 
     /// Optional combine added bytes: [`combine_added_bytes`](Self::combine_added_bytes), or theirs where ours is absent.
+    ///
+    /// ```
+    /// use petasunok::{MergingOwnersStrategy::RaiseIssue, StorageFlags};
+    ///
+    /// let theirs = StorageFlags::SingleEpoch(7);
+    /// assert_eq!(StorageFlags::optional_combine_added_bytes(None, theirs.clone(), 50, RaiseIssue), Ok(theirs));
+    /// ```
     pub fn optional_combine_added_bytes(
         ours: Option<Self>,
         theirs: Self,
@@ -99,6 +106,15 @@ impl StorageFlags {
 
     /// [`split_storage_removed_bytes`](Self::split_storage_removed_bytes), and how many records were visited: the number of the value's
     /// sections that are not at the base epoch.
+    ///
+    /// ```
+    /// use petasunok::StorageFlags;
+    ///
+    /// let flags = StorageFlags::MultiEpoch(5, [(7, 10), (9, 5)].into());
+    /// let (_, value, visited) = flags.split_storage_removed_bytes_visited(0, 6)?;
+    /// assert_eq!((value.total_removed_bytes()?, visited), (6, 2));
+    /// # Ok::<(), petasunok::StorageFlagsError>(())
+    /// ```
     pub fn split_storage_removed_bytes_visited(
         &self,
         removed_key_bytes: u32,

@@ -29,80 +29,47 @@ pub fn combine_owner_id<'a>(
     answered(answer.refusal, holder.get(1..).and_then(|part| part.first_chunk()))
 }
 
-/// Merges ours with the incoming flags that came with added bytes. Refusals: 11, 4, 5, 6, 10.
-pub fn combine_added_bytes(
-    ours: Flags,
-    theirs: Flags,
-    added_bytes: u32,
-    strategy: MergingOwnersStrategy,
-    epochs: &mut [u16],
-    counts: &mut [u32],
-) -> Result<Head, StorageFlagsError> {
-    let answer = call!(petasunok_combine_added_bytes(
-        flags ours, flags theirs, value added_bytes, value strategy as u8, room epochs, room counts));
-    answered(answer.refusal, answer.head)
+/// Merges: as which part of `call!` ours goes, and what comes with the incoming flags.
+macro_rules! merges {
+    ($($(#[$doc:meta])* $name:ident($ours_part:ident $ours:ty, $part:ident $given:ident: $type:ty) calls $raw:ident;)*) => {$(
+        $(#[$doc])*
+        pub fn $name(
+            ours: $ours,
+            theirs: Flags,
+            $given: $type,
+            strategy: MergingOwnersStrategy,
+            epochs: &mut [u16],
+            counts: &mut [u32],
+        ) -> Result<Head, StorageFlagsError> {
+            let answer = call!($raw($ours_part ours, flags theirs, $part $given, value strategy as u8, room epochs, room counts));
+            answered(answer.refusal, answer.head)
+        }
+    )*};
 }
 
-/// [`combine_added_bytes`], or theirs where ours is absent.
-pub fn optional_combine_added_bytes(
-    ours: Option<Flags>,
-    theirs: Flags,
-    added_bytes: u32,
-    strategy: MergingOwnersStrategy,
-    epochs: &mut [u16],
-    counts: &mut [u32],
-) -> Result<Head, StorageFlagsError> {
-    let (present, ours) = or_absent(ours);
-    let answer = call!(petasunok_optional_combine_added_bytes(
-        value present, flags ours, flags theirs, value added_bytes, value strategy as u8, room epochs, room counts));
-    answered(answer.refusal, answer.head)
-}
+merges! {
+    /// Merges ours with the incoming flags that came with added bytes. Refusals: 11, 4, 5, 6, 10.
+    combine_added_bytes(flags Flags, value added_bytes: u32) calls petasunok_combine_added_bytes;
+    /// [`combine_added_bytes`], or theirs where ours is absent.
+    optional_combine_added_bytes(optional Option<Flags>, value added_bytes: u32) calls petasunok_optional_combine_added_bytes;
 
-/// Merges ours with the incoming flags that came with removed bytes. Refusals: 11, 4, 5, then 7 or 6 at the first section, 10.
-///
-/// ```
-/// use petasunok::lent::{self, Flags, Head, Removal, Rows};
-/// use petasunok::MergingOwnersStrategy::RaiseIssue;
-///
-/// let head = Head { kind: Head::MULTI_EPOCH, base: 5, records: 2, ..Head::default() };
-/// let ours = Flags { head, epochs: &[7, 9], counts: &[10, 5] };
-/// let theirs = Flags::of(Head { base: 9, ..Head::default() });
-/// let removal = Rows { removal: Removal::sectioned(2), ids: &[[0; 32]; 2], epochs: &[7, 9], bytes: &[4, 2] };
-/// let (mut epochs, mut counts) = ([0; 2], [0; 2]);
-/// let merged = lent::combine_removed_bytes(ours, theirs, removal, RaiseIssue, &mut epochs, &mut counts)?;
-/// // what remains at epoch 9 is 3 bytes, so its record is dropped
-/// assert_eq!((merged.records, epochs, counts), (1, [7, 0], [6, 0]));
-/// # Ok::<(), petasunok::StorageFlagsError>(())
-/// ```
-pub fn combine_removed_bytes(
-    ours: Flags,
-    theirs: Flags,
-    removal: Rows,
-    strategy: MergingOwnersStrategy,
-    epochs: &mut [u16],
-    counts: &mut [u32],
-) -> Result<Head, StorageFlagsError> {
-    let answer = call!(petasunok_combine_removed_bytes(
-        flags ours, flags theirs, rows removal, value strategy as u8, room epochs, room counts));
-    answered(answer.refusal, answer.head)
-}
-
-/// [`combine_removed_bytes`], or theirs where ours is absent; the removal has to be proper there too.
-pub fn optional_combine_removed_bytes(
-    ours: Option<Flags>,
-    theirs: Flags,
-    removal: Rows,
-    strategy: MergingOwnersStrategy,
-    epochs: &mut [u16],
-    counts: &mut [u32],
-) -> Result<Head, StorageFlagsError> {
-    let (present, ours) = or_absent(ours);
-    let answer = call!(petasunok_optional_combine_removed_bytes(
-        value present, flags ours, flags theirs, rows removal, value strategy as u8, room epochs, room counts));
-    answered(answer.refusal, answer.head)
-}
-
-/// Whether flags are present, as C says it, and what stands for them.
-fn or_absent(flags: Option<Flags>) -> (u8, Flags) {
-    (u8::from(flags.is_some()), flags.unwrap_or(Flags::of(Head::default())))
+    /// Merges ours with the incoming flags that came with removed bytes. Refusals: 11, 4, 5, then 7 or 6 at the first section, 10.
+    ///
+    /// ```
+    /// use petasunok::lent::{self, Flags, Head, Removal, Rows};
+    /// use petasunok::MergingOwnersStrategy::RaiseIssue;
+    ///
+    /// let head = Head { kind: Head::MULTI_EPOCH, base: 5, records: 2, ..Head::default() };
+    /// let ours = Flags { head, epochs: &[7, 9], counts: &[10, 5] };
+    /// let theirs = Flags::of(Head { base: 9, ..Head::default() });
+    /// let removal = Rows { removal: Removal::sectioned(2), ids: &[[0; 32]; 2], epochs: &[7, 9], bytes: &[4, 2] };
+    /// let (mut epochs, mut counts) = ([0; 2], [0; 2]);
+    /// let merged = lent::combine_removed_bytes(ours, theirs, removal, RaiseIssue, &mut epochs, &mut counts)?;
+    /// // what remains at epoch 9 is 3 bytes, so its record is dropped
+    /// assert_eq!((merged.records, epochs, counts), (1, [7, 0], [6, 0]));
+    /// # Ok::<(), petasunok::StorageFlagsError>(())
+    /// ```
+    combine_removed_bytes(flags Flags, rows removal: Rows) calls petasunok_combine_removed_bytes;
+    /// [`combine_removed_bytes`], or theirs where ours is absent; the removal has to be proper there too.
+    optional_combine_removed_bytes(optional Option<Flags>, rows removal: Rows) calls petasunok_optional_combine_removed_bytes;
 }

@@ -1,0 +1,179 @@
+//! Each call twice: on owned values, and on lent memory of a given size, of which only the answer's places may change.
+//!
+//! The names are those of the calls. The answers of both have to be equal, unless the room is too small.
+#![allow(dead_code)] // each test file uses a part of it
+use petasunok::lent::{self, Head, Removal, RowsMut};
+use petasunok::*;
+
+pub type Answer<T> = Result<T, StorageFlagsError>;
+
+/// Room that is enough for every example.
+pub const ENOUGH: usize = 64;
+
+/// What stands in lent memory before a call.
+const MARK: u8 = 0xEE;
+
+/// The flags with a map of some records, unowned and at base 5, as document 01 writes them.
+pub fn records<const N: usize>(records: [(u16, u32); N]) -> StorageFlags {
+    StorageFlags::MultiEpoch(5, records.into())
+}
+
+/// A removal with sections under no owner.
+pub fn sections<const N: usize>(sections: [(u16, u32); N]) -> StorageRemovedBytes {
+    StorageRemovedBytes::SectionedStorageRemoval(sections.into_iter().map(|(epoch, bytes)| ([0; 32], epoch, bytes)).collect())
+}
+
+/// Lent tables of records.
+struct Records(Vec<u16>, Vec<u32>);
+
+impl Records {
+    fn marked(room: usize) -> Self {
+        Records(vec![MARK.into(); room], vec![MARK.into(); room])
+    }
+
+    /// The flags of an answer, or none. All that is not theirs still has the mark.
+    fn answer(mut self, answer: Answer<Option<Head>>) -> Answer<Option<StorageFlags>> {
+        let used = answer.ok().flatten().map_or(0, |head| head.records);
+        assert!(
+            self.0.drain(used..).all(|epoch| epoch == MARK.into()),
+            "an epoch behind the answer has changed"
+        );
+        assert!(
+            self.1.drain(used..).all(|count| count == MARK.into()),
+            "a count behind the answer has changed"
+        );
+        Ok(answer?.map(|head| {
+            let map = EpochMap::from_tables(self.0, self.1).unwrap();
+            match head.kind {
+                Head::SINGLE_EPOCH => StorageFlags::SingleEpoch(head.base),
+                Head::MULTI_EPOCH => StorageFlags::MultiEpoch(head.base, map),
+                Head::SINGLE_EPOCH_OWNED => StorageFlags::SingleEpochOwned(head.base, head.owner),
+                _ => StorageFlags::MultiEpochOwned(head.base, map, head.owner),
+            }
+        }))
+    }
+}
+
+/// Lent tables of rows.
+#[derive(Clone, Debug, PartialEq)]
+struct Rows(Vec<Identifier>, Vec<u16>, Vec<u32>);
+
+impl Rows {
+    /// The rows of a removal, and marked room behind them up to a size.
+    fn of(removal: &StorageRemovedBytes, room: usize) -> Self {
+        let given = removal.as_lent();
+        let mut rows = Rows(given.ids.to_vec(), given.epochs.to_vec(), given.bytes.to_vec());
+        rows.0.resize(room, [MARK; 32]);
+        rows.1.resize(room, MARK.into());
+        rows.2.resize(room, MARK.into());
+        rows
+    }
+
+    fn marked(room: usize) -> Self {
+        Self::of(&StorageRemovedBytes::NoStorageRemoval, room)
+    }
+
+    fn lend(&mut self) -> RowsMut<'_> {
+        RowsMut {
+            ids: &mut self.0,
+            epochs: &mut self.1,
+            bytes: &mut self.2,
+        }
+    }
+
+    /// The removal of an answer. From the answer's end on, all is as it was before.
+    fn answer(mut self, before: &Self, answer: Answer<Removal>) -> Answer<StorageRemovedBytes> {
+        let used = answer.map_or(0, |removal| removal.rows);
+        let behind = (self.0.split_off(used), self.1.split_off(used), self.2.split_off(used));
+        assert_eq!(
+            behind,
+            (before.0[used..].to_vec(), before.1[used..].to_vec(), before.2[used..].to_vec()),
+            "behind the answer"
+        );
+        let removal = answer?;
+        Ok(match removal.kind {
+            Removal::NO_REMOVAL => StorageRemovedBytes::NoStorageRemoval,
+            Removal::BASIC_REMOVAL => StorageRemovedBytes::BasicStorageRemoval(removal.bytes),
+            _ => StorageRemovedBytes::SectionedStorageRemoval(
+                StorageRemovalPerEpochByIdentifier::from_tables(self.0, self.1, self.2).unwrap(),
+            ),
+        })
+    }
+}
+
+/// The lent answer, after it was seen that the owned one is equal, or that only the room was too small.
+fn agreed<T: PartialEq + std::fmt::Debug>(owned: Answer<T>, lent: Answer<T>) -> Answer<T> {
+    assert_ne!(owned, Err(StorageFlagsError::NoRoom), "an owned call has room");
+    if lent != Err(StorageFlagsError::NoRoom) {
+        assert_eq!(owned, lent, "owned and lent");
+    }
+    lent
+}
+
+pub fn deserialize(data: &[u8], room: usize) -> Answer<Option<StorageFlags>> {
+    let mut tables = Records::marked(room);
+    let answer = lent::deserialize(data, &mut tables.0, &mut tables.1);
+    agreed(StorageFlags::deserialize(data), tables.answer(answer))
+}
+
+pub fn serialize(flags: &StorageFlags, room: usize) -> Answer<Vec<u8>> {
+    let mut out = vec![MARK; room];
+    let size = lent::serialize(flags.as_lent(), &mut out);
+    assert!(
+        out.drain(size.unwrap_or(0)..).all(|byte| byte == MARK),
+        "a byte behind the answer has changed"
+    );
+    agreed(flags.serialize(), size.map(|_| out))
+}
+
+pub fn combine_added_bytes(
+    ours: &StorageFlags,
+    theirs: &StorageFlags,
+    added: u32,
+    strategy: MergingOwnersStrategy,
+    room: usize,
+) -> Answer<StorageFlags> {
+    let mut tables = Records::marked(room);
+    let answer = lent::combine_added_bytes(ours.as_lent(), theirs.as_lent(), added, strategy, &mut tables.0, &mut tables.1);
+    let owned = ours.clone().combine_added_bytes(theirs.clone(), added, strategy);
+    agreed(owned, tables.answer(answer.map(Some)).map(Option::unwrap))
+}
+
+pub fn combine_removed_bytes(
+    ours: &StorageFlags,
+    theirs: &StorageFlags,
+    removed: &StorageRemovedBytes,
+    strategy: MergingOwnersStrategy,
+    room: usize,
+) -> Answer<StorageFlags> {
+    let mut tables = Records::marked(room);
+    let rows = removed.as_lent();
+    let answer = lent::combine_removed_bytes(ours.as_lent(), theirs.as_lent(), rows, strategy, &mut tables.0, &mut tables.1);
+    let owned = ours.clone().combine_removed_bytes(theirs.clone(), removed, strategy);
+    agreed(owned, tables.answer(answer.map(Some)).map(Option::unwrap))
+}
+
+/// The key's removal, the value's, and the number of records visited.
+pub type Splitting = (StorageRemovedBytes, StorageRemovedBytes, usize);
+
+pub fn split_storage_removed_bytes(flags: &StorageFlags, key: u32, value: u32, rooms: (usize, usize)) -> Answer<Splitting> {
+    let before = (Rows::marked(rooms.0), Rows::marked(rooms.1));
+    let mut rows = before.clone();
+    let answer = lent::split_storage_removed_bytes(flags.as_lent(), key, value, rows.0.lend(), rows.1.lend());
+    let keys = rows.0.answer(&before.0, answer.map(|split| split.key));
+    let values = rows.1.answer(&before.1, answer.map(|split| split.value));
+    agreed(
+        flags.split_storage_removed_bytes_visited(key, value),
+        answer.and_then(|split| Ok((keys?, values?, split.visited))),
+    )
+}
+
+pub fn add_assign(left: &StorageRemovedBytes, right: &StorageRemovedBytes, version: u16, room: usize) -> Answer<StorageRemovedBytes> {
+    let before = Rows::of(left, room);
+    let mut rows = before.clone();
+    let answer = lent::add_assign(left.as_lent().removal, rows.lend(), right.as_lent(), version);
+    let mut sum = left.clone();
+    let owned = sum.add_assign(right.clone(), version);
+    assert!(owned.is_ok() || sum == *left, "a refusal has changed the left removal");
+    agreed(owned.map(|()| sum), rows.answer(&before, answer))
+}

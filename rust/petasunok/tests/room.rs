@@ -1,0 +1,82 @@
+//! Lent room: what is exactly enough is enough, one place less is refused with 10 and changes nothing, and so does no room at all.
+mod both;
+use both::{records, sections, Answer, ENOUGH};
+use petasunok::lent::{self, Flags, Head};
+use petasunok::MergingOwnersStrategy::RaiseIssue;
+use petasunok::StorageFlags::SingleEpoch;
+use petasunok::StorageFlagsError::NoRoom;
+use petasunok::StorageRemovedBytes::*;
+use std::fmt::Debug;
+
+/// A call that needs some room: the answer is the same with more, and refused with less. `both` looks at what was lent.
+fn needs<T: PartialEq + Debug>(room: usize, call: impl Fn(usize) -> Answer<T>) {
+    let answer = call(ENOUGH);
+    assert!(answer.is_ok(), "{answer:?}");
+    assert_eq!(call(room), answer, "exact room");
+    for short in 0..room {
+        assert_eq!(call(short), Err(NoRoom), "room {short} of {room}");
+    }
+}
+
+#[test]
+fn reading() {
+    needs(0, |room| both::deserialize(&[0, 0, 5], room));
+    needs(1, |room| both::deserialize(&[1, 0, 5, 0, 7, 0xAC, 2], room));
+    needs(2, |room| both::deserialize(&[1, 0, 5, 0, 7, 10, 0, 9, 5], room));
+}
+
+#[test]
+fn writing() {
+    needs(3, |room| both::serialize(&SingleEpoch(5), room));
+    needs(7, |room| both::serialize(&records([(7, 300)]), room));
+}
+
+#[test]
+fn merging() {
+    let ours = records([(7, 10), (9, 5)]);
+    needs(3, |room| both::combine_added_bytes(&ours, &SingleEpoch(8), 1, RaiseIssue, room));
+    needs(2, |room| both::combine_added_bytes(&ours, &SingleEpoch(9), 1, RaiseIssue, room));
+    // the record at 9 is dropped, so one place is enough
+    let removed = sections([(7, 4), (9, 2)]);
+    needs(1, |room| {
+        both::combine_removed_bytes(&ours, &SingleEpoch(9), &removed, RaiseIssue, room)
+    });
+}
+
+#[test]
+fn splitting() {
+    let flags = records([(7, 10), (9, 5)]);
+    needs(1, |room| both::split_storage_removed_bytes(&flags, 1, 20, (room, ENOUGH)));
+    needs(3, |room| both::split_storage_removed_bytes(&flags, 1, 20, (ENOUGH, room)));
+    needs(0, |room| both::split_storage_removed_bytes(&flags, 0, 0, (room, room)));
+}
+
+#[test]
+fn sums() {
+    let (left, right) = (sections([(7, 4), (9, 2)]), sections([(7, 1), (8, 1)]));
+    assert_eq!(both::add_assign(&left, &right, 1, 2), Err(NoRoom));
+    assert_eq!(both::add_assign(&left, &right, 1, 3), both::add_assign(&left, &right, 1, ENOUGH));
+    needs(3, |room| both::add_assign(&BasicStorageRemoval(4), &right, 1, room));
+    needs(2, |room| both::add_assign(&NoStorageRemoval, &right, 0, room));
+}
+
+/// The tables need not be of one length; the shorter one decides.
+#[test]
+fn tables_of_two_lengths() {
+    let bytes = [1, 0, 5, 0, 7, 10, 0, 9, 5];
+    let (mut epochs, mut counts) = ([1; 2], [1; 1]);
+    assert_eq!(lent::deserialize(&bytes, &mut epochs, &mut counts), Err(NoRoom));
+    assert_eq!((epochs, counts), ([1; 2], [1; 1]));
+    let head = Head {
+        kind: Head::MULTI_EPOCH,
+        base: 5,
+        records: 2,
+        ..Head::default()
+    };
+    let short = Flags {
+        head,
+        epochs: &[7, 9],
+        counts: &[10],
+    };
+    assert_eq!(lent::serialized_size(short), Err(petasunok::StorageFlagsError::BadTable));
+}
