@@ -1,6 +1,6 @@
 //! Our answers, at the C boundary, as they come: also the fields of a refused answer, and bytes that name nothing.
 use crate::guarded::{given, Lent, LentRows, LentTables};
-use crate::question::{Question, Reader, Reply};
+use crate::question::{Merge, Question, Reader, Reply, Split};
 use crate::values::*;
 use petasunok::sys;
 
@@ -50,24 +50,9 @@ pub fn ask(question: &Question) -> Option<Reply> {
             Reply::Size(ask!(petasunok_approximate_size; number *has_owner, number *given, number *changes, number *size))
         }
         Question::CombineOwnerId { ours, theirs, strategy } => combine_owner_id(ours, theirs, *strategy),
-        Question::CombineAdded { present, ours, theirs, amount, strategy, lent } => match present {
-            None => fill!(lent, petasunok_combine_added_bytes; flags ours, flags theirs, number *amount, number *strategy),
-            Some(present) => {
-                fill!(lent, petasunok_optional_combine_added_bytes; number *present, flags ours, flags theirs, number *amount, number *strategy)
-            }
-        },
-        Question::CombineRemoved { present, ours, theirs, removal, strategy, lent } => match present {
-            None => fill!(lent, petasunok_combine_removed_bytes; flags ours, flags theirs, rows removal, number *strategy),
-            Some(present) => {
-                fill!(lent, petasunok_optional_combine_removed_bytes; number *present, flags ours, flags theirs, rows removal, number *strategy)
-            }
-        },
-        Question::Split { flags, key, value, key_rows, value_rows } => {
-            let (mut key_lent, mut value_lent) = (LentRows::new(key_rows), LentRows::new(value_rows));
-            let answer =
-                ask!(petasunok_split_storage_removed_bytes; flags flags, number *key, number *value, into_rows key_lent, into_rows value_lent);
-            Reply::Split { answer, key: key_lent.back(), value: value_lent.back() }
-        }
+        Question::CombineAdded(merge) => combine_added(merge),
+        Question::CombineRemoved(merge) => combine_removed(merge),
+        Question::Split(split) => self::split(split),
         Question::AddAssign { ours, rhs, version } => {
             let mut lent = LentRows::new(&ours.rows);
             let answer = ask!(petasunok_add_assign; number ours.state, into_rows lent, rows rhs, number *version);
@@ -88,6 +73,36 @@ fn read(reader: Reader, src: &[u8], lent: &Tables) -> Reply {
         Reader::SingleEpochOwned => fill!(lent, petasunok_deserialize_single_epoch_owned; bytes src),
         Reader::MultiEpochOwned => fill!(lent, petasunok_deserialize_multi_epoch_owned; bytes src),
     }
+}
+
+/// The adding merge.
+fn combine_added(merge: &Merge<u32>) -> Reply {
+    let Merge { present, ours, theirs, with: amount, strategy, lent } = merge;
+    match *present {
+        None => fill!(lent, petasunok_combine_added_bytes; flags ours, flags theirs, number *amount, number *strategy),
+        Some(present) => {
+            fill!(lent, petasunok_optional_combine_added_bytes; number present, flags ours, flags theirs, number *amount, number *strategy)
+        }
+    }
+}
+
+/// The removing merge.
+fn combine_removed(merge: &Merge<Removal>) -> Reply {
+    let Merge { present, ours, theirs, with: removal, strategy, lent } = merge;
+    match *present {
+        None => fill!(lent, petasunok_combine_removed_bytes; flags ours, flags theirs, rows removal, number *strategy),
+        Some(present) => {
+            fill!(lent, petasunok_optional_combine_removed_bytes; number present, flags ours, flags theirs, rows removal, number *strategy)
+        }
+    }
+}
+
+/// A split.
+fn split(split: &Split) -> Reply {
+    let (mut key, mut value) = (LentRows::new(&split.key_rows), LentRows::new(&split.value_rows));
+    let answer = ask!(petasunok_split_storage_removed_bytes;
+        flags split.flags, number split.key, number split.value, into_rows key, into_rows value);
+    Reply::Split { answer, key: key.back(), value: value.back() }
 }
 
 /// Whose owner stands, and the part of the encoding that the header names for it.

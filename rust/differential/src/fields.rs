@@ -1,5 +1,5 @@
 //! Questions and replies as hex digits, numbers big-endian, with a blank between fields. crates/vectors reads them.
-use crate::question::{Question, Reply};
+use crate::question::{Merge, Question, Reply};
 use crate::values::*;
 
 /// The most places that a table of a stored question or reply has.
@@ -18,21 +18,17 @@ pub fn question(question: &Question) -> Option<String> {
         Question::Read { src, lent, .. } => line.bytes(src).tables(lent),
         Question::Serialize { flags, out } => line.flags(flags).bytes(out),
         Question::SerializedSize { flags } => line.flags(flags),
-        Question::ApproximateSize { has_owner, given, changes, size } => line.truth(*has_owner).truth(*given).number(*changes, 2).byte(*size),
+        Question::ApproximateSize { has_owner, given, changes, size } => {
+            line.truth(*has_owner).truth(*given).number(*changes, 2).byte(*size)
+        }
         Question::CombineOwnerId { ours, theirs, strategy } => line.bytes(ours).bytes(theirs).strategy(*strategy),
-        Question::CombineAdded { present, ours, theirs, amount, strategy, lent } => {
-            line.present(*present).flags(ours).flags(theirs).number(*amount, 4).strategy(*strategy).tables(lent)
+        Question::CombineAdded(merge) => line.merge(merge, |line| line.number(merge.with, 4)),
+        Question::CombineRemoved(merge) => line.merge(merge, |line| line.removal(&merge.with)),
+        Question::Split(split) => {
+            line.flags(&split.flags).number(split.key, 4).number(split.value, 4).rows(&split.key_rows).rows(&split.value_rows)
         }
-        Question::CombineRemoved { present, ours, theirs, removal, strategy, lent } => {
-            line.present(*present).flags(ours).flags(theirs).state(&removal.state).rows(&removal.rows).strategy(*strategy).tables(lent)
-        }
-        Question::Split { flags, key, value, key_rows, value_rows } => {
-            line.flags(flags).number(*key, 4).number(*value, 4).rows(key_rows).rows(value_rows)
-        }
-        Question::AddAssign { ours, rhs, version } => {
-            line.state(&ours.state).rows(&ours.rows).state(&rhs.state).rows(&rhs.rows).number(*version, 2)
-        }
-        Question::HasRemoval { removal } | Question::TotalRemovedBytes { removal } => line.state(&removal.state).rows(&removal.rows),
+        Question::AddAssign { ours, rhs, version } => line.removal(ours).removal(rhs).number(*version, 2),
+        Question::HasRemoval { removal } | Question::TotalRemovedBytes { removal } => line.removal(removal),
         Question::NewSingleEpoch { epoch, owned, owner } => line.number(*epoch, 2).truth(*owned).plain(owner),
         Question::SetOwnerId { head, owner } => line.head(head).plain(owner),
         Question::BaseEpoch { head } | Question::OwnerId { head } | Question::TypeByte { head } => line.head(head),
@@ -95,11 +91,12 @@ impl Line {
         self.below(strategy, 3)
     }
 
-    fn present(&mut self, present: Option<u8>) -> &mut Line {
-        match present {
-            None => self,
-            Some(byte) => self.truth(byte),
+    /// A merge, whose amount or removal stands before the strategy.
+    fn merge<T>(&mut self, merge: &Merge<T>, with: impl Fn(&mut Line) -> &mut Line) -> &mut Line {
+        if let Some(present) = merge.present {
+            self.truth(present);
         }
+        with(self.flags(&merge.ours).flags(&merge.theirs)).strategy(merge.strategy).tables(&merge.lent)
     }
 
     /// Bytes without their number.
@@ -161,5 +158,9 @@ impl Line {
 
     fn state(&mut self, state: &petasunok_removal) -> &mut Line {
         self.below(state.kind, 3).number(state.bytes, 4).number(state.rows as u64, 2)
+    }
+
+    fn removal(&mut self, removal: &Removal) -> &mut Line {
+        self.state(&removal.state).rows(&removal.rows)
     }
 }

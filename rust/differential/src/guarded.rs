@@ -78,7 +78,11 @@ pub struct LentRows {
 
 impl LentRows {
     pub fn new(rows: &Rows) -> Self {
-        LentRows { ids: Lent::new(&rows.ids, [0xa5; 32]), epochs: Lent::new(&rows.epochs, 0xa5a5), bytes: Lent::new(&rows.bytes, 0xa5a5_a5a5) }
+        LentRows {
+            ids: Lent::new(&rows.ids, [0xa5; 32]),
+            epochs: Lent::new(&rows.epochs, 0xa5a5),
+            bytes: Lent::new(&rows.bytes, 0xa5a5_a5a5),
+        }
     }
 
     pub fn back(self) -> Rows {

@@ -4,7 +4,7 @@ use crate::expected::expected;
 use crate::generate::{flags, numbers};
 use crate::model::MOST_REMOVED;
 use crate::owned;
-use crate::question::{Question, Reply};
+use crate::question::{Merge, Question, Reply, Split};
 use crate::random::Random;
 use crate::run::Run;
 use crate::values::*;
@@ -39,8 +39,11 @@ struct Ending {
 type Side = fn(&Question) -> Option<Reply>;
 
 /// The sides, the original first.
-const SIDES: [(&str, Side); 3] =
-    [("the original", |question| Some(expected(question).reply)), ("the C boundary", boundary::ask), ("the crate's owned values", owned::ask)];
+const SIDES: [(&str, Side); 3] = [
+    ("the original", |question| Some(expected(question).reply)),
+    ("the C boundary", boundary::ask),
+    ("the crate's owned values", owned::ask),
+];
 
 /// Follows a random history on all sides and compares every step of it.
 pub fn history(run: &mut Run, random: &mut Random, most: usize) {
@@ -119,15 +122,16 @@ impl History {
         let mut ours = self.first.clone();
         let mut sections = BTreeMap::new();
         for step in steps {
-            let (theirs, lent, present, strategy) = (step.theirs.clone(), tables.clone(), None, 0);
+            let merge = Merge { present: None, ours, theirs: step.theirs.clone(), with: step.amount, strategy: 0, lent: tables.clone() };
             let merge = if step.adds {
-                Question::CombineAdded { present, ours, theirs, amount: step.amount, strategy, lent }
+                Question::CombineAdded(merge)
             } else {
-                let split = Question::Split { flags: ours.clone(), key: 0, value: step.amount, key_rows: Rows::default(), value_rows: rows.clone() };
-                let Reply::Split { answer, value, .. } = side(&split)? else { return None };
+                let flags = merge.ours.clone();
+                let split = Split { flags, key: 0, value: step.amount, key_rows: Rows::default(), value_rows: rows.clone() };
+                let Reply::Split { answer, value, .. } = side(&Question::Split(split))? else { return None };
                 let removal = Removal { state: answer.value, rows: value };
                 removal.rows().for_each(|(_, epoch, bytes)| *sections.entry(epoch).or_default() += u64::from(bytes));
-                Question::CombineRemoved { present, ours, theirs, removal, strategy, lent }
+                Question::CombineRemoved(merge.having(removal))
             };
             let Reply::Flags { answer: petasunok_flags { refusal: 0, present: 1, head }, lent } = side(&merge)? else { return None };
             ours = Flags { head, tables: lent };

@@ -16,14 +16,34 @@ pub enum Intended {
 
 /// Each with its name and its reason.
 pub const INTENDED: [(Intended, &str, &str); 8] = [
-    (Intended::RemovalTooLarge, "removal too large (8)", "`left + 3` overflows in the original: a panic in a debug build, a wrong test in a release build"),
-    (Intended::TotalTooLarge, "total too large (9)", "the sum overflows in the original: a panic in a debug build, it wraps in a release build"),
+    (
+        Intended::RemovalTooLarge,
+        "removal too large (8)",
+        "`left + 3` overflows in the original: a panic in a debug build, a wrong test in a release build",
+    ),
+    (
+        Intended::TotalTooLarge,
+        "total too large (9)",
+        "the sum overflows in the original: a panic in a debug build, it wraps in a release build",
+    ),
     (Intended::NoRoom, "no room (10)", "the original's maps and vectors grow"),
     (Intended::BadByte, "a byte that names nothing (11)", "the original has enums"),
     (Intended::CountPastTable, "a count past its table (11)", "the original's maps have their own length"),
-    (Intended::NotProper, "flags or rows not proper (11)", "the original takes flags as they are; rows out of order cannot stand in its maps"),
-    (Intended::TwoFaults, "two sections at fault", "the original visits sections in no promised order; here the first in ascending order decides"),
-    (Intended::IdentifierWithoutSections, "an identifier without sections", "it can stand in the original's map; it cannot be written here, so no run meets it"),
+    (
+        Intended::NotProper,
+        "flags or rows not proper (11)",
+        "the original takes flags as they are; rows out of order cannot stand in its maps",
+    ),
+    (
+        Intended::TwoFaults,
+        "two sections at fault",
+        "the original visits sections in no promised order; here the first in ascending order decides",
+    ),
+    (
+        Intended::IdentifierWithoutSections,
+        "an identifier without sections",
+        "it can stand in the original's map; it cannot be written here, so no run meets it",
+    ),
 ];
 
 impl Intended {

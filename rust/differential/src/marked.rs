@@ -1,5 +1,6 @@
 //! Document 01's marked examples P1 to P14 and its boundaries for the runs, as questions.
-use crate::question::{Question, Reader};
+use crate::expected::expected;
+use crate::question::{Merge, Question, Reader, Reply, Split};
 use crate::values::*;
 
 /// Encodings of P1 to P9.
@@ -57,7 +58,7 @@ pub fn questions(visit: &mut dyn FnMut(Question)) {
     }
     for (base, amount) in [(7, 50), (8, 0)] {
         let (ours, theirs) = (at_five(&[(7, 300)]), incoming(base));
-        visit(Question::CombineAdded { present: None, ours, theirs, amount, strategy: 0, lent: room() });
+        visit(Question::CombineAdded(Merge { present: None, ours, theirs, with: amount, strategy: 0, lent: room() }));
     }
     for version in [0, 1] {
         let (mut ours, rhs) = (Removal::basic(4), Removal::sectioned(&[(ZEROS, 3, 10)]));
@@ -71,9 +72,10 @@ pub fn questions(visit: &mut dyn FnMut(Question)) {
 
 /// A split without key bytes, and the merge of its sections.
 fn split_and_merge(ours: Flags, value: u32, visit: &mut dyn FnMut(Question)) {
-    let split = Question::Split { flags: ours.clone(), key: 0, value, key_rows: row_room(), value_rows: row_room() };
-    let crate::question::Reply::Split { answer, value, .. } = crate::expected::expected(&split).reply else { unreachable!("a split answers a split") };
+    let split = Question::Split(Split { flags: ours.clone(), key: 0, value, key_rows: row_room(), value_rows: row_room() });
+    if let Reply::Split { answer, value, .. } = expected(&split).reply {
+        let with = Removal { state: answer.value, rows: value };
+        visit(Question::CombineRemoved(Merge { present: None, ours, theirs: incoming(9), with, strategy: 0, lent: room() }));
+    }
     visit(split);
-    let removal = Removal { state: answer.value, rows: value };
-    visit(Question::CombineRemoved { present: None, ours, theirs: incoming(9), removal, strategy: 0, lent: room() });
 }

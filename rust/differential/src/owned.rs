@@ -1,8 +1,10 @@
 //! Our answers by the owned values of the crate `petasunok`, put into what is lent as the C boundary does it.
 use crate::placed;
-use crate::question::{Question, Reader, Reply};
+use crate::question::{Merge, Question, Reader, Reply, Split};
 use crate::values::*;
-use petasunok::{EpochMap, MergingOwnersStrategy, StorageFlags, StorageFlagsError, StorageRemovalPerEpochByIdentifier, StorageRemovedBytes};
+use petasunok::{
+    EpochMap, MergingOwnersStrategy, StorageFlags, StorageFlagsError, StorageRemovalPerEpochByIdentifier, StorageRemovedBytes,
+};
 
 /// Asks the crate. None where its types cannot say what is given: a byte that names nothing, or tables out of order.
 pub fn ask(question: &Question) -> Option<Reply> {
@@ -14,27 +16,9 @@ pub fn ask(question: &Question) -> Option<Reply> {
             Reply::Size(StorageFlags::approximate_size(*has_owner != 0, (*given != 0).then_some((*changes, *size))))
         }
         Question::CombineOwnerId { ours, theirs, strategy } => combine_owner_id(ours, theirs, self::strategy(*strategy)?),
-        Question::CombineAdded { present, ours, theirs, amount, strategy, lent } => {
-            let (theirs, strategy) = (flags(theirs)?, self::strategy(*strategy)?);
-            let merged = match present {
-                None => flags(ours)?.combine_added_bytes(theirs, *amount, strategy),
-                Some(present) => StorageFlags::optional_combine_added_bytes(maybe(*present, ours)?, theirs, *amount, strategy),
-            };
-            placed::flags(found(merged.map(Some)), lent)
-        }
-        Question::CombineRemoved { present, ours, theirs, removal, strategy, lent } => {
-            let (theirs, removal, strategy) = (flags(theirs)?, self::removal(removal)?, self::strategy(*strategy)?);
-            let merged = match present {
-                None => flags(ours)?.combine_removed_bytes(theirs, &removal, strategy),
-                Some(present) => StorageFlags::optional_combine_removed_bytes(maybe(*present, ours)?, theirs, &removal, strategy),
-            };
-            placed::flags(found(merged.map(Some)), lent)
-        }
-        Question::Split { flags, key, value, key_rows, value_rows } => {
-            let split = self::flags(flags)?.split_storage_removed_bytes_visited(*key, *value);
-            let split = split.map(|(key, value, visited)| (from_removal(key), from_removal(value), visited));
-            placed::split(split.map_err(StorageFlagsError::number), key_rows, value_rows)
-        }
+        Question::CombineAdded(merge) => combine_added(merge)?,
+        Question::CombineRemoved(merge) => combine_removed(merge)?,
+        Question::Split(split) => self::split(split)?,
         Question::AddAssign { ours, rhs, version } => {
             let (mut sum, rhs) = (removal(ours)?, removal(rhs)?);
             let result = sum.add_assign(rhs, *version).map(|()| from_removal(sum));
@@ -85,6 +69,33 @@ fn read(reader: Reader, src: &[u8]) -> Result<Option<StorageFlags>, StorageFlags
     }
 }
 
+/// The adding merge.
+fn combine_added(merge: &Merge<u32>) -> Option<Reply> {
+    let (theirs, strategy) = (flags(&merge.theirs)?, strategy(merge.strategy)?);
+    let merged = match merge.present {
+        None => flags(&merge.ours)?.combine_added_bytes(theirs, merge.with, strategy),
+        Some(_) => StorageFlags::optional_combine_added_bytes(maybe(merge)?, theirs, merge.with, strategy),
+    };
+    Some(placed::flags(found(merged.map(Some)), &merge.lent))
+}
+
+/// The removing merge.
+fn combine_removed(merge: &Merge<Removal>) -> Option<Reply> {
+    let (theirs, removal, strategy) = (flags(&merge.theirs)?, removal(&merge.with)?, strategy(merge.strategy)?);
+    let merged = match merge.present {
+        None => flags(&merge.ours)?.combine_removed_bytes(theirs, &removal, strategy),
+        Some(_) => StorageFlags::optional_combine_removed_bytes(maybe(merge)?, theirs, &removal, strategy),
+    };
+    Some(placed::flags(found(merged.map(Some)), &merge.lent))
+}
+
+/// A split.
+fn split(split: &Split) -> Option<Reply> {
+    let answer = flags(&split.flags)?.split_storage_removed_bytes_visited(split.key, split.value);
+    let answer = answer.map(|(key, value, visited)| (from_removal(key), from_removal(value), visited));
+    Some(placed::split(answer.map_err(StorageFlagsError::number), &split.key_rows, &split.value_rows))
+}
+
 /// The chosen owner; which encoding holds it is seen by where it stands.
 fn combine_owner_id(ours: &[u8], theirs: &[u8], strategy: MergingOwnersStrategy) -> Reply {
     let chosen = petasunok::lent::combine_owner_id(ours, theirs, strategy);
@@ -105,12 +116,12 @@ fn numbered(result: Result<impl Into<u64>, StorageFlagsError>) -> Result<u64, u3
     result.map(Into::into).map_err(StorageFlagsError::number)
 }
 
-/// Ours, or none; none again where ours cannot be said.
-fn maybe(present: u8, ours: &Flags) -> Option<Option<StorageFlags>> {
-    match present {
-        0 => Some(None),
-        _ => flags(ours).map(Some),
+/// Our flags for the optional form of a merge, or none; nothing where they cannot be said.
+fn maybe<T>(merge: &Merge<T>) -> Option<Option<StorageFlags>> {
+    if merge.is_present() {
+        return flags(&merge.ours).map(Some);
     }
+    Some(None)
 }
 
 /// Flags as the crate has them, if it has them.

@@ -12,8 +12,7 @@ pub enum Reader {
 }
 
 /// All of them.
-pub const READERS: [Reader; 5] =
-    [Reader::Any, Reader::SingleEpoch, Reader::MultiEpoch, Reader::SingleEpochOwned, Reader::MultiEpochOwned];
+pub const READERS: [Reader; 5] = [Reader::Any, Reader::SingleEpoch, Reader::MultiEpoch, Reader::SingleEpochOwned, Reader::MultiEpochOwned];
 
 /// The names of the calls; a call's number is its place, counted from 1.
 pub const CALLS: [&str; 22] = [
@@ -41,7 +40,41 @@ pub const CALLS: [&str; 22] = [
     "type_byte",
 ];
 
-/// A call. In a merge `present` is none for the plain form and the given byte for the optional one.
+/// A merge with an added amount or with a removal. `present` is none for the plain form, and the given byte for the optional one.
+#[derive(Clone, Debug, PartialEq, Eq)]
+pub struct Merge<T> {
+    pub present: Option<u8>,
+    pub ours: Flags,
+    pub theirs: Flags,
+    pub with: T,
+    pub strategy: u8,
+    pub lent: Tables,
+}
+
+impl<T> Merge<T> {
+    /// Whether ours is there; without the byte it always is.
+    pub fn is_present(&self) -> bool {
+        self.present != Some(0)
+    }
+
+    /// The same merge with another amount or removal.
+    pub fn having<U>(self, with: U) -> Merge<U> {
+        let Merge { present, ours, theirs, strategy, lent, .. } = self;
+        Merge { present, ours, theirs, with, strategy, lent }
+    }
+}
+
+/// A split of key bytes and value bytes.
+#[derive(Clone, Debug, PartialEq, Eq)]
+pub struct Split {
+    pub flags: Flags,
+    pub key: u32,
+    pub value: u32,
+    pub key_rows: Rows,
+    pub value_rows: Rows,
+}
+
+/// A call.
 #[derive(Clone, Debug, PartialEq, Eq)]
 pub enum Question {
     Read { reader: Reader, src: Vec<u8>, lent: Tables },
@@ -49,9 +82,9 @@ pub enum Question {
     SerializedSize { flags: Flags },
     ApproximateSize { has_owner: u8, given: u8, changes: u16, size: u8 },
     CombineOwnerId { ours: Vec<u8>, theirs: Vec<u8>, strategy: u8 },
-    CombineAdded { present: Option<u8>, ours: Flags, theirs: Flags, amount: u32, strategy: u8, lent: Tables },
-    CombineRemoved { present: Option<u8>, ours: Flags, theirs: Flags, removal: Removal, strategy: u8, lent: Tables },
-    Split { flags: Flags, key: u32, value: u32, key_rows: Rows, value_rows: Rows },
+    CombineAdded(Merge<u32>),
+    CombineRemoved(Merge<Removal>),
+    Split(Split),
     AddAssign { ours: Removal, rhs: Removal, version: u16 },
     HasRemoval { removal: Removal },
     TotalRemovedBytes { removal: Removal },
@@ -87,9 +120,9 @@ impl Question {
             Question::SerializedSize { .. } => 7,
             Question::ApproximateSize { .. } => 8,
             Question::CombineOwnerId { .. } => 9,
-            Question::CombineAdded { present, .. } => 10 + usize::from(present.is_some()),
-            Question::CombineRemoved { present, .. } => 12 + usize::from(present.is_some()),
-            Question::Split { .. } => 14,
+            Question::CombineAdded(merge) => 10 + usize::from(merge.present.is_some()),
+            Question::CombineRemoved(merge) => 12 + usize::from(merge.present.is_some()),
+            Question::Split(_) => 14,
             Question::AddAssign { .. } => 15,
             Question::HasRemoval { .. } => 16,
             Question::TotalRemovedBytes { .. } => 17,

@@ -16,7 +16,8 @@ fn good_arguments() {
 
 #[test]
 fn bad_arguments() {
-    for given in ["--rounds", "--rounds -1", "--rounds x", "--seed", "--seed now", "--only", "--only split", "--other", "vectors now", "7"] {
+    for given in ["--rounds", "--rounds -1", "--rounds x", "--seed", "--seed now", "--only", "--only split", "--other", "vectors now", "7"]
+    {
         assert!(parsed(given).is_err(), "{given}");
     }
 }

@@ -2,7 +2,7 @@
 //! overflow panics, and so do the original's assertions; in a release build overflow wraps.
 use differential::boundary;
 use differential::intended::{Intended, INTENDED};
-use differential::question::{Question, Reader, Reply};
+use differential::question::{Merge, Question, Reader, Reply, Split};
 use differential::values::*;
 use grovedb_costs::storage_cost::removal::StorageRemovedBytes::{self, BasicStorageRemoval, SectionedStorageRemoval};
 use grovedb_epoch_based_storage_flags::error::StorageFlagsError;
@@ -68,12 +68,12 @@ fn row_room(length: usize) -> Rows {
 }
 
 fn split(records: &[(u16, u32)], value: u32) -> Question {
-    Question::Split { flags: at_five(records), key: 0, value, key_rows: row_room(0), value_rows: row_room(2) }
+    Question::Split(Split { flags: at_five(records), key: 0, value, key_rows: row_room(0), value_rows: row_room(2) })
 }
 
-fn removing(removal: Removal) -> Question {
+fn removing(with: Removal) -> Question {
     let (ours, theirs) = (at_five(&[(7, 10)]), Flags::new(0, 9, ZEROS, &[]));
-    Question::CombineRemoved { present: None, ours, theirs, removal, strategy: 0, lent: room(1) }
+    Question::CombineRemoved(Merge { present: None, ours, theirs, with, strategy: 0, lent: room(1) })
 }
 
 fn original_removing(removal: &StorageRemovedBytes) -> Result<StorageFlags, StorageFlagsError> {
@@ -142,7 +142,7 @@ fn flags_or_rows_not_proper() {
         let merged = original_at_five(records).combine_added_bytes(StorageFlags::SingleEpoch(5), 1, RaiseIssue);
         assert_eq!(merged, Ok(original_at_five(records)));
         let (ours, theirs) = (at_five(records), Flags::new(0, 5, ZEROS, &[]));
-        assert_eq!(refusal(Question::CombineAdded { present: None, ours, theirs, amount: 1, strategy: 0, lent: room(1) }), 11);
+        assert_eq!(refusal(Question::CombineAdded(Merge { present: None, ours, theirs, with: 1, strategy: 0, lent: room(1) })), 11);
     }
     // rows out of order cannot stand in the original's map
     let rows = [(ZEROS, 1, 0), (ZEROS, 0, 0)];

@@ -4,6 +4,7 @@ use crate::convert;
 use crate::intended::Intended;
 use crate::model;
 use crate::placed;
+use crate::question::Merge;
 use crate::values::*;
 use grovedb_epoch_based_storage_flags::error::StorageFlagsError;
 use grovedb_epoch_based_storage_flags::StorageFlags;
@@ -29,57 +30,47 @@ pub fn combine_owner_id(ours: &[u8], theirs: &[u8], strategy: u8) -> Expected {
     }))
 }
 
-/// Ours, if there; a merge without the byte always has it.
-fn present(present: Option<u8>) -> bool {
-    present != Some(0)
+/// What is wrong with the flags and the strategy of a merge. Ours that is absent is not looked at.
+fn merge_fault<T>(merge: &Merge<T>) -> Option<model::Fault> {
+    let our_fault = merge.is_present().then(|| model::flags_fault(&merge.ours)).flatten();
+    our_fault.or_else(|| model::flags_fault(&merge.theirs)).or_else(|| model::strategy_fault(merge.strategy))
 }
 
-/// What is wrong with the flags and the strategy of a merge. Ours that is absent is not looked at.
-fn merge_fault(is_present: bool, ours: &Flags, theirs: &Flags, strategy: u8) -> Option<model::Fault> {
-    let our_fault = is_present.then(|| model::flags_fault(ours)).flatten();
-    our_fault.or_else(|| model::flags_fault(theirs)).or_else(|| model::strategy_fault(strategy))
+/// Our flags for the optional form of a merge.
+fn maybe<T>(merge: &Merge<T>) -> Option<StorageFlags> {
+    merge.is_present().then(|| convert::flags(&merge.ours))
 }
 
 /// The adding merge, in both forms.
-pub fn combine_added(present_byte: Option<u8>, ours: &Flags, theirs: &Flags, amount: u32, strategy: u8, lent: &Tables) -> Expected {
-    let is_present = present(present_byte);
-    if let Some(fault) = merge_fault(is_present, ours, theirs, strategy) {
-        return Expected::added(fault, placed::flags(Err(11), lent));
+pub fn combine_added(merge: &Merge<u32>) -> Expected {
+    if let Some(fault) = merge_fault(merge) {
+        return Expected::added(fault, placed::flags(Err(11), &merge.lent));
     }
-    let (theirs, strategy) = (convert::flags(theirs), convert::strategy(strategy));
-    let result = match present_byte {
-        None => convert::flags(ours).combine_added_bytes(theirs, amount, strategy),
-        Some(_) => {
-            let ours = is_present.then(|| convert::flags(ours));
-            StorageFlags::optional_combine_added_bytes(ours, theirs, amount, strategy)
-        }
+    let (theirs, strategy) = (convert::flags(&merge.theirs), convert::strategy(merge.strategy));
+    let result = match merge.present {
+        None => convert::flags(&merge.ours).combine_added_bytes(theirs, merge.with, strategy),
+        Some(_) => StorageFlags::optional_combine_added_bytes(maybe(merge), theirs, merge.with, strategy),
     };
-    Expected::original(placed::flags(flags(result.map(Some)), lent))
+    Expected::original(placed::flags(flags(result.map(Some)), &merge.lent))
 }
 
 /// The removing merge, in both forms. Where another order of visiting gives another error, two sections are at fault.
-pub fn combine_removed(present_byte: Option<u8>, ours: &Flags, theirs: &Flags, removal: &Removal, strategy: u8, lent: &Tables) -> Expected {
-    let is_present = present(present_byte);
-    let fault = merge_fault(is_present, ours, theirs, strategy).or_else(|| model::removal_fault(removal));
-    if let Some(fault) = fault {
-        return Expected::added(fault, placed::flags(Err(11), lent));
+pub fn combine_removed(merge: &Merge<Removal>) -> Expected {
+    if let Some(fault) = merge_fault(merge).or_else(|| model::removal_fault(&merge.with)) {
+        return Expected::added(fault, placed::flags(Err(11), &merge.lent));
     }
+    let removal = convert::removal(&merge.with);
     let ask = || {
-        let (theirs, removal, strategy) = (convert::flags(theirs), convert::removal(removal), convert::strategy(strategy));
-        match present_byte {
-            None => convert::flags(ours).combine_removed_bytes(theirs, &removal, strategy),
-            Some(_) => {
-                let ours = is_present.then(|| convert::flags(ours));
-                StorageFlags::optional_combine_removed_bytes(ours, theirs, &removal, strategy)
-            }
+        let (theirs, strategy) = (convert::flags(&merge.theirs), convert::strategy(merge.strategy));
+        match merge.present {
+            None => convert::flags(&merge.ours).combine_removed_bytes(theirs, &removal, strategy),
+            Some(_) => StorageFlags::optional_combine_removed_bytes(maybe(merge), theirs, &removal, strategy),
         }
     };
     let result = ask();
-    let two_faults = match &result {
-        Err(error) => intmap::descending(ask).map_err(|other| convert::number(&other)) != Err(convert::number(error)),
-        Ok(_) => false,
-    };
-    let mut expected = Expected::original(placed::flags(flags(result.map(Some)), lent));
+    let refusal = |result: &Result<_, _>| result.as_ref().err().map(convert::number);
+    let two_faults = result.is_err() && refusal(&intmap::descending(ask)) != refusal(&result);
+    let mut expected = Expected::original(placed::flags(flags(result.map(Some)), &merge.lent));
     if two_faults {
         expected.intended = Some(Intended::TwoFaults);
     }

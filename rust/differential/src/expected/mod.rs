@@ -43,13 +43,9 @@ pub fn expected(question: &Question) -> Expected {
             Expected::original(Reply::Size(StorageFlags::approximate_size(*has_owner != 0, given)))
         }
         Question::CombineOwnerId { ours, theirs, strategy } => merging::combine_owner_id(ours, theirs, *strategy),
-        Question::CombineAdded { present, ours, theirs, amount, strategy, lent } => {
-            merging::combine_added(*present, ours, theirs, *amount, *strategy, lent)
-        }
-        Question::CombineRemoved { present, ours, theirs, removal, strategy, lent } => {
-            merging::combine_removed(*present, ours, theirs, removal, *strategy, lent)
-        }
-        Question::Split { flags, key, value, key_rows, value_rows } => removals::split(flags, *key, *value, key_rows, value_rows),
+        Question::CombineAdded(merge) => merging::combine_added(merge),
+        Question::CombineRemoved(merge) => merging::combine_removed(merge),
+        Question::Split(split) => removals::split(split),
         Question::AddAssign { ours, rhs, version } => removals::add_assign(ours, rhs, *version),
         Question::HasRemoval { removal } => removals::has_removal(removal),
         Question::TotalRemovedBytes { removal } => removals::total(removal),

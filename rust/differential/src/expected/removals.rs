@@ -4,18 +4,20 @@ use crate::convert;
 use crate::intended::Intended;
 use crate::model;
 use crate::placed;
+use crate::question::Split;
 use crate::values::*;
 use grovedb_costs::storage_cost::removal::{with_basic_sectioned_removal_addition_version, StorageRemovedBytes};
 
 /// Splits a removal. The records visited are the value's sections above the base.
-pub fn split(flags: &Flags, key: u32, value: u32, key_rows: &Rows, value_rows: &Rows) -> Expected {
+pub fn split(split: &Split) -> Expected {
+    let Split { flags, key, value, key_rows, value_rows } = split;
     if let Some(fault) = model::flags_fault(flags) {
         return Expected::added(fault, placed::split(Err(11), key_rows, value_rows));
     }
-    if model::has_records(flags.head.kind) && value > model::MOST_REMOVED {
+    if model::has_records(flags.head.kind) && *value > model::MOST_REMOVED {
         return Expected::added(Intended::RemovalTooLarge, placed::split(Err(8), key_rows, value_rows));
     }
-    let (key, value) = convert::flags(flags).split_storage_removed_bytes(key, value);
+    let (key, value) = convert::flags(flags).split_storage_removed_bytes(*key, *value);
     let (key, value) = (convert::from_removal(&key), convert::from_removal(&value));
     let visited = value.rows().filter(|row| row.1 > flags.head.base).count();
     Expected::original(placed::split(Ok((key, value, visited)), key_rows, value_rows))

@@ -4,8 +4,30 @@ use crate::values::{Id, ZEROS};
 
 /// Counts at which something changes: the 3 that a record keeps, the lengths of varints, the largest amounts.
 pub const COUNTS: [u32; 24] = [
-    0, 1, 2, 3, 4, 5, 6, 7, 126, 127, 128, 16_383, 16_384, 2_097_151, 2_097_152, 268_435_455, 268_435_456, 4_294_967_289, 4_294_967_290,
-    4_294_967_291, 4_294_967_292, 4_294_967_293, 4_294_967_294, 4_294_967_295,
+    0,
+    1,
+    2,
+    3,
+    4,
+    5,
+    6,
+    7,
+    126,
+    127,
+    128,
+    16_383,
+    16_384,
+    2_097_151,
+    2_097_152,
+    268_435_455,
+    268_435_456,
+    4_294_967_289,
+    4_294_967_290,
+    4_294_967_291,
+    4_294_967_292,
+    4_294_967_293,
+    4_294_967_294,
+    4_294_967_295,
 ];
 
 /// Epochs at the ends of their bytes.
@@ -15,7 +37,8 @@ pub const EPOCHS: [u16; 12] = [0, 1, 2, 127, 128, 255, 256, 32_767, 32_768, 65_5
 pub const BAD_BYTES: [u8; 5] = [3, 4, 5, 128, 255];
 
 /// Owners that differ in the first or in the last byte only.
-pub const OWNERS: [Id; 7] = [ZEROS, one_byte(0, 31, 1), one_byte(0, 0, 1), one_byte(0, 0, 128), [255; 32], one_byte(255, 31, 254), one_byte(7, 16, 9)];
+pub const OWNERS: [Id; 7] =
+    [ZEROS, one_byte(0, 31, 1), one_byte(0, 0, 1), one_byte(0, 0, 128), [255; 32], one_byte(255, 31, 254), one_byte(7, 16, 9)];
 
 /// Bytes that are all the same but one.
 const fn one_byte(all: u8, place: usize, byte: u8) -> Id {

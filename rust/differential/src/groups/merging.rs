@@ -1,7 +1,7 @@
 //! Both merges, in both forms.
 use super::{fit, Visit};
 use crate::generate::{flags, lent, numbers, removals};
-use crate::question::Question;
+use crate::question::{Merge, Question};
 use crate::random::Random;
 use crate::values::*;
 
@@ -36,9 +36,10 @@ fn theirs(kind: u8, base: u16, owner: Id) -> Flags {
 /// Both merges of two flags, with a removal of all kinds under an owner.
 fn both(ours: Flags, theirs: Flags, strategy: u8, id: Id, visit: &mut Visit) {
     for removal in [Removal::default(), Removal::basic(1), Removal::sectioned(&[]), Removal::sectioned(&[(id, 7, 1)])] {
-        visit(Question::CombineRemoved { present: None, ours: ours.clone(), theirs: theirs.clone(), removal, strategy, lent: room(6) });
+        let (ours, theirs) = (ours.clone(), theirs.clone());
+        visit(Question::CombineRemoved(Merge { present: None, ours, theirs, with: removal, strategy, lent: room(6) }));
     }
-    visit(Question::CombineAdded { present: None, ours, theirs, amount: 5, strategy, lent: room(6) });
+    visit(Question::CombineAdded(Merge { present: None, ours, theirs, with: 5, strategy, lent: room(6) }));
 }
 
 /// Kinds, owners, bases and strategies.
@@ -75,7 +76,7 @@ fn amounts(visit: &mut Visit) {
     for (count, amount) in pairs() {
         for (kind, base) in [(0, 7), (1, 7), (3, 7), (1, 6), (1, 8), (1, 5)] {
             let (ours, theirs) = (ours(kind, [9; 32], count), Flags::new(kind & 2, base, [9; 32], &[]));
-            visit(Question::CombineAdded { present: None, ours, theirs, amount, strategy: 0, lent: room(2) });
+            visit(Question::CombineAdded(Merge { present: None, ours, theirs, with: amount, strategy: 0, lent: room(2) }));
         }
     }
 }
@@ -89,10 +90,12 @@ fn pairs() -> impl Iterator<Item = (u32, u32)> {
 fn sections(visit: &mut Visit) {
     for (count, bytes) in pairs() {
         for (kind, id) in [(1, ZEROS), (3, [9; 32]), (3, ZEROS)] {
-            for rows in [&[(id, 7, bytes)][..], &[(id, 5, bytes), (id, 7, bytes)], &[(id, 7, bytes), (id, 8, 0)], &[(id, 6, 0), (id, 7, bytes)]] {
+            for rows in
+                [&[(id, 7, bytes)][..], &[(id, 5, bytes), (id, 7, bytes)], &[(id, 7, bytes), (id, 8, 0)], &[(id, 6, 0), (id, 7, bytes)]]
+            {
                 let (ours, theirs) = (ours(kind, [9; 32], count), Flags::new(kind & 2, 9, [9; 32], &[]));
-                let removal = Removal::sectioned(rows);
-                visit(Question::CombineRemoved { present: None, ours, theirs, removal, strategy: 0, lent: room(1) });
+                let with = Removal::sectioned(rows);
+                visit(Question::CombineRemoved(Merge { present: None, ours, theirs, with, strategy: 0, lent: room(1) }));
             }
         }
     }
@@ -116,25 +119,17 @@ fn rooms(visit: &mut Visit) {
         for present in [None, Some(0), Some(1), Some(2), Some(255)] {
             for our_kind in [0, 1, 3, 4, 255] {
                 let (ours, theirs) = (ours(our_kind, [9; 32], 10), theirs(1, 7, ZEROS));
-                let removal = Removal::sectioned(&[(ours.identifier(), 7, 8)]);
-                let lent = lent.clone();
-                visit(Question::CombineAdded { present, ours: ours.clone(), theirs: theirs.clone(), amount: 1, strategy: 1, lent: lent.clone() });
-                visit(Question::CombineRemoved { present, ours, theirs, removal, strategy: 1, lent });
+                let with = Removal::sectioned(&[(ours.identifier(), 7, 8)]);
+                let removing = Merge { present, ours, theirs, with, strategy: 1, lent: lent.clone() };
+                visit(Question::CombineAdded(removing.clone().having(1)));
+                visit(Question::CombineRemoved(removing));
             }
         }
     }
 }
 
 /// What both random merges have: which form, both flags, a strategy, and ample room.
-struct Given {
-    present: Option<u8>,
-    ours: Flags,
-    theirs: Flags,
-    strategy: u8,
-    lent: Tables,
-}
-
-fn given(random: &mut Random, most: usize) -> Given {
+fn given(random: &mut Random, most: usize) -> Merge<()> {
     let ours = flags::proper(random, most);
     let theirs = flags::incoming(random, &ours, most);
     let present = match random.below(8) {
@@ -144,26 +139,31 @@ fn given(random: &mut Random, most: usize) -> Given {
     };
     let strategy = if random.one_in(32) { random.pick(&numbers::BAD_BYTES) } else { numbers::strategy(random) };
     let lent = lent::exact_tables(random, ours.head.records + theirs.head.records + 1);
-    Given { present, ours, theirs, strategy, lent }
+    Merge { present, ours, theirs, with: (), strategy, lent }
+}
+
+/// The merge, with flags that may have longer tables or not be proper, and with room that may not be enough.
+fn changed<T>(random: &mut Random, mut merge: Merge<T>, form: fn(Merge<T>) -> Question) -> Question {
+    merge.ours = flags::changed(random, merge.ours);
+    merge.theirs = flags::changed(random, merge.theirs);
+    fit(random, form(merge))
 }
 
 /// A random adding merge. Its amount is often near what the record at the incoming base can still take.
 pub fn added(random: &mut Random, most: usize) -> Question {
-    let Given { present, ours, theirs, strategy, lent } = given(random, most);
-    let there = ours.records().find(|record| record.0 == theirs.head.base);
+    let merge = given(random, most);
+    let there = merge.ours.records().find(|record| record.0 == merge.theirs.head.base);
     let amount = match there {
         Some((_, count)) if random.one_in(2) => numbers::near(random, u32::MAX - count),
         _ => numbers::count(random),
     };
-    let (ours, theirs) = (flags::changed(random, ours), flags::changed(random, theirs));
-    fit(random, Question::CombineAdded { present, ours, theirs, amount, strategy, lent })
+    changed(random, merge.having(amount), Question::CombineAdded)
 }
 
 /// A random removing merge.
 pub fn removed(random: &mut Random, most: usize) -> Question {
-    let Given { present, ours, theirs, strategy, lent } = given(random, most);
-    let removal = removals::for_merge(random, &ours, &theirs, most);
+    let merge = given(random, most);
+    let removal = removals::for_merge(random, &merge.ours, &merge.theirs, most);
     let removal = removals::changed(random, removal);
-    let (ours, theirs) = (flags::changed(random, ours), flags::changed(random, theirs));
-    fit(random, Question::CombineRemoved { present, ours, theirs, removal, strategy, lent })
+    changed(random, merge.having(removal), Question::CombineRemoved)
 }

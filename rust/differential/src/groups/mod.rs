@@ -9,7 +9,7 @@ pub mod writing;
 
 use crate::expected::expected;
 use crate::generate::lent;
-use crate::question::{Question, Reply};
+use crate::question::{Merge, Question, Reply};
 use crate::random::Random;
 
 /// What is done with each question.
@@ -65,14 +65,13 @@ fn fit(random: &mut Random, mut question: Question) -> Question {
     }
     let reply = expected(&question).reply;
     match (&mut question, reply) {
-        (
-            Question::Read { lent, .. } | Question::CombineAdded { lent, .. } | Question::CombineRemoved { lent, .. },
-            Reply::Flags { answer, .. },
-        ) => *lent = lent::tables(random, answer.head.records),
+        (Question::Read { lent, .. }, Reply::Flags { answer, .. })
+        | (Question::CombineAdded(Merge { lent, .. }), Reply::Flags { answer, .. })
+        | (Question::CombineRemoved(Merge { lent, .. }), Reply::Flags { answer, .. }) => *lent = lent::tables(random, answer.head.records),
         (Question::Serialize { out, .. }, Reply::Written { answer, .. }) => *out = lent::bytes(random, answer.count as usize),
-        (Question::Split { key_rows, value_rows, .. }, Reply::Split { answer, .. }) => {
-            *key_rows = lent::rows(random, answer.key.rows);
-            *value_rows = lent::rows(random, answer.value.rows);
+        (Question::Split(split), Reply::Split { answer, .. }) => {
+            split.key_rows = lent::rows(random, answer.key.rows);
+            split.value_rows = lent::rows(random, answer.value.rows);
         }
         _ => {}
     }

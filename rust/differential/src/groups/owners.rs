@@ -6,7 +6,8 @@ use crate::random::Random;
 
 /// All pairs of: no bytes, each kind with each owner, and encodings that are refused with 1, 2 and 3; all strategies.
 pub fn boundaries(visit: &mut Visit) {
-    let mut some: Vec<Vec<u8>> = ["", "000005", "0100050007ac02", "04", "0005", "010005", "010005000501"].iter().map(|hex| bytes(hex)).collect();
+    let mut some: Vec<Vec<u8>> =
+        ["", "000005", "0100050007ac02", "04", "0005", "010005", "010005000501"].iter().map(|hex| bytes(hex)).collect();
     for owner in numbers::OWNERS {
         some.push([&[2][..], &owner, &[0, 5]].concat());
         some.push([&[3][..], &owner, &[0, 5, 0, 7, 1]].concat());

@@ -1,7 +1,7 @@
 //! Splitting.
 use super::{fit, Visit};
 use crate::generate::{flags, lent, numbers};
-use crate::question::Question;
+use crate::question::{Question, Split};
 use crate::random::Random;
 use crate::values::*;
 
@@ -33,7 +33,7 @@ fn room(ids: usize, epochs: usize, bytes: usize) -> Rows {
 
 /// A split with ample room.
 fn ask(flags: Flags, key: u32, value: u32, visit: &mut Visit) {
-    visit(Question::Split { flags, key, value, key_rows: room(2, 2, 2), value_rows: room(5, 5, 5) });
+    visit(Question::Split(Split { flags, key, value, key_rows: room(2, 2, 2), value_rows: room(5, 5, 5) }));
 }
 
 /// Every room up to what is needed and one more.
@@ -43,9 +43,8 @@ fn rooms(visit: &mut Visit) {
             for key in [0, 3] {
                 let flags = Flags::new(3, 5, [9; 32], &[(7, 10), (8, 10)]);
                 let (key_rows, value_rows) = (room(key_room, key_room, key_room), room(ids, epochs, bytes));
-                visit(Question::Split { flags: flags.clone(), key, value, key_rows, value_rows: value_rows.clone() });
-                let (key_rows, rest) = (value_rows, room(3, 3, 3));
-                visit(Question::Split { flags, key, value, key_rows, value_rows: rest });
+                visit(Question::Split(Split { flags: flags.clone(), key, value, key_rows, value_rows: value_rows.clone() }));
+                visit(Question::Split(Split { flags, key, value, key_rows: value_rows, value_rows: room(3, 3, 3) }));
             }
         }
     }
@@ -62,5 +61,5 @@ pub fn split(random: &mut Random, most: usize) -> Question {
     };
     let key = if random.one_in(2) { 0 } else { numbers::count(random) };
     let value_rows = lent::exact_rows(random, flags.tables.room() + 1);
-    fit(random, Question::Split { flags, key, value, key_rows: room(1, 2, 1), value_rows })
+    fit(random, Question::Split(Split { flags, key, value, key_rows: room(1, 2, 1), value_rows }))
 }

@@ -33,7 +33,8 @@ pub fn boundaries(visit: &mut Visit) {
 
 /// Removals of all kinds, also not proper ones, with rows at the zero identifier and the last epoch and beside them.
 fn some_removals() -> Vec<Removal> {
-    let rows = [(ZEROS, 3, 10), (ZEROS, u16::MAX, 4), (numbers::OWNERS[1], 3, 0), (numbers::OWNERS[1], u16::MAX, u32::MAX), ([255; 32], 0, 1)];
+    let rows =
+        [(ZEROS, 3, 10), (ZEROS, u16::MAX, 4), (numbers::OWNERS[1], 3, 0), (numbers::OWNERS[1], u16::MAX, u32::MAX), ([255; 32], 0, 1)];
     let mut some = vec![Removal::default(), Removal::basic(0), Removal::basic(7)];
     for chosen in 0..1 << rows.len() {
         let taken: Vec<_> = rows.iter().enumerate().filter(|(place, _)| chosen >> place & 1 == 1).map(|(_, row)| *row).collect();
