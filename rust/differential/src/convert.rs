@@ -76,3 +76,15 @@ pub fn number(error: &StorageFlagsError) -> u32 {
         StorageFlagsError::RemovingAtEpochWithNoAssociatedStorage(_) => 7,
     }
 }
+
+/// The bytes of a count.
+pub fn varint(count: u32) -> Vec<u8> {
+    let mut bytes = Vec::new();
+    let mut rest = count;
+    while rest > 0x7f {
+        bytes.push(rest as u8 | 0x80);
+        rest >>= 7;
+    }
+    bytes.push(rest as u8);
+    bytes
+}

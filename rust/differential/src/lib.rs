@@ -2,6 +2,7 @@
 pub mod arguments;
 pub mod boundary;
 pub mod convert;
+pub mod edges;
 pub mod expected;
 pub mod fields;
 pub mod generate;

@@ -1,5 +1,6 @@
 //! Document 01's marked examples P1 to P14 and its boundaries for the runs, as questions.
 use crate::expected::expected;
+use crate::groups::Visit;
 use crate::question::{Merge, Question, Reader, Reply, Split};
 use crate::values::*;
 
@@ -49,7 +50,7 @@ fn incoming(base: u16) -> Flags {
 }
 
 /// All of them.
-pub fn questions(visit: &mut dyn FnMut(Question)) {
+pub fn questions(visit: &mut Visit) {
     for src in READ {
         visit(Question::Read { reader: Reader::Any, src: src.to_vec(), lent: room() });
     }
@@ -71,7 +72,7 @@ pub fn questions(visit: &mut dyn FnMut(Question)) {
 }
 
 /// A split without key bytes, and the merge of its sections.
-fn split_and_merge(ours: Flags, value: u32, visit: &mut dyn FnMut(Question)) {
+fn split_and_merge(ours: Flags, value: u32, visit: &mut Visit) {
     let split = Question::Split(Split { flags: ours.clone(), key: 0, value, key_rows: row_room(), value_rows: row_room() });
     if let Reply::Split { answer, value, .. } = expected(&split).reply {
         let with = Removal { state: answer.value, rows: value };

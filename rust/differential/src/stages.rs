@@ -1,4 +1,5 @@
 //! The stages of a run: the marked examples, boundaries, random rounds with histories, and short strings.
+use crate::edges;
 use crate::groups::{reading, BOUNDARIES, RANDOMLY};
 use crate::histories;
 use crate::marked;
@@ -16,11 +17,9 @@ const STARTS: [u8; 6] = [0, 1, 2, 3, 4, 255];
 
 /// All stages.
 pub fn all(run: &mut Run, rounds: u64, seed: u64, every_string: bool) {
-    run.progress.stage("marked examples".into());
-    marked::questions(&mut |question| run.compare(&question));
-    for boundaries in BOUNDARIES {
-        run.progress.stage("boundaries".into());
-        boundaries(&mut |question| run.compare(&question));
+    run.progress.stage("boundaries".into());
+    for questions in [marked::questions, edges::questions].into_iter().chain(BOUNDARIES) {
+        questions(&mut |question| run.compare(&question));
     }
     random_rounds(run, rounds, seed);
     short_strings(run, every_string);

@@ -1,4 +1,5 @@
 //! The stored answers: a list of questions with the replies that they have to get, for crates/vectors.
+use crate::edges;
 use crate::expected::expected;
 use crate::fields;
 use crate::groups::{BOUNDARIES, RANDOMLY};
@@ -11,7 +12,7 @@ use std::collections::{BTreeMap, BTreeSet};
 const MOST_BYTES: usize = 600;
 
 /// How many of a call's boundaries are stored, about.
-const BOUNDARIES_OF_CALL: usize = 80;
+const BOUNDARIES_OF_CALL: usize = 60;
 
 /// How many random questions of a call with the same refusal, or none, are stored.
 const OF_REFUSAL: usize = 24;
@@ -58,9 +59,11 @@ struct List {
 /// The list that a seed gives.
 pub fn list(seed: u64) -> String {
     let mut list = List::default();
-    marked::questions(&mut |question| {
-        list.add(&question);
-    });
+    for questions in [marked::questions, edges::questions] {
+        questions(&mut |question| {
+            list.add(&question);
+        });
+    }
     let mut random = Random::new(seed);
     list.boundaries(&mut random);
     list.random(&mut random);

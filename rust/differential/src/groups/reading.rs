@@ -1,5 +1,6 @@
 //! The five readers.
 use super::{fit, Visit};
+use crate::convert;
 use crate::generate::{encodings, lent, numbers};
 use crate::question::{Question, READERS};
 use crate::random::Random;
@@ -70,7 +71,7 @@ fn with_starts(base: &[u8], records: &[u8], visit: &mut Visit) {
 fn counts(visit: &mut Visit) {
     for count in numbers::COUNTS {
         for extra in 0..6 {
-            let mut bytes = varint(count.into());
+            let mut bytes = convert::varint(count);
             for _ in 0..extra {
                 *bytes.last_mut().expect("a varint has a byte") |= 0x80;
                 bytes.push(0);
@@ -91,17 +92,6 @@ fn counts(visit: &mut Visit) {
             with_starts(&base.to_be_bytes(), &records, visit);
         }
     }
-}
-
-/// The bytes of a number.
-fn varint(mut number: u64) -> Vec<u8> {
-    let mut bytes = Vec::new();
-    while number > 0x7f {
-        bytes.push(number as u8 | 0x80);
-        number >>= 7;
-    }
-    bytes.push(number as u8);
-    bytes
 }
 
 /// A random encoding to a random reader, mostly the one for all kinds.
