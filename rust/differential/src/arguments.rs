@@ -9,7 +9,7 @@ usage: differential [--rounds N] [--seed S] [--only CALL] [--all] [--first]
 Compares every call of the static library, and of the crate over it, with the original Rust.
   --rounds N   so many rounds of random questions; a round has 22 of them, and every eighth a history
   --seed S     the number that decides them; `time` takes the clock's
-  --only CALL  compares only this call
+  --only CALL  compares only this call, or only `histories`
   --all        reads every string of 3 bytes (16,777,216 of them, by five readers), not only those that start with 00 to 04 or ff
   --first      stops at the first difference
   vectors      writes the list of stored answers to standard output
@@ -21,11 +21,19 @@ const ROUNDS: u64 = 20_000;
 /// The seed of a run that does not say.
 pub const SEED: u64 = 20_261_115;
 
+/// What a run is held to.
+#[derive(Clone, Copy, Debug, PartialEq, Eq)]
+pub enum Only {
+    /// The call of this number.
+    Call(usize),
+    Histories,
+}
+
 /// A run, or the list of stored answers.
 #[derive(Debug, PartialEq, Eq)]
 pub enum Arguments {
     Vectors,
-    Run { rounds: u64, seed: u64, only: Option<usize>, all: bool, first: bool },
+    Run { rounds: u64, seed: u64, only: Option<Only>, all: bool, first: bool },
 }
 
 /// The arguments, or what is wrong with them.
@@ -61,7 +69,10 @@ fn seed_of(given: &str) -> Result<u64, String> {
     since.map(|since| since.as_nanos() as u64).map_err(|error| error.to_string())
 }
 
-fn call(given: &str) -> Result<usize, String> {
+fn call(given: &str) -> Result<Only, String> {
+    if given == "histories" {
+        return Ok(Only::Histories);
+    }
     let place = CALLS.iter().position(|name| *name == given);
-    place.map(|place| place + 1).ok_or(format!("{given} is no call; they are {}", CALLS.join(", ")))
+    place.map(|place| Only::Call(place + 1)).ok_or(format!("{given} is no call; they are {}", CALLS.join(", ")))
 }

@@ -51,7 +51,7 @@ pub fn history(run: &mut Run, random: &mut Random, most: usize) {
     run.histories += 1;
     run.steps += history.steps.len() as u64;
     history.follow(&history.steps, &mut |question| {
-        run.compare(question);
+        run.compare_step(question);
         Some(expected(question).reply)
     });
     for (name, side) in SIDES {

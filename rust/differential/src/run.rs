@@ -1,4 +1,5 @@
 //! The comparison of one question after another, and what came of it.
+use crate::arguments::Only;
 use crate::boundary;
 use crate::expected::{expected, Expected};
 use crate::intended::INTENDED;
@@ -41,14 +42,13 @@ pub struct Run {
     pub steps: u64,
     pub broken: Vec<String>,
     pub progress: Progress,
-    /// The only call that is compared, by its number.
-    only: Option<usize>,
+    only: Option<Only>,
     enough: usize,
 }
 
 impl Run {
     /// A run that has compared nothing yet; it ends at the first difference, or at some hundred.
-    pub fn new(only: Option<usize>, first: bool) -> Run {
+    pub fn new(only: Option<Only>, first: bool) -> Run {
         Run {
             tallies: [Tally::default(); CALLS.len()],
             intended: [0; INTENDED.len()],
@@ -74,7 +74,19 @@ impl Run {
 
     /// Compares one question, if its call is asked for.
     pub fn compare(&mut self, question: &Question) {
-        if self.over() || self.only.is_some_and(|only| only != question.number()) {
+        if self.only.is_none_or(|only| only == Only::Call(question.number())) {
+            self.compare_step(question);
+        }
+    }
+
+    /// Whether histories are asked for.
+    pub fn has_histories(&self) -> bool {
+        self.only.is_none_or(|only| only == Only::Histories)
+    }
+
+    /// Compares one question, such as a step of a history.
+    pub fn compare_step(&mut self, question: &Question) {
+        if self.over() {
             return;
         }
         let expected = expected(question);

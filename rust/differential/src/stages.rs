@@ -51,7 +51,7 @@ fn random_rounds(run: &mut Run, rounds: u64, seed: u64) {
         for randomly in RANDOMLY {
             run.compare(&randomly(&mut random, MOST));
         }
-        if round % HISTORY == 0 {
+        if round % HISTORY == 0 && run.has_histories() {
             histories::history(run, &mut random, MOST / 4);
         }
     }

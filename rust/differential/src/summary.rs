@@ -1,4 +1,5 @@
 //! What a run came to, on standard output.
+use crate::fields;
 use crate::intended::INTENDED;
 use crate::question::CALLS;
 use crate::run::{Difference, Run};
@@ -32,11 +33,14 @@ fn calls(run: &Run) {
     }
 }
 
-/// One difference, with numbers in hex.
+/// One difference, with numbers in hex, and as a line of the stored answers if they can have it.
 fn difference(difference: &Difference) {
     let Difference { side, question, expected, found, after } = difference;
     println!("DIFFERENCE in {} at {side}, in comparison {after}", question.name());
     println!("  asked     {question:02x?}");
     println!("  expected  {expected:02x?}");
     println!("  found     {found:02x?}");
+    if let (Some(digits), Some(answer)) = (fields::question(question), fields::reply(expected)) {
+        println!("  stored    {digits} = {answer}");
+    }
 }
