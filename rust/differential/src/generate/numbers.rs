@@ -33,7 +33,7 @@ pub const COUNTS: [u32; 24] = [
 /// Epochs at the ends of their bytes.
 pub const EPOCHS: [u16; 12] = [0, 1, 2, 127, 128, 255, 256, 32_767, 32_768, 65_533, 65_534, 65_535];
 
-/// Bytes that are no kind, no removal or no strategy, and the first that is one of some.
+/// Bytes that are no removal and no strategy; all but the first are no kind either.
 pub const BAD_BYTES: [u8; 5] = [3, 4, 5, 128, 255];
 
 /// Owners that differ in the first or in the last byte only.
