@@ -24,11 +24,11 @@ pub fn print(run: &Run) -> bool {
 /// The table of calls.
 fn calls(run: &Run) {
     print!("{:<31}{:>10}{:>10}{:>10}", "call", "compared", "and owned", "answered");
-    (1..12).for_each(|refusal| print!("{refusal:>8}"));
+    (1..12).for_each(|refusal| print!("{refusal:>9}"));
     println!();
     for (name, tally) in CALLS.iter().zip(&run.tallies).filter(|(_, tally)| tally.compared > 0) {
         print!("{name:<31}{:>10}{:>10}{:>10}", tally.compared, tally.owned, tally.by_refusal[0]);
-        tally.by_refusal[1..].iter().for_each(|number| print!("{number:>8}"));
+        tally.by_refusal[1..].iter().for_each(|number| print!("{number:>9}"));
         println!();
     }
 }
