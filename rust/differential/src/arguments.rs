@@ -1,0 +1,78 @@
+//! The arguments of the program.
+use crate::question::CALLS;
+
+/// How the program is called.
+pub const USAGE: &str = "\
+usage: differential [--rounds N] [--seed S] [--only CALL] [--all] [--first]
+       differential vectors
+
+Compares every call of the static library, and of the crate over it, with the original Rust.
+  --rounds N   so many rounds of random questions; a round has 22 of them, and every eighth a history
+  --seed S     the number that decides them; `time` takes the clock's
+  --only CALL  compares only this call, or only `histories`
+  --all        reads every string of 3 bytes (16,777,216 of them, by five readers), not only those that start with 00 to 04 or ff
+  --first      stops at the first difference
+  vectors      writes the list of stored answers to standard output
+Status: 0 no difference but intended ones, 1 a difference, 2 other arguments than these.";
+
+/// The rounds of a run that does not say.
+const ROUNDS: u64 = 20_000;
+
+/// The seed of a run that does not say.
+pub const SEED: u64 = 20_261_115;
+
+/// What a run is held to.
+#[derive(Clone, Copy, Debug, PartialEq, Eq)]
+pub enum Only {
+    /// The call of this number.
+    Call(usize),
+    Histories,
+}
+
+/// A run, or the list of stored answers.
+#[derive(Debug, PartialEq, Eq)]
+pub enum Arguments {
+    Vectors,
+    Run { rounds: u64, seed: u64, only: Option<Only>, all: bool, first: bool },
+}
+
+/// The arguments, or what is wrong with them.
+pub fn parse(given: &[String]) -> Result<Arguments, String> {
+    if given == ["vectors"] {
+        return Ok(Arguments::Vectors);
+    }
+    let (mut rounds, mut seed, mut only, mut all, mut first) = (ROUNDS, SEED, None, false, false);
+    let mut rest = given.iter();
+    while let Some(name) = rest.next() {
+        let mut value = || rest.next().ok_or(format!("{name} needs a value"));
+        match name.as_str() {
+            "--rounds" => rounds = number(value()?)?,
+            "--seed" => seed = seed_of(value()?)?,
+            "--only" => only = Some(call(value()?)?),
+            "--all" => all = true,
+            "--first" => first = true,
+            _ => return Err(format!("{name} is not known")),
+        }
+    }
+    Ok(Arguments::Run { rounds, seed, only, all, first })
+}
+
+fn number(given: &str) -> Result<u64, String> {
+    given.parse().map_err(|_| format!("{given} is not a number from 0 to {}", u64::MAX))
+}
+
+fn seed_of(given: &str) -> Result<u64, String> {
+    if given != "time" {
+        return number(given);
+    }
+    let since = std::time::SystemTime::now().duration_since(std::time::UNIX_EPOCH);
+    since.map(|since| since.as_nanos() as u64).map_err(|error| error.to_string())
+}
+
+fn call(given: &str) -> Result<Only, String> {
+    if given == "histories" {
+        return Ok(Only::Histories);
+    }
+    let place = CALLS.iter().position(|name| *name == given);
+    place.map(|place| Only::Call(place + 1)).ok_or(format!("{given} is no call; they are {}", CALLS.join(", ")))
+}

@@ -1,0 +1,117 @@
+//! Our answers, at the C boundary, as they come: also the fields of a refused answer, and bytes that name nothing.
+use crate::guarded::{given, Lent, LentRows, LentTables};
+use crate::question::{Merge, Question, Reader, Reply, Split};
+use crate::values::*;
+use petasunok::sys;
+
+/// One call, `ask!(name; part, ..)`. A part is a number, read `bytes`, `flags` or `rows`, or lent `out`, `tables` or `into_rows`; all but the
+/// first go as pointers with lengths.
+macro_rules! ask {
+    ($name:ident; $($part:tt)*) => { ask!(@ $name () $($part)*,) };
+    (@ $name:ident ($($done:expr,)*) $(,)?) => {
+        // every pointer comes with the length of what it points to, and what is lent is lent to this call alone
+        unsafe { sys::$name($($done),*) }
+    };
+    (@ $name:ident ($($done:tt)*) number $number:expr, $($rest:tt)*) => { ask!(@ $name ($($done)* $number,) $($rest)*) };
+    (@ $name:ident ($($done:tt)*) bytes $read:expr, $($rest:tt)*) => { ask!(@ $name ($($done)* given($read), $read.len(),) $($rest)*) };
+    (@ $name:ident ($($done:tt)*) out $lent:expr, $($rest:tt)*) => { ask!(@ $name ($($done)* $lent.pointer(), $lent.len(),) $($rest)*) };
+    (@ $name:ident ($($done:tt)*) flags $flags:expr, $($rest:tt)*) => {
+        ask!(@ $name ($($done)*) number $flags.head, bytes &$flags.tables.epochs, bytes &$flags.tables.counts, $($rest)*)
+    };
+    (@ $name:ident ($($done:tt)*) rows $removal:expr, $($rest:tt)*) => {
+        ask!(@ $name ($($done)*) number $removal.state, bytes &$removal.rows.ids, bytes &$removal.rows.epochs, bytes &$removal.rows.bytes, $($rest)*)
+    };
+    (@ $name:ident ($($done:tt)*) tables $lent:expr, $($rest:tt)*) => { ask!(@ $name ($($done)*) out $lent.epochs, out $lent.counts, $($rest)*) };
+    (@ $name:ident ($($done:tt)*) into_rows $lent:expr, $($rest:tt)*) => {
+        ask!(@ $name ($($done)*) out $lent.ids, out $lent.epochs, out $lent.bytes, $($rest)*)
+    };
+}
+
+/// A call that fills lent tables of records, with what stands in them afterwards.
+macro_rules! fill {
+    ($lent:expr, $name:ident; $($part:tt)*) => {{
+        let mut lent = LentTables::new($lent);
+        let answer = ask!($name; $($part)*, tables lent);
+        Reply::Flags { answer, lent: lent.back() }
+    }};
+}
+
+/// Asks the library. None for the calls on a head alone, which it does not have: a C caller has the head itself.
+pub fn ask(question: &Question) -> Option<Reply> {
+    Some(match question {
+        Question::Read { reader, src, lent } => read(*reader, src, lent),
+        Question::Serialize { flags, out } => {
+            let mut out = Lent::new(out, 0xa5);
+            let answer = ask!(petasunok_serialize; flags flags, out out);
+            Reply::Written { answer, out: out.back() }
+        }
+        Question::SerializedSize { flags } => Reply::Count(ask!(petasunok_serialized_size; flags flags)),
+        Question::ApproximateSize { has_owner, given, changes, size } => {
+            Reply::Size(ask!(petasunok_approximate_size; number *has_owner, number *given, number *changes, number *size))
+        }
+        Question::CombineOwnerId { ours, theirs, strategy } => combine_owner_id(ours, theirs, *strategy),
+        Question::CombineAdded(merge) => combine_added(merge),
+        Question::CombineRemoved(merge) => combine_removed(merge),
+        Question::Split(split) => self::split(split),
+        Question::AddAssign { ours, rhs, version } => {
+            let mut lent = LentRows::new(&ours.rows);
+            let answer = ask!(petasunok_add_assign; number ours.state, into_rows lent, rows rhs, number *version);
+            Reply::Sum { answer, rows: lent.back() }
+        }
+        Question::HasRemoval { removal } => Reply::Count(ask!(petasunok_has_removal; rows removal)),
+        Question::TotalRemovedBytes { removal } => Reply::Count(ask!(petasunok_total_removed_bytes; rows removal)),
+        _ => return None,
+    })
+}
+
+/// One of the five readers.
+fn read(reader: Reader, src: &[u8], lent: &Tables) -> Reply {
+    match reader {
+        Reader::Any => fill!(lent, petasunok_deserialize; bytes src),
+        Reader::SingleEpoch => fill!(lent, petasunok_deserialize_single_epoch; bytes src),
+        Reader::MultiEpoch => fill!(lent, petasunok_deserialize_multi_epoch; bytes src),
+        Reader::SingleEpochOwned => fill!(lent, petasunok_deserialize_single_epoch_owned; bytes src),
+        Reader::MultiEpochOwned => fill!(lent, petasunok_deserialize_multi_epoch_owned; bytes src),
+    }
+}
+
+/// The adding merge.
+fn combine_added(merge: &Merge<u32>) -> Reply {
+    let Merge { present, ours, theirs, with: amount, strategy, lent } = merge;
+    match *present {
+        None => fill!(lent, petasunok_combine_added_bytes; flags ours, flags theirs, number *amount, number *strategy),
+        Some(present) => {
+            fill!(lent, petasunok_optional_combine_added_bytes; number present, flags ours, flags theirs, number *amount, number *strategy)
+        }
+    }
+}
+
+/// The removing merge.
+fn combine_removed(merge: &Merge<Removal>) -> Reply {
+    let Merge { present, ours, theirs, with: removal, strategy, lent } = merge;
+    match *present {
+        None => fill!(lent, petasunok_combine_removed_bytes; flags ours, flags theirs, rows removal, number *strategy),
+        Some(present) => {
+            fill!(lent, petasunok_optional_combine_removed_bytes; number present, flags ours, flags theirs, rows removal, number *strategy)
+        }
+    }
+}
+
+/// A split.
+fn split(split: &Split) -> Reply {
+    let (mut key, mut value) = (LentRows::new(&split.key_rows), LentRows::new(&split.value_rows));
+    let answer = ask!(petasunok_split_storage_removed_bytes;
+        flags split.flags, number split.key, number split.value, into_rows key, into_rows value);
+    Reply::Split { answer, key: key.back(), value: value.back() }
+}
+
+/// Whose owner stands, and the part of the encoding that the header names for it.
+fn combine_owner_id(ours: &[u8], theirs: &[u8], strategy: u8) -> Reply {
+    let answer = ask!(petasunok_combine_owner_id; bytes ours, bytes theirs, number strategy);
+    let part = match answer.which {
+        0 => &[],
+        1 => ours.get(1..33).unwrap_or_default(),
+        _ => theirs.get(1..33).unwrap_or_default(),
+    };
+    Reply::Owner { answer, part: part.to_vec() }
+}

@@ -1,0 +1,70 @@
+//! What is lent, filled with junk.
+use super::numbers;
+use crate::random::Random;
+use crate::values::*;
+
+/// So many elements of junk.
+fn junk<T>(length: usize, mut one: impl FnMut() -> T) -> Vec<T> {
+    (0..length).map(|_| one()).collect()
+}
+
+/// A length for a need: none, one short, exact, or ample.
+fn length(random: &mut Random, need: usize) -> usize {
+    match random.below(8) {
+        0 => 0,
+        1 => need.saturating_sub(1),
+        2..=4 => need,
+        5 => need + 1,
+        _ => need + random.below(5),
+    }
+}
+
+/// Lengths for some tables, mostly all the same.
+fn lengths<const N: usize>(random: &mut Random, need: usize) -> [usize; N] {
+    if random.one_in(3) {
+        return std::array::from_fn(|_| length(random, need));
+    }
+    [length(random, need); N]
+}
+
+/// Tables for records of such lengths.
+fn tables_of(random: &mut Random, epochs: usize, counts: usize) -> Tables {
+    Tables { epochs: junk(epochs, || random.bits() as u16), counts: junk(counts, || random.bits() as u32) }
+}
+
+/// Tables for rows of such lengths.
+fn rows_of(random: &mut Random, ids: usize, epochs: usize, bytes: usize) -> Rows {
+    Rows {
+        ids: junk(ids, || numbers::owner(random)),
+        epochs: junk(epochs, || random.bits() as u16),
+        bytes: junk(bytes, || random.bits() as u32),
+    }
+}
+
+/// Tables for records, with a need.
+pub fn tables(random: &mut Random, need: usize) -> Tables {
+    let [epochs, counts] = lengths(random, need);
+    tables_of(random, epochs, counts)
+}
+
+/// Tables for exactly so many records.
+pub fn exact_tables(random: &mut Random, length: usize) -> Tables {
+    tables_of(random, length, length)
+}
+
+/// Tables for rows, with a need.
+pub fn rows(random: &mut Random, need: usize) -> Rows {
+    let [ids, epochs, bytes] = lengths(random, need);
+    rows_of(random, ids, epochs, bytes)
+}
+
+/// Tables for exactly so many rows.
+pub fn exact_rows(random: &mut Random, length: usize) -> Rows {
+    rows_of(random, length, length, length)
+}
+
+/// Bytes, with a need.
+pub fn bytes(random: &mut Random, need: usize) -> Vec<u8> {
+    let [length] = lengths(random, need);
+    junk(length, || random.bits() as u8)
+}

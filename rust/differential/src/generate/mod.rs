@@ -1,0 +1,6 @@
+//! Inputs: numbers at their boundaries, flags, removals, encodings, and what is lent.
+pub mod encodings;
+pub mod flags;
+pub mod lent;
+pub mod numbers;
+pub mod removals;

@@ -1,0 +1,65 @@
+//! Splitting.
+use super::{fit, Visit};
+use crate::generate::{flags, lent, numbers};
+use crate::question::{Question, Split};
+use crate::random::Random;
+use crate::values::*;
+
+/// Counts of one, two and three records with amounts; key bytes; every room.
+pub fn boundaries(visit: &mut Visit) {
+    for (count, value) in numbers::COUNTS.into_iter().flat_map(|count| numbers::COUNTS.map(|value| (count, value))) {
+        for kind in 0..5 {
+            for key in [0, 1, u32::MAX] {
+                ask(Flags::new(kind, 5, [9; 32], &[(7, count)][..usize::from(kind % 2)]), key, value, visit);
+            }
+        }
+        for second in numbers::COUNTS {
+            ask(Flags::new(1, 5, [9; 32], &[(7, count), (9, second)]), 0, value, visit);
+            ask(Flags::new(3, 5, [9; 32], &[(6, second), (7, 3), (65_535, count)]), 0, value, visit);
+        }
+    }
+    for base in numbers::EPOCHS {
+        for epoch in numbers::EPOCHS {
+            ask(Flags::new(1, base, ZEROS, &[(epoch, 5)]), 2, 4, visit);
+        }
+    }
+    rooms(visit);
+}
+
+/// Junk for so many rows.
+fn room(ids: usize, epochs: usize, bytes: usize) -> Rows {
+    Rows { ids: vec![[0x5a; 32]; ids], epochs: vec![0x5a5a; epochs], bytes: vec![0x5a5a_5a5a; bytes] }
+}
+
+/// A split with ample room.
+fn ask(flags: Flags, key: u32, value: u32, visit: &mut Visit) {
+    visit(Question::Split(Split { flags, key, value, key_rows: room(2, 2, 2), value_rows: room(5, 5, 5) }));
+}
+
+/// Every room up to what is needed and one more.
+fn rooms(visit: &mut Visit) {
+    for (ids, epochs, bytes) in (0..64).map(|n| (n / 16, n / 4 % 4, n % 4)) {
+        for (key_room, value) in [(0, 1), (1, 1), (2, 1), (0, 100), (1, 100), (1, 0)] {
+            for key in [0, 3] {
+                let flags = Flags::new(3, 5, [9; 32], &[(7, 10), (8, 10)]);
+                let (key_rows, value_rows) = (room(key_room, key_room, key_room), room(ids, epochs, bytes));
+                visit(Question::Split(Split { flags: flags.clone(), key, value, key_rows, value_rows: value_rows.clone() }));
+                visit(Question::Split(Split { flags, key, value, key_rows: value_rows, value_rows: room(3, 3, 3) }));
+            }
+        }
+    }
+}
+
+/// A random split; its amount is often near what some of the latest records give.
+pub fn split(random: &mut Random, most: usize) -> Question {
+    let flags = flags::any(random, most);
+    let latest = random.below(flags.head.records.min(most) + 1);
+    let given: u64 = flags.records().rev().take(latest).map(|record| u64::from(record.1.saturating_sub(3))).sum();
+    let value = match u32::try_from(given) {
+        Ok(given) if random.one_in(2) => numbers::near(random, given),
+        _ => numbers::count(random),
+    };
+    let key = if random.one_in(2) { 0 } else { numbers::count(random) };
+    let value_rows = lent::exact_rows(random, flags.tables.room() + 1);
+    fit(random, Question::Split(Split { flags, key, value, key_rows: room(1, 2, 1), value_rows }))
+}

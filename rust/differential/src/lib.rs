@@ -1,0 +1,24 @@
+//! Compares every call of the static library with the original Rust.
+pub mod arguments;
+pub mod boundary;
+pub mod convert;
+pub mod edges;
+pub mod expected;
+pub mod fields;
+pub mod generate;
+pub mod groups;
+pub mod guarded;
+pub mod histories;
+pub mod intended;
+pub mod marked;
+pub mod model;
+pub mod owned;
+pub mod placed;
+pub mod progress;
+pub mod question;
+pub mod random;
+pub mod run;
+pub mod stages;
+pub mod summary;
+pub mod values;
+pub mod vectors;

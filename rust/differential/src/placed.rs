@@ -1,0 +1,78 @@
+//! An answer or a refusal's number, and what stands in the lent memory after it: the answer at the start and the rest as it was; nothing
+//! but the number, and all as it was, where the answer is refused; refusal 10 where the answer does not fit.
+use crate::question::Reply;
+use crate::values::*;
+
+/// The number of refusal 10.
+const NO_ROOM: u32 = 10;
+
+/// The answer if it fits.
+fn fitting<T>(result: Result<T, u32>, fits: impl Fn(&T) -> bool) -> Result<T, u32> {
+    result.and_then(|answer| if fits(&answer) { Ok(answer) } else { Err(NO_ROOM) })
+}
+
+/// Flags or none, in tables that hold exactly their records.
+pub fn flags(result: Result<Option<Flags>, u32>, lent: &Tables) -> Reply {
+    let room = lent.room();
+    match fitting(result, |flags| flags.as_ref().is_none_or(|flags| flags.head.records <= room)) {
+        Err(refusal) => Reply::Flags { answer: petasunok_flags { refusal, ..Default::default() }, lent: lent.clone() },
+        Ok(None) => Reply::Flags { answer: petasunok_flags::default(), lent: lent.clone() },
+        Ok(Some(flags)) => {
+            let answer = petasunok_flags { refusal: 0, present: 1, head: flags.head };
+            Reply::Flags { answer, lent: lent.with(&flags.tables) }
+        }
+    }
+}
+
+/// Bytes, and how many.
+pub fn written(result: Result<Vec<u8>, u32>, out: &[u8]) -> Reply {
+    let mut after = out.to_vec();
+    let answer = match fitting(result, |bytes| bytes.len() <= out.len()) {
+        Err(refusal) => petasunok_count { refusal, count: 0 },
+        Ok(bytes) => {
+            after[..bytes.len()].copy_from_slice(&bytes);
+            petasunok_count { refusal: 0, count: bytes.len() as u64 }
+        }
+    };
+    Reply::Written { answer, out: after }
+}
+
+/// A number.
+pub fn count(result: Result<u64, u32>) -> Reply {
+    Reply::Count(match result {
+        Err(refusal) => petasunok_count { refusal, count: 0 },
+        Ok(count) => petasunok_count { refusal: 0, count },
+    })
+}
+
+/// Whose owner, and the part of an encoding.
+pub fn owner(result: Result<(u8, &[u8]), u32>) -> Reply {
+    let (answer, part) = match result {
+        Err(refusal) => (petasunok_owner { refusal, which: 0 }, &[][..]),
+        Ok((which, part)) => (petasunok_owner { refusal: 0, which }, part),
+    };
+    Reply::Owner { answer, part: part.to_vec() }
+}
+
+/// The key's and the value's removal, in tables that hold exactly their rows, and the records visited.
+pub fn split(result: Result<(Removal, Removal, usize), u32>, key_rows: &Rows, value_rows: &Rows) -> Reply {
+    let fits = |(key, value, _): &(Removal, Removal, usize)| key.state.rows <= key_rows.room() && value.state.rows <= value_rows.room();
+    match fitting(result, fits) {
+        Err(refusal) => {
+            let answer = petasunok_split { refusal, ..Default::default() };
+            Reply::Split { answer, key: key_rows.clone(), value: value_rows.clone() }
+        }
+        Ok((key, value, visited)) => {
+            let answer = petasunok_split { refusal: 0, key: key.state, value: value.state, visited };
+            Reply::Split { answer, key: key_rows.with(&key.rows), value: value_rows.with(&value.rows) }
+        }
+    }
+}
+
+/// A removal, in tables that hold exactly its rows.
+pub fn sum(result: Result<Removal, u32>, lent: &Rows) -> Reply {
+    match fitting(result, |sum| sum.state.rows <= lent.room()) {
+        Err(refusal) => Reply::Sum { answer: petasunok_sum { refusal, ..Default::default() }, rows: lent.clone() },
+        Ok(sum) => Reply::Sum { answer: petasunok_sum { refusal: 0, removal: sum.state }, rows: lent.with(&sum.rows) },
+    }
+}

@@ -1,0 +1,155 @@
+//! One call with all that it is given and lent, and what it answers with all that was lent afterwards.
+use crate::values::*;
+
+/// The five readers, in the order of their numbers.
+#[derive(Clone, Copy, Debug, PartialEq, Eq)]
+pub enum Reader {
+    Any,
+    SingleEpoch,
+    MultiEpoch,
+    SingleEpochOwned,
+    MultiEpochOwned,
+}
+
+/// All of them.
+pub const READERS: [Reader; 5] = [Reader::Any, Reader::SingleEpoch, Reader::MultiEpoch, Reader::SingleEpochOwned, Reader::MultiEpochOwned];
+
+/// The names of the calls; a call's number is its place, counted from 1.
+pub const CALLS: [&str; 22] = [
+    "deserialize",
+    "deserialize_single_epoch",
+    "deserialize_multi_epoch",
+    "deserialize_single_epoch_owned",
+    "deserialize_multi_epoch_owned",
+    "serialize",
+    "serialized_size",
+    "approximate_size",
+    "combine_owner_id",
+    "combine_added_bytes",
+    "optional_combine_added_bytes",
+    "combine_removed_bytes",
+    "optional_combine_removed_bytes",
+    "split_storage_removed_bytes",
+    "add_assign",
+    "has_removal",
+    "total_removed_bytes",
+    "new_single_epoch",
+    "set_owner_id",
+    "base_epoch",
+    "owner_id",
+    "type_byte",
+];
+
+/// A merge with an added amount or with a removal. `present` is none for the plain form, and the given byte for the optional one.
+#[derive(Clone, Debug, PartialEq, Eq)]
+pub struct Merge<T> {
+    pub present: Option<u8>,
+    pub ours: Flags,
+    pub theirs: Flags,
+    pub with: T,
+    pub strategy: u8,
+    pub lent: Tables,
+}
+
+impl<T> Merge<T> {
+    /// Whether ours is there; without the byte it always is.
+    pub fn is_present(&self) -> bool {
+        self.present != Some(0)
+    }
+
+    /// The same merge with another amount or removal.
+    pub fn having<U>(self, with: U) -> Merge<U> {
+        let Merge { present, ours, theirs, strategy, lent, .. } = self;
+        Merge { present, ours, theirs, with, strategy, lent }
+    }
+}
+
+/// A split of key bytes and value bytes.
+#[derive(Clone, Debug, PartialEq, Eq)]
+pub struct Split {
+    pub flags: Flags,
+    pub key: u32,
+    pub value: u32,
+    pub key_rows: Rows,
+    pub value_rows: Rows,
+}
+
+/// A call.
+#[derive(Clone, Debug, PartialEq, Eq)]
+pub enum Question {
+    Read { reader: Reader, src: Vec<u8>, lent: Tables },
+    Serialize { flags: Flags, out: Vec<u8> },
+    SerializedSize { flags: Flags },
+    ApproximateSize { has_owner: u8, given: u8, changes: u16, size: u8 },
+    CombineOwnerId { ours: Vec<u8>, theirs: Vec<u8>, strategy: u8 },
+    CombineAdded(Merge<u32>),
+    CombineRemoved(Merge<Removal>),
+    Split(Split),
+    AddAssign { ours: Removal, rhs: Removal, version: u16 },
+    HasRemoval { removal: Removal },
+    TotalRemovedBytes { removal: Removal },
+    NewSingleEpoch { epoch: u16, owned: u8, owner: Id },
+    SetOwnerId { head: petasunok_head, owner: Id },
+    BaseEpoch { head: petasunok_head },
+    OwnerId { head: petasunok_head },
+    TypeByte { head: petasunok_head },
+}
+
+/// What a call answers.
+#[derive(Clone, Debug, PartialEq, Eq)]
+pub enum Reply {
+    Flags { answer: petasunok_flags, lent: Tables },
+    Written { answer: petasunok_count, out: Vec<u8> },
+    Count(petasunok_count),
+    Size(u32),
+    Owner { answer: petasunok_owner, part: Vec<u8> },
+    Split { answer: petasunok_split, key: Rows, value: Rows },
+    Sum { answer: petasunok_sum, rows: Rows },
+    Head(petasunok_head),
+    Epoch(u16),
+    MaybeOwner { owned: u8, owner: Id },
+    Kind(u8),
+}
+
+impl Question {
+    /// The call's number.
+    pub fn number(&self) -> usize {
+        match self {
+            Question::Read { reader, .. } => *reader as usize + 1,
+            Question::Serialize { .. } => 6,
+            Question::SerializedSize { .. } => 7,
+            Question::ApproximateSize { .. } => 8,
+            Question::CombineOwnerId { .. } => 9,
+            Question::CombineAdded(merge) => 10 + usize::from(merge.present.is_some()),
+            Question::CombineRemoved(merge) => 12 + usize::from(merge.present.is_some()),
+            Question::Split(_) => 14,
+            Question::AddAssign { .. } => 15,
+            Question::HasRemoval { .. } => 16,
+            Question::TotalRemovedBytes { .. } => 17,
+            Question::NewSingleEpoch { .. } => 18,
+            Question::SetOwnerId { .. } => 19,
+            Question::BaseEpoch { .. } => 20,
+            Question::OwnerId { .. } => 21,
+            Question::TypeByte { .. } => 22,
+        }
+    }
+
+    /// The call's name.
+    pub fn name(&self) -> &'static str {
+        CALLS[self.number() - 1]
+    }
+}
+
+impl Reply {
+    /// The refusal's number, 0 of an answer.
+    pub fn refusal(&self) -> u32 {
+        match self {
+            Reply::Flags { answer, .. } => answer.refusal,
+            Reply::Written { answer, .. } | Reply::Count(answer) => answer.refusal,
+            Reply::Owner { answer, .. } => answer.refusal,
+            Reply::Split { answer, .. } => answer.refusal,
+            Reply::Sum { answer, .. } => answer.refusal,
+            Reply::Size(_) | Reply::Head(_) | Reply::Epoch(_) | Reply::MaybeOwner { .. } | Reply::Kind(_) => 0,
+        }
+    }
+}

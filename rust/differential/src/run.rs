@@ -1,0 +1,118 @@
+//! The comparison of one question after another, and what came of it.
+use crate::arguments::Only;
+use crate::boundary;
+use crate::expected::{expected, Expected};
+use crate::intended::INTENDED;
+use crate::owned;
+use crate::progress::Progress;
+use crate::question::{Question, Reply, CALLS};
+
+/// So many differences end a run.
+const ENOUGH: usize = 100;
+
+/// What came of the comparisons of one call.
+#[derive(Clone, Copy, Default)]
+pub struct Tally {
+    /// Questions compared.
+    pub compared: u64,
+    /// Those of them that the crate's owned values answered as well.
+    pub owned: u64,
+    /// Answers, then refusals by their numbers.
+    pub by_refusal: [u64; 12],
+}
+
+/// Something that is not as it has to be.
+pub struct Difference {
+    /// Which of our sides: the C boundary, or the crate's owned values.
+    pub side: &'static str,
+    pub question: Question,
+    pub expected: Reply,
+    pub found: Reply,
+    /// How many comparisons there were before it.
+    pub after: u64,
+}
+
+/// A run under way.
+pub struct Run {
+    pub tallies: [Tally; CALLS.len()],
+    pub intended: [u64; INTENDED.len()],
+    pub differences: Vec<Difference>,
+    /// Histories, their steps, and conclusions that did not hold.
+    pub histories: u64,
+    pub steps: u64,
+    pub broken: Vec<String>,
+    pub progress: Progress,
+    only: Option<Only>,
+    enough: usize,
+}
+
+impl Run {
+    /// A run that has compared nothing yet; it ends at the first difference, or at some hundred.
+    pub fn new(only: Option<Only>, first: bool) -> Run {
+        Run {
+            tallies: [Tally::default(); CALLS.len()],
+            intended: [0; INTENDED.len()],
+            differences: Vec::new(),
+            histories: 0,
+            steps: 0,
+            broken: Vec::new(),
+            progress: Progress::new(),
+            only,
+            enough: if first { 1 } else { ENOUGH },
+        }
+    }
+
+    /// Whether the run has seen enough differences.
+    pub fn over(&self) -> bool {
+        self.differences.len() + self.broken.len() >= self.enough
+    }
+
+    /// All comparisons so far.
+    pub fn compared(&self) -> u64 {
+        self.tallies.iter().map(|tally| tally.compared).sum()
+    }
+
+    /// Compares one question, if its call is asked for.
+    pub fn compare(&mut self, question: &Question) {
+        if self.only.is_none_or(|only| only == Only::Call(question.number())) {
+            self.compare_step(question);
+        }
+    }
+
+    /// Whether histories are asked for.
+    pub fn has_histories(&self) -> bool {
+        self.only.is_none_or(|only| only == Only::Histories)
+    }
+
+    /// Compares one question, such as a step of a history.
+    pub fn compare_step(&mut self, question: &Question) {
+        if self.over() {
+            return;
+        }
+        let expected = expected(question);
+        let given = question.clone();
+        let at_boundary = boundary::ask(&given);
+        if given != *question {
+            self.broken.push(format!("a call changed what it was given to read: {question:02x?} is now {given:02x?}"));
+        }
+        let by_owned = owned::ask(question);
+        let tally = &mut self.tallies[question.number() - 1];
+        tally.compared += 1;
+        tally.owned += u64::from(by_owned.is_some());
+        tally.by_refusal[expected.reply.refusal() as usize] += 1;
+        if let Some(intended) = expected.intended {
+            self.intended[intended.place()] += 1;
+        }
+        self.judge("the C boundary", question, &expected, at_boundary);
+        self.judge("the crate's owned values", question, &expected, by_owned);
+        self.progress.compared(question.name());
+    }
+
+    /// Notes a difference of one side.
+    fn judge(&mut self, side: &'static str, question: &Question, expected: &Expected, found: Option<Reply>) {
+        if let Some(found) = found.filter(|found| *found != expected.reply) {
+            let after = self.compared();
+            self.differences.push(Difference { side, question: question.clone(), expected: expected.reply.clone(), found, after });
+        }
+    }
+}

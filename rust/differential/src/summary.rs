@@ -1,0 +1,46 @@
+//! What a run came to, on standard output.
+use crate::fields;
+use crate::intended::INTENDED;
+use crate::question::CALLS;
+use crate::run::{Difference, Run};
+
+/// Prints a run's figures, and a difference if there is one. Whether there was none.
+pub fn print(run: &Run) -> bool {
+    calls(run);
+    println!("intended differences:");
+    for (number, (_, name, reason)) in run.intended.iter().zip(INTENDED) {
+        println!("  {number:>9}  {name}: {reason}");
+    }
+    println!("{} histories of {} steps", run.histories, run.steps);
+    run.broken.iter().take(1).for_each(|broken| println!("{broken}"));
+    if let Some(smallest) = run.differences.iter().min_by_key(|difference| format!("{:?}", difference.question).len()) {
+        difference(smallest);
+    }
+    let differences = run.differences.len() + run.broken.len();
+    println!("{} comparisons in {} s, {differences} differences", run.compared(), run.progress.seconds());
+    differences == 0
+}
+
+/// The table of calls.
+fn calls(run: &Run) {
+    print!("{:<31}{:>10}{:>10}{:>10}", "call", "compared", "and owned", "answered");
+    (1..12).for_each(|refusal| print!("{refusal:>9}"));
+    println!();
+    for (name, tally) in CALLS.iter().zip(&run.tallies).filter(|(_, tally)| tally.compared > 0) {
+        print!("{name:<31}{:>10}{:>10}{:>10}", tally.compared, tally.owned, tally.by_refusal[0]);
+        tally.by_refusal[1..].iter().for_each(|number| print!("{number:>9}"));
+        println!();
+    }
+}
+
+/// One difference, with numbers in hex, and as a line of the stored answers if they can have it.
+fn difference(difference: &Difference) {
+    let Difference { side, question, expected, found, after } = difference;
+    println!("DIFFERENCE in {} at {side}, in comparison {after}", question.name());
+    println!("  asked     {question:02x?}");
+    println!("  expected  {expected:02x?}");
+    println!("  found     {found:02x?}");
+    if let (Some(digits), Some(answer)) = (fields::question(question), fields::reply(expected)) {
+        println!("  stored    {digits} = {answer}");
+    }
+}

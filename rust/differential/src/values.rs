@@ -1,0 +1,122 @@
+//! What the calls are given and lent: heads with their tables, at the C boundary's types.
+pub use petasunok::sys::{
+    petasunok_count, petasunok_flags, petasunok_head, petasunok_owner, petasunok_removal, petasunok_split, petasunok_sum,
+};
+
+/// An owner or identifier.
+pub type Id = [u8; 32];
+
+/// The identifier of what has no owner.
+pub const ZEROS: Id = [0; 32];
+
+/// The two tables that hold records.
+#[derive(Clone, Debug, Default, PartialEq, Eq)]
+pub struct Tables {
+    pub epochs: Vec<u16>,
+    pub counts: Vec<u32>,
+}
+
+/// The three tables that hold rows.
+#[derive(Clone, Debug, Default, PartialEq, Eq)]
+pub struct Rows {
+    pub ids: Vec<Id>,
+    pub epochs: Vec<u16>,
+    pub bytes: Vec<u32>,
+}
+
+/// Flags: a head, and the tables in whose first places its records stand.
+#[derive(Clone, Debug, Default, PartialEq, Eq)]
+pub struct Flags {
+    pub head: petasunok_head,
+    pub tables: Tables,
+}
+
+/// A removal: its state, and the tables in whose first places its rows stand.
+#[derive(Clone, Debug, Default, PartialEq, Eq)]
+pub struct Removal {
+    pub state: petasunok_removal,
+    pub rows: Rows,
+}
+
+impl Tables {
+    /// How many records have room.
+    pub fn room(&self) -> usize {
+        self.epochs.len().min(self.counts.len())
+    }
+
+    /// These tables with the places of other ones over their first places.
+    pub fn with(&self, first: &Tables) -> Tables {
+        let mut after = self.clone();
+        after.epochs[..first.epochs.len()].copy_from_slice(&first.epochs);
+        after.counts[..first.counts.len()].copy_from_slice(&first.counts);
+        after
+    }
+}
+
+impl Rows {
+    /// How many rows have room.
+    pub fn room(&self) -> usize {
+        self.ids.len().min(self.epochs.len()).min(self.bytes.len())
+    }
+
+    /// These tables with the places of other ones over their first places.
+    pub fn with(&self, first: &Rows) -> Rows {
+        let mut after = self.clone();
+        after.ids[..first.ids.len()].copy_from_slice(&first.ids);
+        after.epochs[..first.epochs.len()].copy_from_slice(&first.epochs);
+        after.bytes[..first.bytes.len()].copy_from_slice(&first.bytes);
+        after
+    }
+}
+
+impl Flags {
+    /// Flags whose tables hold exactly these records.
+    pub fn new(kind: u8, base: u16, owner: Id, records: &[(u16, u32)]) -> Flags {
+        let head = petasunok_head { kind, base, owner, records: records.len() };
+        let (epochs, counts) = records.iter().copied().unzip();
+        Flags { head, tables: Tables { epochs, counts } }
+    }
+
+    /// The records, of tables that hold them.
+    pub fn records(&self) -> impl DoubleEndedIterator<Item = (u16, u32)> + '_ {
+        self.tables.epochs.iter().copied().zip(self.tables.counts.iter().copied()).take(self.head.records)
+    }
+
+    /// Whether the kind is an owned one.
+    pub fn owned(&self) -> bool {
+        self.head.kind >= 2
+    }
+
+    /// The owner of owned flags, zeros of others.
+    pub fn identifier(&self) -> Id {
+        if self.owned() {
+            self.head.owner
+        } else {
+            ZEROS
+        }
+    }
+}
+
+impl Removal {
+    /// One number.
+    pub fn basic(bytes: u32) -> Removal {
+        Removal { state: petasunok_removal { kind: 1, bytes, rows: 0 }, rows: Rows::default() }
+    }
+
+    /// A sectioned removal whose tables hold exactly these rows.
+    pub fn sectioned(rows: &[(Id, u16, u32)]) -> Removal {
+        let state = petasunok_removal { kind: 2, bytes: 0, rows: rows.len() };
+        let tables = Rows {
+            ids: rows.iter().map(|row| row.0).collect(),
+            epochs: rows.iter().map(|row| row.1).collect(),
+            bytes: rows.iter().map(|row| row.2).collect(),
+        };
+        Removal { state, rows: tables }
+    }
+
+    /// The rows, of tables that hold them.
+    pub fn rows(&self) -> impl Iterator<Item = (Id, u16, u32)> + '_ {
+        let rows = if self.state.kind == 2 { self.state.rows } else { 0 };
+        (0..rows).map(|place| (self.rows.ids[place], self.rows.epochs[place], self.rows.bytes[place]))
+    }
+}

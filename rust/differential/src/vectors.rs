@@ -1,0 +1,118 @@
+//! The stored answers: a list of questions with the replies that they have to get, for crates/vectors.
+use crate::edges;
+use crate::expected::expected;
+use crate::fields;
+use crate::groups::{BOUNDARIES, RANDOMLY};
+use crate::marked;
+use crate::question::{Question, CALLS};
+use crate::random::Random;
+use std::collections::{BTreeMap, BTreeSet};
+
+/// The most bytes of a stored question or reply.
+const MOST_BYTES: usize = 600;
+
+/// How many of a call's boundaries are stored, about.
+const BOUNDARIES_OF_CALL: usize = 60;
+
+/// How many random questions of a call with the same refusal, or none, are stored.
+const OF_REFUSAL: usize = 24;
+
+/// How many random questions are tried.
+const TRIES: usize = 120_000;
+
+/// The head of the list.
+const HEAD: &str = "\
+# Questions to the calls with the replies that they have to get, one a line.
+# Made by `tools/differential vectors` from the original Rust, dashpay/grovedb at commit 0ea327d726, and its stand-ins (rust/standins).
+# Refusals 8 to 11 come from document 01's rule and not from the Rust, which has none of them.
+# A line: hex digits of the question, =, hex digits of the reply; blanks do not count; numbers are big-endian; u8, u16, u32 have 1, 2, 4 bytes.
+#   BYTES: u16 n, n bytes          HEAD: u8 kind, u16 base, 32 owner bytes, u16 records     TABLES: u16 n, n u16 epochs, u16 m, m u32 counts
+#   FLAGS: HEAD TABLES             REMOVAL: u8 kind (0 none, 1 basic, 2 sectioned), u32 bytes, u16 rows
+#   ROWTABLES: u16 n, n ids of 32 bytes, u16 m, m u16 epochs, u16 k, k u32 bytes            ROWS: REMOVAL ROWTABLES
+# The question is the call's u8 number, then (tables and bytes that are lent stand as they are before, in the reply as they are after):
+#   1 deserialize, 2 deserialize_single_epoch, 3 deserialize_multi_epoch, 4 deserialize_single_epoch_owned, 5 deserialize_multi_epoch_owned:
+#     BYTES, TABLES lent = u8 refusal, u8 present, HEAD, TABLES
+#   6 serialize: FLAGS, BYTES lent = u8 refusal, u32 count, BYTES
+#   7 serialized_size: FLAGS = u8 refusal, u32 count
+#   8 approximate_size: u8 has_owner, u8 given, u16 changes, u8 size = u32
+#   9 combine_owner_id: BYTES ours, BYTES theirs, u8 strategy = u8 refusal, u8 which, BYTES the part
+#   10 combine_added_bytes: FLAGS ours, FLAGS theirs, u32 amount, u8 strategy, TABLES lent = as 1
+#   11 optional_combine_added_bytes: u8 present, then as 10
+#   12 combine_removed_bytes: FLAGS ours, FLAGS theirs, ROWS, u8 strategy, TABLES lent = as 1
+#   13 optional_combine_removed_bytes: u8 present, then as 12
+#   14 split_storage_removed_bytes: FLAGS, u32 key, u32 value, ROWTABLES key, ROWTABLES value
+#     = u8 refusal, REMOVAL key, REMOVAL value, u16 visited, ROWTABLES key, ROWTABLES value
+#   15 add_assign: ROWS ours, ROWS rhs, u16 version = u8 refusal, REMOVAL, ROWTABLES ours
+#   16 has_removal, 17 total_removed_bytes: ROWS = u8 refusal, u32 count
+#   18 new_single_epoch: u16 epoch, u8 owned, 32 bytes = HEAD
+#   19 set_owner_id: HEAD, 32 bytes = HEAD
+#   20 base_epoch: HEAD = u16      21 owner_id: HEAD = u8 owned, 32 bytes     22 type_byte: HEAD = u8
+";
+
+/// The lines of a list under way, by call.
+#[derive(Default)]
+struct List {
+    lines: BTreeMap<usize, Vec<String>>,
+    known: BTreeSet<String>,
+}
+
+/// The list that a seed gives.
+pub fn list(seed: u64) -> String {
+    let mut list = List::default();
+    for questions in [marked::questions, edges::questions] {
+        questions(&mut |question| {
+            list.add(&question);
+        });
+    }
+    let mut random = Random::new(seed);
+    list.boundaries(&mut random);
+    list.random(&mut random);
+    let mut text = HEAD.to_string();
+    for (number, lines) in list.lines {
+        text.push_str(&format!("# {number} {}\n", CALLS[number - 1]));
+        for line in lines {
+            text.push_str(&line);
+            text.push('\n');
+        }
+    }
+    text
+}
+
+impl List {
+    /// Puts a question into the list, if the format has it and it is new; its refusal is handed back then.
+    fn add(&mut self, question: &Question) -> Option<u32> {
+        let (digits, reply) = (fields::question(question)?, expected(question).reply);
+        let answer = fields::reply(&reply)?;
+        let long = [&digits, &answer].into_iter().any(|hex| hex.bytes().filter(|byte| *byte != b' ').count() > 2 * MOST_BYTES);
+        if long || !self.known.insert(digits.clone()) {
+            return None;
+        }
+        self.lines.entry(question.number()).or_default().push(format!("{digits} = {answer}"));
+        Some(reply.refusal())
+    }
+
+    /// Some of every call's boundaries, by chance.
+    fn boundaries(&mut self, random: &mut Random) {
+        let all = |visit: &mut dyn FnMut(Question)| BOUNDARIES.iter().for_each(|boundaries| boundaries(visit));
+        let mut numbers = [0; CALLS.len() + 1];
+        all(&mut |question| numbers[question.number()] += 1);
+        all(&mut |question| {
+            if random.below(numbers[question.number()]) < BOUNDARIES_OF_CALL {
+                self.add(&question);
+            }
+        });
+    }
+
+    /// Random questions, some for each call and refusal.
+    fn random(&mut self, random: &mut Random) {
+        let mut stored: BTreeMap<(usize, u32), usize> = BTreeMap::new();
+        for round in 0..TRIES {
+            let question = RANDOMLY[round % RANDOMLY.len()](random, 6);
+            let key = (question.number(), expected(&question).reply.refusal());
+            let stored = stored.entry(key).or_default();
+            if *stored < OF_REFUSAL && self.add(&question).is_some() {
+                *stored += 1;
+            }
+        }
+    }
+}
