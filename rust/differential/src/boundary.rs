@@ -36,9 +36,9 @@ macro_rules! fill {
     }};
 }
 
-/// Asks the library. None for the calls on a head alone, which it does not have: a C caller has the head itself.
-pub fn ask(question: &Question) -> Option<Reply> {
-    Some(match question {
+/// Asks the library.
+pub fn ask(question: &Question) -> Reply {
+    match question {
         Question::Read { reader, src, lent } => read(*reader, src, lent),
         Question::Serialize { flags, out } => {
             let mut out = Lent::new(out, 0xa5);
@@ -60,8 +60,14 @@ pub fn ask(question: &Question) -> Option<Reply> {
         }
         Question::HasRemoval { removal } => Reply::Count(ask!(petasunok_has_removal; rows removal)),
         Question::TotalRemovedBytes { removal } => Reply::Count(ask!(petasunok_total_removed_bytes; rows removal)),
-        _ => return None,
-    })
+        Question::NewSingleEpoch { epoch, owned, owner } => {
+            Reply::Head(ask!(petasunok_new_single_epoch; number *epoch, number *owned, number petasunok_id { bytes: *owner }))
+        }
+        Question::SetOwnerId { head, owner } => set_owner_id(*head, *owner),
+        Question::BaseEpoch { head } => number(ask!(petasunok_base_epoch; number *head), Reply::Epoch),
+        Question::OwnerId { head } => owner_id(*head),
+        Question::TypeByte { head } => number(ask!(petasunok_type_byte; number *head), Reply::Kind),
+    }
 }
 
 /// One of the five readers.
@@ -114,4 +120,30 @@ fn combine_owner_id(ours: &[u8], theirs: &[u8], strategy: u8) -> Reply {
         _ => theirs.get(1..33).unwrap_or_default(),
     };
     Reply::Owner { answer, part: part.to_vec() }
+}
+
+/// A number of the type that is asked for; where it is another, or a refusal, as it came.
+fn number<T: TryFrom<u64>>(answer: petasunok_count, reply: fn(T) -> Reply) -> Reply {
+    match T::try_from(answer.count) {
+        Ok(number) if answer.refusal == 0 => reply(number),
+        _ => Reply::Count(answer),
+    }
+}
+
+/// A head with another owner; a refusal, or no flags, as it came.
+fn set_owner_id(head: petasunok_head, owner: Id) -> Reply {
+    let answer = ask!(petasunok_set_owner_id; number head, number petasunok_id { bytes: owner });
+    match answer {
+        petasunok_flags { refusal: 0, present: 1, head } => Reply::Head(head),
+        _ => Reply::Flags { answer, lent: Tables::default() },
+    }
+}
+
+/// An owner; a refusal as its number.
+fn owner_id(head: petasunok_head) -> Reply {
+    let answer = ask!(petasunok_owner_id; number head);
+    match answer.refusal {
+        0 => Reply::MaybeOwner { owned: answer.present, owner: answer.id.bytes },
+        refusal => Reply::Count(petasunok_count { refusal, count: 0 }),
+    }
 }

@@ -41,7 +41,7 @@ type Side = fn(&Question) -> Option<Reply>;
 /// The sides, the original first.
 const SIDES: [(&str, Side); 3] = [
     ("the original", |question| Some(expected(question).reply)),
-    ("the C boundary", boundary::ask),
+    ("the C boundary", |question| Some(boundary::ask(question))),
     ("the crate's owned values", owned::ask),
 ];
 

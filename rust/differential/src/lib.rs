@@ -18,6 +18,7 @@ pub mod progress;
 pub mod question;
 pub mod random;
 pub mod run;
+pub mod short_strings;
 pub mod stages;
 pub mod summary;
 pub mod values;

@@ -19,10 +19,10 @@ fn main() -> ExitCode {
             print!("{}", vectors::list(arguments::SEED));
             ExitCode::SUCCESS
         }
-        Ok(Arguments::Run { rounds, seed, only, all, first }) => {
+        Ok(Arguments::Run { rounds, seed, only, first }) => {
             println!("seed {seed}, {rounds} rounds");
             let mut run = Run::new(only, first);
-            stages::all(&mut run, rounds, seed, all);
+            stages::all(&mut run, rounds, seed);
             ExitCode::from(u8::from(!summary::print(&run)))
         }
     }

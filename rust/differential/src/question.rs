@@ -11,6 +11,13 @@ pub enum Reader {
     MultiEpochOwned,
 }
 
+impl Reader {
+    /// Its number as a call.
+    pub fn number(self) -> usize {
+        self as usize + 1
+    }
+}
+
 /// All of them.
 pub const READERS: [Reader; 5] = [Reader::Any, Reader::SingleEpoch, Reader::MultiEpoch, Reader::SingleEpochOwned, Reader::MultiEpochOwned];
 
@@ -115,7 +122,7 @@ impl Question {
     /// The call's number.
     pub fn number(&self) -> usize {
         match self {
-            Question::Read { reader, .. } => *reader as usize + 1,
+            Question::Read { reader, .. } => reader.number(),
             Question::Serialize { .. } => 6,
             Question::SerializedSize { .. } => 7,
             Question::ApproximateSize { .. } => 8,

@@ -79,6 +79,19 @@ impl Run {
         }
     }
 
+    /// Whether a call is asked for, and there may be more differences.
+    pub fn wants(&self, number: usize) -> bool {
+        !self.over() && self.only.is_none_or(|only| only == Only::Call(number))
+    }
+
+    /// Counts a comparison that was made elsewhere, and in which both sides agreed.
+    pub fn agreed(&mut self, number: usize, refusal: u32) {
+        let tally = &mut self.tallies[number - 1];
+        tally.compared += 1;
+        tally.by_refusal[refusal as usize] += 1;
+        self.progress.compared(CALLS[number - 1]);
+    }
+
     /// Whether histories are asked for.
     pub fn has_histories(&self) -> bool {
         self.only.is_none_or(|only| only == Only::Histories)
@@ -103,7 +116,7 @@ impl Run {
         if let Some(intended) = expected.intended {
             self.intended[intended.place()] += 1;
         }
-        self.judge("the C boundary", question, &expected, at_boundary);
+        self.judge("the C boundary", question, &expected, Some(at_boundary));
         self.judge("the crate's owned values", question, &expected, by_owned);
         self.progress.compared(question.name());
     }

@@ -1,6 +1,6 @@
 //! What the calls are given and lent: heads with their tables, at the C boundary's types.
 pub use petasunok::sys::{
-    petasunok_count, petasunok_flags, petasunok_head, petasunok_owner, petasunok_removal, petasunok_split, petasunok_sum,
+    petasunok_count, petasunok_flags, petasunok_head, petasunok_id, petasunok_owner, petasunok_removal, petasunok_split, petasunok_sum,
 };
 
 /// An owner or identifier.

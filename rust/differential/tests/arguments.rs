@@ -7,9 +7,9 @@ fn parsed(given: &str) -> Result<Arguments, String> {
 
 #[test]
 fn good_arguments() {
-    let run = parsed("--rounds 7 --seed 9 --only split_storage_removed_bytes --all --first");
-    assert_eq!(run, Ok(Arguments::Run { rounds: 7, seed: 9, only: Some(Only::Call(14)), all: true, first: true }));
-    assert!(matches!(parsed(""), Ok(Arguments::Run { seed: SEED, only: None, all: false, first: false, .. })));
+    let run = parsed("--rounds 7 --seed 9 --only split_storage_removed_bytes --first");
+    assert_eq!(run, Ok(Arguments::Run { rounds: 7, seed: 9, only: Some(Only::Call(14)), first: true }));
+    assert!(matches!(parsed(""), Ok(Arguments::Run { seed: SEED, only: None, first: false, .. })));
     assert!(matches!(parsed("--seed time"), Ok(Arguments::Run { .. })));
     assert!(matches!(parsed("--only histories"), Ok(Arguments::Run { only: Some(Only::Histories), .. })));
     assert_eq!(parsed("vectors"), Ok(Arguments::Vectors));

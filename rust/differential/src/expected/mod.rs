@@ -1,7 +1,7 @@
 //! What a call has to answer: the original's answer on document 01's domain, and the model's refusal outside it.
 mod heads;
 mod merging;
-mod reading;
+pub mod reading;
 mod removals;
 mod writing;
 
