@@ -136,7 +136,7 @@ static void print_summary(void) {
             if (tally[which][refusal] > 0) printf(", refused %d: %llu", refusal, tally[which][refusal]);
         printf("\n");
     }
-    printf("fuzz: %llu rounds, %llu calls, nothing found (seed %llu)\n", rounds, 2 * rounds, (unsigned long long)seed);
+    printf("fuzz: %llu rounds, at least %llu calls, nothing found (seed %llu)\n", rounds, 2 * rounds, (unsigned long long)seed);
 }
 
 /* Rounds for as many seconds as were asked; says each second how many there were. */
