@@ -32,7 +32,8 @@ static void print_part(int i) {
 }
 
 static void print_head(const char *name, const petasunok_head *head) {
-    fprintf(stderr, "  %s: kind %u base %u owner %02x..%02x records %zu\n", name, head->kind, head->base, head->owner[0], head->owner[31], head->records);
+    fprintf(stderr, "  %s: kind %u base %u owner %02x..%02x records %zu\n", name, head->kind, head->base, head->owner[0], head->owner[31],
+            head->records);
 }
 
 static void print_removal(const char *name, const petasunok_removal *removal) {
@@ -48,8 +49,8 @@ static void found(const char *what) {
     if (c->takes & TAKES_THEIRS) print_head("theirs", &input.theirs);
     if (c->takes & TAKES_REMOVAL) print_removal("removal", &input.removal);
     if (c->takes & TAKES_LEFT) print_removal("left", &input.left);
-    fprintf(stderr, "  amount %u key %u strategy %u present %u version %u epoch %u\n", input.amount, input.key, input.strategy, input.present,
-            input.version, input.epoch);
+    fprintf(stderr, "  amount %u key %u strategy %u present %u version %u epoch %u\n", input.amount, input.key, input.strategy,
+            input.present, input.version, input.epoch);
     for (i = 0; i < PARTS; i++)
         if (c->parts & BIT(i)) print_part(i);
     fflush(stderr);

@@ -226,7 +226,9 @@ static void give_long_bytes(given *g) {
 static void give_bytes(given *g, int part, int which) {
     held_bytes b = encodings[below(STORED)];
     int tries, i;
-    for (tries = 0; tries < 6 && which > DESERIALIZE && b.len > 0 && b.bytes[0] != which - READ_SINGLE; tries++) b = encodings[below(STORED)];
+    /* a reader by kind mostly gets bytes of its kind */
+    for (tries = 0; tries < 6 && which > DESERIALIZE && b.len > 0 && b.bytes[0] != which - READ_SINGLE; tries++)
+        b = encodings[below(STORED)];
     if (once_in(8)) {
         held_flags f;
         random_flags(&f);

@@ -41,7 +41,8 @@ static int proper_rows(const given *g, const petasunok_removal *removal, int ids
 int improper(const call *c, const given *g) {
     int absent = (c->takes & TAKES_PRESENT) && g->present == 0;
     if ((c->takes & TAKES_STRATEGY) && g->strategy > 2) return 1;
-    if ((c->takes & TAKES_OURS) && !absent && !(c->parts & OURS_TABLES ? proper_flags(g, &g->ours, OURS_EPOCHS) : g->ours.kind < 4)) return 1;
+    if ((c->takes & TAKES_OURS) && !absent && g->ours.kind > 3) return 1;
+    if ((c->parts & OURS_TABLES) && !absent && !proper_flags(g, &g->ours, OURS_EPOCHS)) return 1;
     if ((c->takes & TAKES_THEIRS) && !proper_flags(g, &g->theirs, THEIRS_EPOCHS)) return 1;
     if ((c->takes & TAKES_REMOVAL) && !proper_rows(g, &g->removal, REMOVAL_IDS)) return 1;
     return (c->takes & TAKES_LEFT) && !proper_rows(g, &g->left, LEFT_IDS);
@@ -105,7 +106,8 @@ static const char *alike(int which, const given *g, const told *answer) {
     other.parts[EPOCHS].len = other.parts[COUNTS].len = ROOM;
     plain = calls[which - 1].run(&other);
     if (!same_told(&plain, answer)) return "the plain merge answers otherwise";
-    return memcmp(epochs, g->parts[EPOCHS].at, n * 2) == 0 && memcmp(counts, g->parts[COUNTS].at, n * 4) == 0 ? NULL : "the plain merge has other records";
+    if (memcmp(epochs, g->parts[EPOCHS].at, n * 2) == 0 && memcmp(counts, g->parts[COUNTS].at, n * 4) == 0) return NULL;
+    return "the plain merge has other records";
 }
 
 /* A merge answers proper flags at our base. Where ours is absent they are theirs. */
@@ -119,8 +121,8 @@ static const char *merging(int which, const given *g, const told *answer) {
     if (!absent && g->theirs.base < g->ours.base) return "a lower incoming base was merged";
     if (!absent) return optional ? alike(which, g, answer) : NULL;
     if (answer->head.kind != from->kind || answer->head.records != from->records) return "where ours is absent, it is not theirs";
-    if (from->records > 0 && memcmp(g->parts[COUNTS].at, g->parts[THEIRS_COUNTS].at, from->records * 4) != 0) return "other counts than theirs";
-    return NULL;
+    if (from->records == 0) return NULL;
+    return memcmp(g->parts[COUNTS].at, g->parts[THEIRS_COUNTS].at, from->records * 4) == 0 ? NULL : "other counts than theirs";
 }
 
 /* Sections stand under our owner, sum to what was asked, and as many as were visited are above the base. */
@@ -150,11 +152,12 @@ void note_left(const given *g) {
 
 /* A sum is proper; from version 1 on nothing is lost where nothing is cut. */
 static const char *adding_up(const given *g, const told *answer) {
-    int full = 0;
-    uint64_t all = total(g, &answer->removal, LEFT_IDS, &full);
+    int full = 0, right_full = 0;
+    uint64_t both, all = total(g, &answer->removal, LEFT_IDS, &full);
     if (!proper_rows(g, &answer->removal, LEFT_IDS)) return "a sum is not proper";
-    if (g->version == 0 && g->left.kind == 1) return all <= left_total + total(g, &g->removal, REMOVAL_IDS, &full) ? NULL : "a sum has too much";
-    return full || all == left_total + total(g, &g->removal, REMOVAL_IDS, &full) ? NULL : "bytes were lost in a sum";
+    both = left_total + total(g, &g->removal, REMOVAL_IDS, &right_full);
+    if (g->version == 0 && g->left.kind == 1) return all <= both ? NULL : "a sum has too much";
+    return full || all == both ? NULL : "bytes were lost in a sum";
 }
 
 /* An owner that stands is that of an encoding that is read and owned. */
@@ -216,7 +219,8 @@ const char *broken_refusal(int which, const given *g, uint32_t refusal) {
     const uint8_t *bytes = g->parts[BYTES].at;
     if (refusal == 1 && which == DESERIALIZE && bytes[0] < 4) return "a kind that exists is unknown";
     if (refusal == 4 && g->theirs.base >= g->ours.base) return "4, and the incoming base is not lower";
-    if (refusal == 5 && merge && which <= OPTIONAL_ADDED && !(owned(&g->ours) && owned(&g->theirs) && g->strategy == 0)) return "5 without two owners";
+    if (refusal == 5 && merge && which <= OPTIONAL_ADDED && !(owned(&g->ours) && owned(&g->theirs) && g->strategy == 0))
+        return "5 without two owners";
     if (refusal == 8 && !(has_records(&g->ours) && g->amount > 4294967292u)) return "8, and the removal is not too large";
     if (refusal == 9 && total(g, &g->removal, REMOVAL_IDS, &full) <= UINT32_MAX) return "9, and the total is not too large";
     return merge && refusal >= 4 && refusal <= 7 && which % 2 == OPTIONAL_ADDED % 2 && g->present == 0 ? "absent ours was looked at" : NULL;

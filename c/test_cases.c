@@ -10,7 +10,8 @@
     WRITE(flags, "refused 11", "refused 11"), ADD(flags, "0@9", 1, 0, "refused 11"), ADD("0@0", flags, 1, 0, "refused 11"), \
     ABSENT_ADD(flags, "refused 11"), TAKE(flags, "0@9", "none", 0, "refused 11"), TAKE("0@0", flags, "none", 0, "refused 11"), \
     ABSENT_TAKE(flags, "none", "refused 11"), PART_OFF(flags, 0, 0, "refused 11")
-#define OWNER(first, second, rule, answer) {LINE, .call = COMBINE_OWNER_ID, .ours = first, .theirs = second, .strategy = rule, .told = answer}
+#define OWNER(first, second, rule, answer) \
+    {LINE, .call = COMBINE_OWNER_ID, .ours = first, .theirs = second, .strategy = rule, .told = answer}
 #define ADD(first, second, more, rule, answer) \
     {LINE, .call = COMBINE_ADDED, .ours = first, .theirs = second, .amount = more, .strategy = rule, .told = answer}
 #define TAKE(first, second, rows, rule, answer) \
