@@ -1,0 +1,101 @@
+/* Every function of petasunok.h in one form, so that the tests can go through them by a table. */
+#ifndef CALLS_H
+#define CALLS_H
+
+#include "petasunok.h"
+
+/* The lent memory: a pointer and a length for each table that some call takes. */
+enum {
+    BYTES, OTHER_BYTES,
+    OURS_EPOCHS, OURS_COUNTS,
+    THEIRS_EPOCHS, THEIRS_COUNTS,
+    REMOVAL_IDS, REMOVAL_EPOCHS, REMOVAL_BYTES,
+    OUT,
+    EPOCHS, COUNTS,
+    LEFT_IDS, LEFT_EPOCHS, LEFT_BYTES, /* the key's rows of a split, and the left removal of a sum */
+    VALUE_IDS, VALUE_EPOCHS, VALUE_BYTES,
+    PARTS
+};
+
+#define BIT(n) (1u << (n))
+/* The tables of one thing together. */
+#define OURS_TABLES (BIT(OURS_EPOCHS) | BIT(OURS_COUNTS))
+#define THEIRS_TABLES (BIT(THEIRS_EPOCHS) | BIT(THEIRS_COUNTS))
+#define REMOVAL_TABLES (BIT(REMOVAL_IDS) | BIT(REMOVAL_EPOCHS) | BIT(REMOVAL_BYTES))
+#define ROOM_TABLES (BIT(EPOCHS) | BIT(COUNTS))
+#define LEFT_TABLES (BIT(LEFT_IDS) | BIT(LEFT_EPOCHS) | BIT(LEFT_BYTES))
+#define VALUE_TABLES (BIT(VALUE_IDS) | BIT(VALUE_EPOCHS) | BIT(VALUE_BYTES))
+#define WRITTEN_TABLES (BIT(OUT) | ROOM_TABLES | LEFT_TABLES | VALUE_TABLES)
+
+/* The values that a call takes beside its tables. */
+#define TAKES_OURS 1u
+#define TAKES_THEIRS 2u
+#define TAKES_REMOVAL 4u
+#define TAKES_LEFT 8u
+#define TAKES_STRATEGY 16u
+#define TAKES_PRESENT 32u
+
+typedef struct {
+    void *at;
+    size_t len;
+} part;
+
+/* Everything that a call may be given. */
+typedef struct {
+    part parts[PARTS];
+    petasunok_head ours, theirs;
+    petasunok_removal removal, left;
+    petasunok_id id;
+    uint32_t amount, key;  /* amount: also the value's bytes of a split */
+    uint16_t epoch, version; /* epoch: also the number of changes */
+    uint8_t strategy, present, yes, size; /* yes: has_owner and owned; present: also whether changes are given */
+} given;
+
+/* Everything that a call may answer; what it does not have is 0. */
+typedef struct {
+    uint32_t refusal;
+    uint8_t present, which;
+    uint64_t count;
+    petasunok_head head;
+    petasunok_removal removal, value; /* removal: a sum, or the key's of a split */
+    size_t visited;
+    petasunok_id id;
+} told;
+
+/* What sort of answer a call gives. */
+enum { FLAGS, HEAD, NUMBER, WHOSE, MAYBE_OWNER, SUM, SPLIT };
+
+/* The calls, in the header's order. */
+enum {
+    DESERIALIZE, READ_SINGLE, READ_MULTI, READ_SINGLE_OWNED, READ_MULTI_OWNED,
+    SERIALIZE, SERIALIZED_SIZE, APPROXIMATE_SIZE,
+    COMBINE_OWNER_ID, COMBINE_ADDED, OPTIONAL_ADDED, COMBINE_REMOVED, OPTIONAL_REMOVED,
+    SPLIT_REMOVED, ADD_ASSIGN, HAS_REMOVAL, TOTAL_REMOVED,
+    NEW_SINGLE_EPOCH, SET_OWNER_ID, BASE_EPOCH, OWNER_ID, TYPE_BYTE,
+    CALLS
+};
+
+typedef struct {
+    const char *name;
+    told (*run)(const given *);
+    int answer;
+    unsigned parts;    /* the tables that it takes */
+    unsigned takes;    /* the values that it takes */
+    unsigned refusals; /* the numbers that it may give */
+} call;
+
+extern const call calls[CALLS];
+extern const size_t widths[PARTS];
+
+/* How many places at the start of a table the answer takes. */
+size_t places(const told *answer, int part);
+
+/* What is wrong with the form of an answer, or null: its number, its zeros where it is refused, its room, its truth value. */
+const char *malformed(const call *c, const given *g, const told *answer);
+
+/* Compares heads and removals field by field. */
+int same_head(const petasunok_head *a, const petasunok_head *b);
+int same_removal(const petasunok_removal *a, const petasunok_removal *b);
+int same_told(const told *a, const told *b);
+
+#endif

@@ -1,0 +1,316 @@
+/* Random inputs for the fuzzer, mostly proper ones, and a store of earlier answers that become inputs. */
+#include "fuzz.h"
+#include <string.h>
+
+#define STORED 16
+#define MOST 40 /* records or rows of a stored answer */
+
+typedef struct {
+    petasunok_head head;
+    uint16_t epochs[MOST];
+    uint32_t counts[MOST];
+} held_flags;
+
+typedef struct {
+    petasunok_removal removal;
+    uint8_t ids[MOST][32];
+    uint16_t epochs[MOST];
+    uint32_t bytes[MOST];
+    held_flags of; /* the flags that it was split from, or random ones */
+} held_removal;
+
+typedef struct {
+    uint8_t bytes[512];
+    size_t len;
+} held_bytes;
+
+static held_flags flags[STORED];
+static held_removal removals[STORED];
+static held_bytes encodings[STORED];
+
+/* ---- random numbers */
+
+static uint64_t state;
+
+void seed_random(uint64_t seed) {
+    state = seed;
+}
+
+/* The generator splitmix64. */
+uint64_t any(void) {
+    uint64_t z = state += 0x9E3779B97F4A7C15u;
+    z = (z ^ z >> 30) * 0xBF58476D1CE4E5B9u;
+    z = (z ^ z >> 27) * 0x94D049BB133111EBu;
+    return z ^ z >> 31;
+}
+
+size_t below(size_t n) {
+    return (size_t)(any() % n);
+}
+
+int once_in(unsigned n) {
+    return below(n) == 0;
+}
+
+/* A number of bytes; the limits of the rules and of varints come often. */
+static uint32_t some_count(void) {
+    static const uint32_t limits[] = {0, 1, 2, 3, 4, 5, 7, 127, 128, 16383, 16384, 2097151, 2097152, 268435455, 268435456,
+                                      2147483648u, 4294967291u, 4294967292u, 4294967293u, 4294967295u};
+    if (once_in(2)) return (uint32_t)below(600);
+    return once_in(4) ? (uint32_t)any() : limits[below(sizeof limits / sizeof *limits)];
+}
+
+static uint16_t some_epoch(void) {
+    return (uint16_t)(once_in(8) ? 65535 - below(3) : once_in(8) ? any() : below(12));
+}
+
+/* One of a few owners, so that they often meet. Their order is that of their numbers. */
+static void some_owner(uint8_t *owner, size_t number) {
+    static const uint8_t fill[] = {0, 0, 65, 65, 200};
+    memset(owner, fill[number], 32);
+    if (number == 1 || number == 3) owner[31]++;
+}
+#define OWNERS 5
+
+static uint8_t some_byte(unsigned proper) {
+    return (uint8_t)(once_in(32) ? any() : below(proper));
+}
+
+/* ---- random flags, removals and bytes */
+
+static void random_flags(held_flags *f) {
+    size_t n = below(once_in(4) ? 20 : 4), epoch;
+    memset(f, 0, sizeof *f);
+    f->head.kind = (uint8_t)below(4);
+    f->head.base = some_epoch();
+    if (f->head.kind >= 2) some_owner(f->head.owner, below(OWNERS));
+    else if (once_in(4)) memset(f->head.owner, 9, 32); /* not to be read */
+    epoch = f->head.base;
+    while ((f->head.kind & 1) && f->head.records <= n) {
+        epoch += 1 + (once_in(8) ? below(5000) : below(3));
+        if (epoch > 65535) break;
+        f->epochs[f->head.records] = (uint16_t)epoch;
+        f->counts[f->head.records++] = some_count();
+    }
+    if (f->head.records == 0) f->head.kind &= 2;
+}
+
+static void random_removal(held_removal *r) {
+    size_t owner = 0, epoch = below(6), n = below(8);
+    memset(r, 0, sizeof *r);
+    random_flags(&r->of);
+    r->removal.kind = (uint8_t)(once_in(3) ? below(2) : 2);
+    if (r->removal.kind == 1) r->removal.bytes = some_count();
+    while (r->removal.kind == 2 && r->removal.rows < n) {
+        size_t step = once_in(3) ? 1 + below(2) : 0;
+        epoch = step > 0 ? below(6) : epoch + 1 + below(3);
+        owner += step;
+        if (owner >= OWNERS || epoch > 65535) break;
+        some_owner(r->ids[r->removal.rows], owner);
+        r->epochs[r->removal.rows] = (uint16_t)(once_in(16) ? 65535 : epoch);
+        r->bytes[r->removal.rows++] = some_count();
+        if (r->epochs[r->removal.rows - 1] == 65535) epoch = 65535;
+    }
+}
+
+/* A byte, a bit, the end, or a piece in the middle is changed. */
+static void damage(held_bytes *b) {
+    static const uint8_t odd[] = {0, 1, 4, 127, 128, 129, 255};
+    size_t at = b->len > 0 ? below(b->len) : 0;
+    switch (below(5)) {
+    case 0: b->len = at; break;
+    case 1: b->bytes[at] ^= (uint8_t)BIT(below(8)); break;
+    case 2: b->bytes[at] = odd[below(sizeof odd)]; break;
+    case 3:
+        if (b->len < sizeof b->bytes) b->bytes[b->len++] = odd[below(sizeof odd)];
+        break;
+    default:
+        if (b->len + 3 > sizeof b->bytes) break;
+        memmove(b->bytes + at + 3, b->bytes + at, b->len - at);
+        b->len += 3;
+    }
+}
+
+/* Flags as bytes, by the library. */
+static void encode(held_bytes *b, const held_flags *f) {
+    petasunok_count n = petasunok_serialize(f->head, f->epochs, MOST, f->counts, MOST, b->bytes, sizeof b->bytes);
+    b->len = n.refusal != 0 ? 0 : (size_t)n.count;
+}
+
+void open_store(void) {
+    int i;
+    for (i = 0; i < STORED; i++) {
+        random_flags(&flags[i]);
+        random_removal(&removals[i]);
+        encode(&encodings[i], &flags[i]);
+    }
+}
+
+/* ---- lending them */
+
+/* Lends a table with values at its start, at either side of its pages; one without places may be a null pointer. */
+static void give(given *g, int part, const void *values, size_t have, size_t len) {
+    lend(g, part, len, once_in(2) ? AT_THE_END : AT_THE_START);
+    if (have > len) have = len;
+    if (have > 0) memcpy(g->parts[part].at, values, have * widths[part]);
+    if (len == 0 && once_in(2)) lend_null(g, part);
+}
+
+/* A length for a table that has to hold some places: mostly just so long, or a little longer, rarely too short. */
+static size_t length_for(size_t have) {
+    if (once_in(40)) return below(have + 1);
+    return have + (once_in(3) ? below(4) : 0);
+}
+
+/* A count of places, rarely one that no table has. */
+static size_t count_for(size_t have) {
+    static const size_t wrong[] = {SIZE_MAX, SIZE_MAX / 2 + 1, 65536, (size_t)1 << 32, (size_t)1 << 63, SIZE_MAX / 32 + 1};
+    if (!once_in(50)) return have;
+    return once_in(2) ? have + 1 + below(2) : wrong[below(6)];
+}
+
+static void give_flags(given *g, petasunok_head *head, int epochs, const held_flags *f) {
+    held_flags changed = *f;
+    if (once_in(24) && f->head.records > 0) changed.epochs[below(f->head.records)] = some_epoch();
+    if (once_in(50)) changed.head.kind = (uint8_t)(once_in(2) ? below(4) : any());
+    *head = changed.head;
+    head->records = count_for(f->head.records);
+    give(g, epochs, changed.epochs, f->head.records, length_for(f->head.records));
+    give(g, epochs + 1, changed.counts, f->head.records, length_for(f->head.records));
+}
+
+/* Lends a removal; its tables have `more` places behind its rows. */
+static void give_removal(given *g, petasunok_removal *removal, int ids, const held_removal *r, size_t more) {
+    held_removal changed = *r;
+    size_t rows = r->removal.rows;
+    if (once_in(24) && rows > 0) changed.epochs[below(rows)] = some_epoch();
+    if (once_in(24) && rows > 0) changed.bytes[below(rows)] = some_count();
+    if (once_in(24) && rows > 0) some_owner(changed.ids[below(rows)], below(OWNERS));
+    if (once_in(50)) changed.removal.kind = (uint8_t)(once_in(2) ? below(3) : any());
+    *removal = changed.removal;
+    removal->rows = count_for(rows);
+    if (removal->kind != 2 && once_in(4)) removal->rows = (size_t)any(); /* not to be read */
+    if (removal->kind != 1 && once_in(4)) removal->bytes = (uint32_t)any();
+    give(g, ids, changed.ids, rows, length_for(rows) + more);
+    give(g, ids + 1, changed.epochs, rows, length_for(rows) + more);
+    give(g, ids + 2, changed.bytes, rows, length_for(rows) + more);
+}
+
+/* Incoming flags that go with ours: mostly at an epoch of ours or behind the base, and of the same owner. */
+static void incoming(held_flags *theirs, const held_flags *ours) {
+    random_flags(theirs);
+    if (once_in(4)) return;
+    if (!once_in(4)) {
+        theirs->head.kind &= 2;
+        theirs->head.records = 0;
+        theirs->head.base = (uint16_t)(ours->head.base + below(5));
+        if (ours->head.records > 0 && once_in(2)) theirs->head.base = ours->epochs[below(ours->head.records)];
+    }
+    if (!once_in(4)) memcpy(theirs->head.owner, ours->head.owner, 32);
+}
+
+/* Bytes of many records, which rise by one and count little. */
+static void give_long_bytes(given *g) {
+    static uint8_t bytes[LENT_MOST];
+    size_t n = 1 + below(2000), i;
+    bytes[0] = 1;
+    bytes[1] = bytes[2] = 0;
+    for (i = 0; i < n; i++) {
+        bytes[3 + 3 * i] = (uint8_t)((i + 1) >> 8);
+        bytes[4 + 3 * i] = (uint8_t)(i + 1);
+        bytes[5 + 3 * i] = (uint8_t)(any() & 127);
+    }
+    give(g, BYTES, bytes, 3 + 3 * n, 3 + 3 * n - (once_in(4) ? 1 : 0));
+}
+
+static void give_bytes(given *g, int part, int which) {
+    held_bytes b = encodings[below(STORED)];
+    int tries, i;
+    /* a reader by kind mostly gets bytes of its kind */
+    for (tries = 0; tries < 6 && which > DESERIALIZE && b.len > 0 && b.bytes[0] != which - READ_SINGLE; tries++)
+        b = encodings[below(STORED)];
+    if (once_in(8)) {
+        held_flags f;
+        random_flags(&f);
+        encode(&b, &f);
+    }
+    if (once_in(16))
+        for (b.len = below(48), i = 0; i < 48; i++) b.bytes[i] = (uint8_t)any();
+    while (once_in(4)) damage(&b);
+    if (once_in(40)) b.len = 0;
+    give(g, part, b.bytes, b.len, b.len);
+}
+
+/* How much room is lent: enough, none, or a little. */
+static size_t some_room(void) {
+    return once_in(2) ? 64 : once_in(8) ? 0 : below(8);
+}
+
+/* Room for everything that the call writes; mostly as much in each table. */
+static void give_room(given *g, const call *c) {
+    size_t room = some_room();
+    int i;
+    for (i = OUT; i < PARTS; i++)
+        if (c->parts & BIT(i)) give(g, i, NULL, 0, (once_in(6) ? some_room() : room) * (i == OUT ? 8 : 1));
+}
+
+void make_input(given *g, int which) {
+    const call *c = &calls[which];
+    const held_removal *r = &removals[below(STORED)];
+    const held_flags *ours = (c->takes & TAKES_REMOVAL) && !once_in(4) ? &r->of : &flags[below(STORED)];
+    held_flags theirs;
+    memset(g, 0, sizeof *g);
+    give_room(g, c);
+    if (c->parts & BIT(BYTES)) give_bytes(g, BYTES, which);
+    if ((c->parts & BIT(BYTES)) && once_in(400)) give_long_bytes(g);
+    if (c->parts & BIT(OTHER_BYTES)) give_bytes(g, OTHER_BYTES, DESERIALIZE);
+    if (c->takes & TAKES_OURS) give_flags(g, &g->ours, OURS_EPOCHS, ours);
+    incoming(&theirs, ours);
+    if (c->takes & TAKES_THEIRS) give_flags(g, &g->theirs, THEIRS_EPOCHS, once_in(6) ? &flags[below(STORED)] : &theirs);
+    if (c->takes & TAKES_REMOVAL) give_removal(g, &g->removal, REMOVAL_IDS, r, 0);
+    if (c->takes & TAKES_LEFT) give_removal(g, &g->left, LEFT_IDS, &removals[below(STORED)], some_room());
+    g->amount = some_count();
+    g->key = once_in(2) ? 0 : some_count();
+    g->epoch = some_epoch();
+    g->version = (uint16_t)(once_in(16) ? any() : below(2));
+    g->strategy = some_byte(3);
+    g->present = (uint8_t)(once_in(4) ? any() : below(3));
+    g->yes = (uint8_t)(once_in(4) ? any() : below(3));
+    g->size = (uint8_t)any();
+    some_owner(g->id.bytes, below(OWNERS));
+}
+
+/* ---- keeping answers */
+
+/* Keeps the removal that stands in three tables, with the flags that it was split from, if it was. */
+static void keep_removal(const given *g, const petasunok_removal *removal, int ids, int split) {
+    held_removal *r = &removals[below(STORED)];
+    if (removal->rows > 8 && !once_in(8)) return;
+    if (removal->rows > MOST || (split && g->ours.records > MOST)) return;
+    r->removal = *removal;
+    memcpy(r->ids, g->parts[ids].at, removal->rows * 32);
+    memcpy(r->epochs, g->parts[ids + 1].at, removal->rows * 2);
+    memcpy(r->bytes, g->parts[ids + 2].at, removal->rows * 4);
+    if (!split) return;
+    r->of.head = g->ours;
+    if (g->ours.records == 0) return;
+    memcpy(r->of.epochs, g->parts[OURS_EPOCHS].at, g->ours.records * 2);
+    memcpy(r->of.counts, g->parts[OURS_COUNTS].at, g->ours.records * 4);
+}
+
+void keep_answer(int which, const given *g, const told *answer) {
+    size_t slot = below(STORED);
+    if (once_in(4)) random_flags(&flags[below(STORED)]);
+    if (once_in(8)) random_removal(&removals[below(STORED)]);
+    if (calls[which].answer == SPLIT) keep_removal(g, &answer->value, VALUE_IDS, 1);
+    if (calls[which].answer == SUM) keep_removal(g, &answer->removal, LEFT_IDS, 0);
+    if (calls[which].answer == FLAGS && answer->present && answer->head.records <= MOST) {
+        flags[slot].head = answer->head;
+        memcpy(flags[slot].epochs, g->parts[EPOCHS].at, answer->head.records * 2);
+        memcpy(flags[slot].counts, g->parts[COUNTS].at, answer->head.records * 4);
+    }
+    if (which == SERIALIZE && answer->count <= sizeof encodings[slot].bytes) {
+        encodings[slot].len = (size_t)answer->count;
+        memcpy(encodings[slot].bytes, g->parts[OUT].at, encodings[slot].len);
+    }
+}

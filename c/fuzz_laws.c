@@ -1,0 +1,227 @@
+/* What has to hold of the answers that the fuzzer gets, said without the library where that is short. */
+#include "fuzz.h"
+#include <string.h>
+
+#define ROOM 8192
+
+/* ---- proper flags and rows */
+
+static int owned(const petasunok_head *head) {
+    return head->kind == 2 || head->kind == 3;
+}
+
+static int has_records(const petasunok_head *head) {
+    return head->kind == 1 || head->kind == 3;
+}
+
+static int proper_flags(const given *g, const petasunok_head *head, int epochs) {
+    const uint16_t *at = g->parts[epochs].at;
+    size_t i;
+    if (head->kind > 3 || head->records > g->parts[epochs].len || head->records > g->parts[epochs + 1].len) return 0;
+    if (!has_records(head)) return head->records == 0;
+    for (i = 0; i < head->records; i++)
+        if (at[i] <= (i == 0 ? head->base : at[i - 1])) return 0;
+    return head->records > 0;
+}
+
+static int proper_rows(const given *g, const petasunok_removal *removal, int ids) {
+    uint8_t(*owners)[32] = g->parts[ids].at;
+    const uint16_t *epochs = g->parts[ids + 1].at;
+    size_t i;
+    if (removal->kind != 2) return removal->kind < 2;
+    for (i = 0; i < 3; i++)
+        if (removal->rows > g->parts[ids + i].len) return 0;
+    for (i = 1; i < removal->rows; i++) {
+        int order = memcmp(owners[i - 1], owners[i], 32);
+        if (order > 0 || (order == 0 && epochs[i - 1] >= epochs[i])) return 0;
+    }
+    return 1;
+}
+
+int improper(const call *c, const given *g) {
+    int absent = (c->takes & TAKES_PRESENT) && g->present == 0;
+    if ((c->takes & TAKES_STRATEGY) && g->strategy > 2) return 1;
+    if ((c->takes & TAKES_OURS) && !absent && g->ours.kind > 3) return 1;
+    if ((c->parts & OURS_TABLES) && !absent && !proper_flags(g, &g->ours, OURS_EPOCHS)) return 1;
+    if ((c->takes & TAKES_THEIRS) && !proper_flags(g, &g->theirs, THEIRS_EPOCHS)) return 1;
+    if ((c->takes & TAKES_REMOVAL) && !proper_rows(g, &g->removal, REMOVAL_IDS)) return 1;
+    return (c->takes & TAKES_LEFT) && !proper_rows(g, &g->left, LEFT_IDS);
+}
+
+/* All bytes of a removal, and whether one of them is as large as a number can be, so that it may be cut. */
+static uint64_t total(const given *g, const petasunok_removal *removal, int ids, int *full) {
+    const uint32_t *bytes = g->parts[ids + 2].at;
+    uint64_t sum = removal->kind == 1 ? removal->bytes : 0;
+    size_t i;
+    if (removal->kind == 1 && removal->bytes == UINT32_MAX) *full = 1;
+    for (i = 0; removal->kind == 2 && i < removal->rows; i++) {
+        sum += bytes[i];
+        if (bytes[i] == UINT32_MAX) *full = 1;
+    }
+    return sum;
+}
+
+/* ---- the laws of each sort of call */
+
+/* What was read is proper, and written again it is the same bytes. */
+static const char *reading(int which, const given *g, const told *answer) {
+    static uint8_t out[ROOM];
+    const uint8_t *bytes = g->parts[BYTES].at;
+    size_t len = g->parts[BYTES].len;
+    petasunok_count n;
+    if (!answer->present) return which == DESERIALIZE && len == 0 ? NULL : "no flags were read, and there are bytes";
+    if (!proper_flags(g, &answer->head, EPOCHS)) return "flags that were read are not proper";
+    if (answer->head.kind != (which == DESERIALIZE ? bytes[0] : which - READ_SINGLE)) return "flags of another kind were read";
+    n = petasunok_serialize(answer->head, g->parts[EPOCHS].at, answer->head.records, g->parts[COUNTS].at, answer->head.records, out, ROOM);
+    if (n.refusal != 0 || n.count != len || memcmp(out + 1, bytes + 1, len - 1) != 0) return "flags that were read are not written alike";
+    return out[0] == answer->head.kind ? NULL : "byte 0 is not the kind";
+}
+
+/* What was written has the size that is told, and read again it is the same flags. */
+static const char *writing(const given *g, const told *answer) {
+    static uint16_t epochs[ROOM];
+    static uint32_t counts[ROOM];
+    size_t n = g->ours.records;
+    petasunok_count size = petasunok_serialized_size(g->ours, g->parts[OURS_EPOCHS].at, n, g->parts[OURS_COUNTS].at, n);
+    petasunok_flags back = petasunok_deserialize(g->parts[OUT].at, (size_t)answer->count, epochs, ROOM, counts, ROOM);
+    petasunok_head head = g->ours;
+    if (!owned(&head)) memset(head.owner, 0, 32);
+    if (size.refusal != 0 || size.count != answer->count) return "the size is another than that of what was written";
+    if (back.refusal != 0 || back.present != 1 || !same_head(&back.head, &head)) return "flags that were written are not read alike";
+    if (n == 0) return NULL;
+    if (memcmp(epochs, g->parts[OURS_EPOCHS].at, n * 2) != 0 || memcmp(counts, g->parts[OURS_COUNTS].at, n * 4) != 0)
+        return "records that were written are not read alike";
+    return NULL;
+}
+
+/* An optional merge with ours there answers as the plain one. */
+static const char *alike(int which, const given *g, const told *answer) {
+    static uint16_t epochs[ROOM];
+    static uint32_t counts[ROOM];
+    size_t n = answer->head.records;
+    given other = *g;
+    told plain;
+    other.parts[EPOCHS].at = epochs;
+    other.parts[COUNTS].at = counts;
+    other.parts[EPOCHS].len = other.parts[COUNTS].len = ROOM;
+    plain = calls[which - 1].run(&other);
+    if (!same_told(&plain, answer)) return "the plain merge answers otherwise";
+    if (memcmp(epochs, g->parts[EPOCHS].at, n * 2) == 0 && memcmp(counts, g->parts[COUNTS].at, n * 4) == 0) return NULL;
+    return "the plain merge has other records";
+}
+
+/* A merge answers proper flags at our base. Where ours is absent they are theirs. */
+static const char *merging(int which, const given *g, const told *answer) {
+    int optional = which == OPTIONAL_ADDED || which == OPTIONAL_REMOVED, absent = optional && g->present == 0;
+    static const uint8_t zeros[32];
+    const petasunok_head *from = absent ? &g->theirs : &g->ours;
+    if (!answer->present || !proper_flags(g, &answer->head, EPOCHS)) return "merged flags are not proper";
+    if (answer->head.base != from->base) return "merged flags are at another base";
+    if (!owned(&answer->head) && memcmp(answer->head.owner, zeros, 32) != 0) return "unowned flags with an owner";
+    if (!absent && g->theirs.base < g->ours.base) return "a lower incoming base was merged";
+    if (!absent) return optional ? alike(which, g, answer) : NULL;
+    if (answer->head.kind != from->kind || answer->head.records != from->records) return "where ours is absent, it is not theirs";
+    if (from->records == 0) return NULL;
+    return memcmp(g->parts[COUNTS].at, g->parts[THEIRS_COUNTS].at, from->records * 4) == 0 ? NULL : "other counts than theirs";
+}
+
+/* Sections stand under our owner, sum to what was asked, and as many as were visited are above the base. */
+static const char *splitting(const given *g, const told *answer) {
+    static const uint8_t zeros[32];
+    uint8_t(*ids)[32] = g->parts[VALUE_IDS].at;
+    const uint16_t *epochs = g->parts[VALUE_EPOCHS].at;
+    size_t i, above = 0;
+    int full = 0;
+    if (!proper_rows(g, &answer->removal, LEFT_IDS) || !proper_rows(g, &answer->value, VALUE_IDS)) return "sections are not proper";
+    if (total(g, &answer->removal, LEFT_IDS, &full) != g->key) return "the key's sections have another sum";
+    if (total(g, &answer->value, VALUE_IDS, &full) != g->amount) return "the value's sections have another sum";
+    if (answer->value.kind != (g->amount == 0 ? 0 : 2) || answer->removal.kind != (g->key == 0 ? 0 : 2)) return "a removal of another kind";
+    for (i = 0; i < answer->value.rows; i++) {
+        above += epochs[i] > g->ours.base;
+        if (memcmp(ids[i], owned(&g->ours) ? g->ours.owner : zeros, 32) != 0) return "a section under another owner";
+    }
+    return above == answer->visited ? NULL : "another number of records was visited than gave";
+}
+
+static uint64_t left_total;
+
+void note_left(const given *g) {
+    int full = 0;
+    left_total = total(g, &g->left, LEFT_IDS, &full);
+}
+
+/* A sum is proper; from version 1 on nothing is lost where nothing is cut. */
+static const char *adding_up(const given *g, const told *answer) {
+    int full = 0, right_full = 0;
+    uint64_t both, all = total(g, &answer->removal, LEFT_IDS, &full);
+    if (!proper_rows(g, &answer->removal, LEFT_IDS)) return "a sum is not proper";
+    both = left_total + total(g, &g->removal, REMOVAL_IDS, &right_full);
+    if (g->version == 0 && g->left.kind == 1) return all <= both ? NULL : "a sum has too much";
+    return full || all == both ? NULL : "bytes were lost in a sum";
+}
+
+/* An owner that stands is that of an encoding that is read and owned. */
+static const char *owning(const given *g, const told *answer) {
+    static uint16_t epochs[ROOM];
+    static uint32_t counts[ROOM];
+    int part = answer->which == 2 ? OTHER_BYTES : BYTES;
+    petasunok_flags read = petasunok_deserialize(g->parts[part].at, g->parts[part].len, epochs, ROOM, counts, ROOM);
+    if (read.refusal != 0) return "an encoding that is refused has an owner";
+    return answer->which == 0 || owned(&read.head) ? NULL : "the owner of unowned flags";
+}
+
+/* A removal's total and whether it has any. */
+static const char *telling(int which, const given *g, const told *answer) {
+    int full = 0;
+    uint64_t all = total(g, &g->removal, REMOVAL_IDS, &full);
+    if (which == HAS_REMOVAL) return answer->count == (all != 0) ? NULL : "has_removal differs from the rows";
+    return answer->count == all ? NULL : "a total differs from the sum of the rows";
+}
+
+/* The calls on a head alone. */
+static const char *heading(int which, const given *g, const told *answer) {
+    petasunok_head expected = g->ours;
+    if (which == TYPE_BYTE) return answer->count == g->ours.kind ? NULL : "another type byte";
+    if (which == BASE_EPOCH) return answer->count == g->ours.base ? NULL : "another base";
+    if (which == OWNER_ID) {
+        if (answer->present != owned(&g->ours)) return "an owner where there is none, or none where there is one";
+        return !answer->present || memcmp(answer->id.bytes, g->ours.owner, 32) == 0 ? NULL : "another owner";
+    }
+    if (which == NEW_SINGLE_EPOCH) {
+        memset(&expected, 0, sizeof expected);
+        expected.kind = g->yes ? 2 : 0;
+        expected.base = g->epoch;
+    }
+    if (owned(&expected)) memcpy(expected.owner, g->id.bytes, 32);
+    return same_head(&answer->head, &expected) ? NULL : "another head";
+}
+
+/* The size of flags before they are made. */
+static const char *sizing(const given *g, const told *answer) {
+    uint32_t expected = 3 + (g->yes ? 32u : 0u) + (g->present ? (uint32_t)g->epoch * (2u + g->size) : 0u);
+    return answer->count == expected ? NULL : "another approximate size";
+}
+
+const char *broken_law(int which, const given *g, const told *answer) {
+    if (which <= READ_MULTI_OWNED) return reading(which, g, answer);
+    if (which == SERIALIZE) return writing(g, answer);
+    if (which == APPROXIMATE_SIZE) return sizing(g, answer);
+    if (which == COMBINE_OWNER_ID) return owning(g, answer);
+    if (which >= COMBINE_ADDED && which <= OPTIONAL_REMOVED) return merging(which, g, answer);
+    if (which == SPLIT_REMOVED) return splitting(g, answer);
+    if (which == ADD_ASSIGN) return adding_up(g, answer);
+    if (which == HAS_REMOVAL || which == TOTAL_REMOVED) return telling(which, g, answer);
+    return which >= NEW_SINGLE_EPOCH ? heading(which, g, answer) : NULL;
+}
+
+const char *broken_refusal(int which, const given *g, uint32_t refusal) {
+    int merge = which >= COMBINE_ADDED && which <= OPTIONAL_REMOVED, full = 0;
+    const uint8_t *bytes = g->parts[BYTES].at;
+    if (refusal == 1 && which == DESERIALIZE && bytes[0] < 4) return "a kind that exists is unknown";
+    if (refusal == 4 && g->theirs.base >= g->ours.base) return "4, and the incoming base is not lower";
+    if (refusal == 5 && merge && which <= OPTIONAL_ADDED && !(owned(&g->ours) && owned(&g->theirs) && g->strategy == 0))
+        return "5 without two owners";
+    if (refusal == 8 && !(has_records(&g->ours) && g->amount > 4294967292u)) return "8, and the removal is not too large";
+    if (refusal == 9 && total(g, &g->removal, REMOVAL_IDS, &full) <= UINT32_MAX) return "9, and the total is not too large";
+    return merge && refusal >= 4 && refusal <= 7 && which % 2 == OPTIONAL_ADDED % 2 && g->present == 0 ? "absent ours was looked at" : NULL;
+}

@@ -1,0 +1,160 @@
+/* Flags, removals and answers as short texts. */
+#include "texts.h"
+#include <stdarg.h>
+#include <stdio.h>
+#include <stdlib.h>
+#include <string.h>
+
+#define MOST 16
+
+/* ---- from a text */
+
+void owner_of(char letter, uint8_t *owner) {
+    int i;
+    for (i = 0; i < 32; i++) owner[i] = (uint8_t)(letter == '0' ? 0 : letter == 'z' ? i + 1 : letter);
+}
+
+/* The value of a hex digit. */
+static int digit(char c) {
+    return c <= '9' ? c - '0' : (c | 32) - 'a' + 10;
+}
+
+void give_bytes(given *g, int part, const char *hex, int side) {
+    size_t i, len = strlen(hex) / 2;
+    lend(g, part, len, side);
+    for (i = 0; i < len; i++) ((uint8_t *)g->parts[part].at)[i] = (uint8_t)(digit(hex[2 * i]) * 16 + digit(hex[2 * i + 1]));
+    if (len == 0 && side == AT_THE_START) lend_null(g, part);
+}
+
+/* Lends a table with values at its start; one without places is a null pointer at the one side, and no null pointer at the other. */
+static void give_table(given *g, int part, const void *values, size_t len, size_t more, int side) {
+    lend(g, part, len + more, side);
+    if (len > 0) memcpy(g->parts[part].at, values, len * widths[part]);
+    if (len + more == 0 && side == AT_THE_START) lend_null(g, part);
+}
+
+void give_flags(given *g, petasunok_head *head, int epochs, const char *text, size_t more, int side) {
+    uint16_t at[MOST];
+    uint32_t counts[MOST];
+    char *rest;
+    memset(head, 0, sizeof *head);
+    head->kind = (uint8_t)strtoul(text, &rest, 10);
+    head->base = (uint16_t)strtoul(rest + 1, &rest, 10);
+    if (*rest == '/') {
+        owner_of(rest[1], head->owner);
+        rest += 2;
+    }
+    while (*rest == ' ') {
+        at[head->records] = (uint16_t)strtoul(rest + 1, &rest, 10);
+        counts[head->records++] = (uint32_t)strtoul(rest + 1, &rest, 10);
+    }
+    give_table(g, epochs, at, head->records, more, side);
+    give_table(g, epochs + 1, counts, head->records, more, side);
+}
+
+void give_removal(given *g, petasunok_removal *removal, int ids, const char *text, size_t more, int side) {
+    uint8_t owners[MOST][32];
+    uint16_t epochs[MOST];
+    uint32_t bytes[MOST];
+    char *rest;
+    memset(removal, 0, sizeof *removal);
+    if (strncmp(text, "basic ", 6) == 0) {
+        removal->kind = PETASUNOK_BASIC_REMOVAL;
+        removal->bytes = (uint32_t)strtoul(text + 6, NULL, 10);
+    } else if (strncmp(text, "rows", 4) == 0) {
+        removal->kind = PETASUNOK_SECTIONED_REMOVAL;
+        for (rest = (char *)text + 4; *rest == ' ';) {
+            owner_of(rest[1], owners[removal->rows]);
+            epochs[removal->rows] = (uint16_t)strtoul(rest + 3, &rest, 10);
+            bytes[removal->rows++] = (uint32_t)strtoul(rest + 1, &rest, 10);
+        }
+    }
+    give_table(g, ids, owners, removal->rows, more, side);
+    give_table(g, ids + 1, epochs, removal->rows, more, side);
+    give_table(g, ids + 2, bytes, removal->rows, more, side);
+}
+
+/* ---- to a text */
+
+static char text[2048];
+static size_t used;
+
+/* Puts more at the end of the text. */
+static void put(const char *form, ...) {
+    va_list values;
+    va_start(values, form);
+    used += (size_t)vsnprintf(text + used, sizeof text - used, form, values);
+    va_end(values);
+    if (used >= sizeof text) used = sizeof text - 1;
+}
+
+/* The letter of an owner, or ? where it has none. */
+static char letter_of(const uint8_t *owner) {
+    static const char letters[] = "0zABCDEFGHIJKLMNOPQRSTUVWXYZ";
+    uint8_t bytes[32];
+    const char *letter;
+    for (letter = letters; *letter != 0; letter++) {
+        owner_of(*letter, bytes);
+        if (memcmp(bytes, owner, 32) == 0) return *letter;
+    }
+    return '?';
+}
+
+static void put_head(const petasunok_head *head) {
+    char owner = letter_of(head->owner);
+    put("%u@%u", head->kind, head->base);
+    if (head->kind >= 2 || owner != '0') put("/%c", owner);
+}
+
+static void put_flags(const given *g, const told *answer) {
+    const uint16_t *epochs = g->parts[EPOCHS].at;
+    const uint32_t *counts = g->parts[COUNTS].at;
+    size_t i;
+    put_head(&answer->head);
+    for (i = 0; i < answer->head.records; i++) put(" %u:%u", epochs[i], counts[i]);
+}
+
+static void put_removal(const given *g, const petasunok_removal *removal, int ids) {
+    uint8_t(*owners)[32] = g->parts[ids].at;
+    const uint16_t *epochs = g->parts[ids + 1].at;
+    const uint32_t *bytes = g->parts[ids + 2].at;
+    size_t i;
+    put(removal->kind == 0 ? "none" : removal->kind == 1 ? "basic" : "rows");
+    if (removal->bytes != 0 || removal->kind == 1) put(" %u", removal->bytes);
+    for (i = 0; i < removal->rows; i++) put(" %c/%u:%u", letter_of(owners[i]), epochs[i], bytes[i]);
+}
+
+/* A number; of writing flags the bytes instead. */
+static void put_number(const call *c, const given *g, const told *answer) {
+    const uint8_t *out = g->parts[OUT].at;
+    size_t i;
+    if (c != &calls[SERIALIZE]) put("%llu", (unsigned long long)answer->count);
+    else
+        for (i = 0; i < answer->count; i++) put("%02X", out[i]);
+}
+
+/* The removals of a split, and the number of records visited. */
+static void put_split(const given *g, const told *answer) {
+    put_removal(g, &answer->removal, LEFT_IDS);
+    put(", ");
+    put_removal(g, &answer->value, VALUE_IDS);
+    put(", visited %zu", answer->visited);
+}
+
+const char *text_of(const call *c, const given *g, const told *answer) {
+    used = 0;
+    text[0] = 0;
+    if (answer->refusal != 0) put("refused %u", answer->refusal);
+    else if (c->answer == NUMBER) put_number(c, g, answer);
+    else if (c->answer == WHOSE) put("whose %u", answer->which);
+    else if (c->answer == SUM) put_removal(g, &answer->removal, LEFT_IDS);
+    else if (c->answer == SPLIT) put_split(g, answer);
+    else if (!answer->present) put("none");
+    else if (c->answer == FLAGS) put_flags(g, answer);
+    else if (c->answer == MAYBE_OWNER) put("owner %c", letter_of(answer->id.bytes));
+    else {
+        put_head(&answer->head);
+        put(" records %zu", answer->head.records);
+    }
+    return text;
+}
