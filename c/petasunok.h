@@ -49,7 +49,7 @@ extern "C" {
 #define PETASUNOK_SECTIONED_REMOVAL 2
 
 /* Flags without their records, which stand in the first `records` places of two tables. The owner of flags of kinds 0 and 1 is not read,
- * and is zeros in an answer. */
+ * and is zeros in what reading, merging and petasunok_new_single_epoch answer. */
 typedef struct {
     uint8_t kind;
     uint16_t base;
@@ -220,7 +220,7 @@ petasunok_count petasunok_total_removed_bytes(
 /* Flags whose bytes were all paid in one epoch, owned where `owned` is not 0. Never refused. */
 petasunok_head petasunok_new_single_epoch(uint16_t epoch, uint8_t owned, petasunok_id owner);
 
-/* The head with another owner, where it is owned. */
+/* The head with another owner, where it is owned; another head comes back as it is. */
 petasunok_flags petasunok_set_owner_id(petasunok_head head, petasunok_id owner);
 
 /* The epoch of the bytes that no record counts. */

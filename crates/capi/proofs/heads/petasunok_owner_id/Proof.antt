@@ -8,22 +8,10 @@ use borrow.Author.Needs.{needs}
 use Rattle.capi.proofs.heads.petasunok_owner_id.Statement.{statement}
 use Rattle.capi.proofs.heads.petasunok_owner_id.Tie as tie
 
-returns : tie.Need-returns
-returns c =
-    c .owner-id2 .ensures ∙ ap ownerIdTold (when-true _ _ _ (sym (c .before .before .before .before .is-kind .ensures) ∙ c .before .before .before .if1 .taken) (ap (λ (o : MaybeOwner). ok o) (c .before .owner-id .ensures ∙ simp (c .before .before .head .ensures))))
-
-returns-2 : tie.Need-returns-2
-returns-2 c =
-    c .no-owner-id .ensures ∙ ap ownerIdTold (when-false _ _ _ (sym (c .before .before .is-kind .ensures) ∙ c .before .if1 .left) refl)
-
 pub petasunok-owner-id-spec : {M : Type 1} → statement M
 petasunok-owner-id-spec =
     tie.close
-    (tie.spec
+    (tie.spec (λ c κs. search needs) (λ c κs. search needs) (λ c κs. search needs) (λ c κs. search needs)
+    (λ c. c .owner-id2 .ensures ∙ ap ownerIdTold (when-true _ _ _ (sym (c .before .before .before .before .is-kind .ensures) ∙ c .before .before .before .if1 .taken) (ap (λ (o : MaybeOwner). ok o) (c .before .owner-id .ensures ∙ simp (c .before .before .head .ensures)))))
     (λ c κs. search needs)
-    (λ c κs. search needs)
-    (λ c κs. search needs)
-    (λ c κs. search needs)
-    returns
-    (λ c κs. search needs)
-    returns-2)
+    (λ c. c .no-owner-id .ensures ∙ ap ownerIdTold (when-false _ _ _ (sym (c .before .before .is-kind .ensures) ∙ c .before .if1 .left) refl)))

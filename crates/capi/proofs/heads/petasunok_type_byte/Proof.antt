@@ -8,23 +8,10 @@ use borrow.Author.Needs.{needs}
 use Rattle.capi.proofs.heads.petasunok_type_byte.Statement.{statement}
 use Rattle.capi.proofs.heads.petasunok_type_byte.Tie as tie
 
-returns : tie.Need-returns
-returns c =
-    c .count .ensures ∙ ap countTold (when-true _ _ _ (sym (c .before .before .before .before .is-kind .ensures) ∙ c .before .before .before .if1 .taken) (ap (λ (n : ℕ). ok n) (c .before .type-byte .ensures ∙ simp (c .before .before .head .ensures))))
-
-returns-2 : tie.Need-returns-2
-returns-2 c =
-    c .count2 .ensures ∙ ap countTold (when-false _ _ _ (sym (c .before .before .is-kind .ensures) ∙ c .before .if1 .left) refl)
-
 pub petasunok-type-byte-spec : {M : Type 1} → statement M
 petasunok-type-byte-spec =
     tie.close
-    (tie.spec
+    (tie.spec (λ c κs. search needs) (λ c κs. search needs) (λ c κs. search needs) (λ c. search needs) (λ c κs. search needs)
+    (λ c. c .count .ensures ∙ ap countTold (when-true _ _ _ (sym (c .before .before .before .before .is-kind .ensures) ∙ c .before .before .before .if1 .taken) (ap (λ (n : ℕ). ok n) (c .before .type-byte .ensures ∙ simp (c .before .before .head .ensures)))))
     (λ c κs. search needs)
-    (λ c κs. search needs)
-    (λ c κs. search needs)
-    (λ c. search needs)
-    (λ c κs. search needs)
-    returns
-    (λ c κs. search needs)
-    returns-2)
+    (λ c. c .count2 .ensures ∙ ap countTold (when-false _ _ _ (sym (c .before .before .is-kind .ensures) ∙ c .before .if1 .left) refl)))

@@ -6,22 +6,10 @@ use borrow.Author.Needs.{needs}
 use Rattle.capi.proofs.owners.petasunok_combine_owner_id.Statement.{statement}
 use Rattle.capi.proofs.owners.petasunok_combine_owner_id.Tie as tie
 
-returns : tie.Need-returns
-returns c =
-    c .owner .ensures ∙ ap ownerTold (when-true _ _ _ (sym (c .before .before .before .before .is-strategy .ensures) ∙ c .before .before .before .if1 .taken) (c .before .choose-owner-id .ensures ∙ simp (c .before .before .strategy .ensures)))
-
-returns-2 : tie.Need-returns-2
-returns-2 c =
-    c .owner2 .ensures ∙ ap ownerTold (when-false _ _ _ (sym (c .before .before .is-strategy .ensures) ∙ c .before .if1 .left) refl)
-
 pub petasunok-combine-owner-id-spec : {M : Type 1} → statement M
 petasunok-combine-owner-id-spec =
     tie.close
-    (tie.spec
+    (tie.spec (λ c κs. search needs) (λ c κs. search needs) (λ c κs. search needs) (λ c κs. search needs)
+    (λ c. c .owner .ensures ∙ ap ownerTold (when-true _ _ _ (sym (c .before .before .before .before .is-strategy .ensures) ∙ c .before .before .before .if1 .taken) (c .before .choose-owner-id .ensures ∙ simp (c .before .before .strategy .ensures))))
     (λ c κs. search needs)
-    (λ c κs. search needs)
-    (λ c κs. search needs)
-    (λ c κs. search needs)
-    returns
-    (λ c κs. search needs)
-    returns-2)
+    (λ c. c .owner2 .ensures ∙ ap ownerTold (when-false _ _ _ (sym (c .before .before .is-strategy .ensures) ∙ c .before .if1 .left) refl)))

@@ -6,22 +6,10 @@ use borrow.Author.Needs.{needs}
 use Rattle.capi.proofs.removals.petasunok_has_removal.Statement.{statement}
 use Rattle.capi.proofs.removals.petasunok_has_removal.Tie as tie
 
-returns : tie.Need-returns
-returns c =
-    c .has .ensures ∙ ap truthTold (when-true _ _ _ (sym (c .before .before .before .before .is-removal .ensures) ∙ c .before .before .before .if1 .taken) (c .before .has-removal .ensures ∙ simp (c .before .before .removal .ensures)))
-
-returns-2 : tie.Need-returns-2
-returns-2 c =
-    c .has2 .ensures ∙ ap truthTold (when-false _ _ _ (sym (c .before .before .is-removal .ensures) ∙ c .before .if1 .left) refl)
-
 pub petasunok-has-removal-spec : {M : Type 1} → statement M
 petasunok-has-removal-spec =
     tie.close
-    (tie.spec
+    (tie.spec (λ c κs. search needs) (λ c κs. search needs) (λ c κs. search needs) (λ c κs. search needs)
+    (λ c. c .has .ensures ∙ ap truthTold (when-true _ _ _ (sym (c .before .before .before .before .is-removal .ensures) ∙ c .before .before .before .if1 .taken) (c .before .has-removal .ensures ∙ simp (c .before .before .removal .ensures))))
     (λ c κs. search needs)
-    (λ c κs. search needs)
-    (λ c κs. search needs)
-    (λ c κs. search needs)
-    returns
-    (λ c κs. search needs)
-    returns-2)
+    (λ c. c .has2 .ensures ∙ ap truthTold (when-false _ _ _ (sym (c .before .before .is-removal .ensures) ∙ c .before .if1 .left) refl)))

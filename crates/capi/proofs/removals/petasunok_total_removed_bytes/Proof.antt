@@ -6,22 +6,10 @@ use borrow.Author.Needs.{needs}
 use Rattle.capi.proofs.removals.petasunok_total_removed_bytes.Statement.{statement}
 use Rattle.capi.proofs.removals.petasunok_total_removed_bytes.Tie as tie
 
-returns : tie.Need-returns
-returns c =
-    c .total .ensures ∙ ap countTold (when-true _ _ _ (sym (c .before .before .before .before .is-removal .ensures) ∙ c .before .before .before .if1 .taken) (c .before .total-removed-bytes .ensures ∙ simp (c .before .before .removal .ensures)))
-
-returns-2 : tie.Need-returns-2
-returns-2 c =
-    c .total2 .ensures ∙ ap countTold (when-false _ _ _ (sym (c .before .before .is-removal .ensures) ∙ c .before .if1 .left) refl)
-
 pub petasunok-total-removed-bytes-spec : {M : Type 1} → statement M
 petasunok-total-removed-bytes-spec =
     tie.close
-    (tie.spec
+    (tie.spec (λ c κs. search needs) (λ c κs. search needs) (λ c κs. search needs) (λ c κs. search needs)
+    (λ c. c .total .ensures ∙ ap countTold (when-true _ _ _ (sym (c .before .before .before .before .is-removal .ensures) ∙ c .before .before .before .if1 .taken) (c .before .total-removed-bytes .ensures ∙ simp (c .before .before .removal .ensures))))
     (λ c κs. search needs)
-    (λ c κs. search needs)
-    (λ c κs. search needs)
-    (λ c κs. search needs)
-    returns
-    (λ c κs. search needs)
-    returns-2)
+    (λ c. c .total2 .ensures ∙ ap countTold (when-false _ _ _ (sym (c .before .before .is-removal .ensures) ∙ c .before .if1 .left) refl)))

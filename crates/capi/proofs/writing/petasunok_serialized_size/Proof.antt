@@ -6,22 +6,10 @@ use borrow.Author.Needs.{needs}
 use Rattle.capi.proofs.writing.petasunok_serialized_size.Statement.{statement}
 use Rattle.capi.proofs.writing.petasunok_serialized_size.Tie as tie
 
-returns : tie.Need-returns
-returns c =
-    c .count .ensures ∙ ap countTold (when-true _ _ _ (sym (c .before .before .before .before .is-kind .ensures) ∙ c .before .before .before .if1 .taken) (c .before .serialized-size .ensures ∙ simp (c .before .before .head .ensures)))
-
-returns-2 : tie.Need-returns-2
-returns-2 c =
-    c .count2 .ensures ∙ ap countTold (when-false _ _ _ (sym (c .before .before .is-kind .ensures) ∙ c .before .if1 .left) refl)
-
 pub petasunok-serialized-size-spec : {M : Type 1} → statement M
 petasunok-serialized-size-spec =
     tie.close
-    (tie.spec
+    (tie.spec (λ c κs. search needs) (λ c κs. search needs) (λ c κs. search needs) (λ c κs. search needs)
+    (λ c. c .count .ensures ∙ ap countTold (when-true _ _ _ (sym (c .before .before .before .before .is-kind .ensures) ∙ c .before .before .before .if1 .taken) (c .before .serialized-size .ensures ∙ simp (c .before .before .head .ensures))))
     (λ c κs. search needs)
-    (λ c κs. search needs)
-    (λ c κs. search needs)
-    (λ c κs. search needs)
-    returns
-    (λ c κs. search needs)
-    returns-2)
+    (λ c. c .count2 .ensures ∙ ap countTold (when-false _ _ _ (sym (c .before .before .is-kind .ensures) ∙ c .before .if1 .left) refl)))
