@@ -60,13 +60,7 @@ fn of_head(head: &petasunok_head) -> Option<StorageFlags> {
 
 /// One of the five readers.
 fn read(reader: Reader, src: &[u8]) -> Result<Option<StorageFlags>, StorageFlagsError> {
-    match reader {
-        Reader::Any => StorageFlags::deserialize(src),
-        Reader::SingleEpoch => StorageFlags::deserialize_single_epoch(src).map(Some),
-        Reader::MultiEpoch => StorageFlags::deserialize_multi_epoch(src).map(Some),
-        Reader::SingleEpochOwned => StorageFlags::deserialize_single_epoch_owned(src).map(Some),
-        Reader::MultiEpochOwned => StorageFlags::deserialize_multi_epoch_owned(src).map(Some),
-    }
+    crate::read_by!(StorageFlags, reader, src)
 }
 
 /// The adding merge.

@@ -18,6 +18,20 @@ impl Reader {
     }
 }
 
+/// Reads by a reader with the functions of a type that has the original's names.
+#[macro_export]
+macro_rules! read_by {
+    ($flags:ty, $reader:expr, $src:expr) => {
+        match $reader {
+            $crate::question::Reader::Any => <$flags>::deserialize($src),
+            $crate::question::Reader::SingleEpoch => <$flags>::deserialize_single_epoch($src).map(Some),
+            $crate::question::Reader::MultiEpoch => <$flags>::deserialize_multi_epoch($src).map(Some),
+            $crate::question::Reader::SingleEpochOwned => <$flags>::deserialize_single_epoch_owned($src).map(Some),
+            $crate::question::Reader::MultiEpochOwned => <$flags>::deserialize_multi_epoch_owned($src).map(Some),
+        }
+    };
+}
+
 /// All of them.
 pub const READERS: [Reader; 5] = [Reader::Any, Reader::SingleEpoch, Reader::MultiEpoch, Reader::SingleEpochOwned, Reader::MultiEpochOwned];
 

@@ -8,13 +8,7 @@ use grovedb_epoch_based_storage_flags::StorageFlags;
 
 /// What the original reads by one of them.
 pub fn original(reader: Reader, src: &[u8]) -> Result<Option<StorageFlags>, StorageFlagsError> {
-    match reader {
-        Reader::Any => StorageFlags::deserialize(src),
-        Reader::SingleEpoch => StorageFlags::deserialize_single_epoch(src).map(Some),
-        Reader::MultiEpoch => StorageFlags::deserialize_multi_epoch(src).map(Some),
-        Reader::SingleEpochOwned => StorageFlags::deserialize_single_epoch_owned(src).map(Some),
-        Reader::MultiEpochOwned => StorageFlags::deserialize_multi_epoch_owned(src).map(Some),
-    }
+    crate::read_by!(StorageFlags, reader, src)
 }
 
 /// Reads by one of them.
