@@ -180,6 +180,41 @@ fn an_identifier_without_sections() {
     assert_eq!((answer.removal.rows, rows.ids[0], rows.epochs[0], rows.bytes[0]), (1, ZEROS, 65_535, 4));
 }
 
+/// The rows that a sum of ours leaves.
+fn rows_of_sum(ours: Removal, rhs: Removal, version: u16) -> Vec<(Id, u16, u32)> {
+    let Reply::Sum { answer, rows } = boundary::ask(&Question::AddAssign { ours, rhs, version }) else { panic!("a sum answers a sum") };
+    Removal { state: answer.removal, rows }.rows().collect()
+}
+
+#[test]
+fn the_version_is_an_argument() {
+    let row = [(ZEROS, 0, 0)];
+    let both = vec![(ZEROS, 0, 0), (ZEROS, 65_535, 0)];
+    // without a guard the original's version is 0
+    let mut sum = BasicStorageRemoval(0);
+    sum += sections(&[(ZEROS, &[(0, 0)])]);
+    assert_eq!(sum, sections(&[]));
+    let basic = || Removal { rows: row_room(2), ..Removal::basic(0) };
+    assert_eq!(rows_of_sum(basic(), Removal::sectioned(&row), 0), vec![]);
+    assert_eq!(rows_of_sum(basic(), Removal::sectioned(&row), 1), both);
+    // `+`, which is left out here, loses where `+=` does not
+    let (left, right) = (sections(&[(ZEROS, &[(0, 0)])]), BasicStorageRemoval(0));
+    assert_eq!(left.clone() + right.clone(), sections(&[]));
+    let mut sum = left;
+    sum += right;
+    assert_eq!(sum, sections(&[(ZEROS, &[(0, 0), (65_535, 0)])]));
+    let mut ours = Removal { rows: row_room(2), ..Removal::sectioned(&row) };
+    (ours.rows.ids[0], ours.rows.epochs[0], ours.rows.bytes[0]) = row[0];
+    assert_eq!(rows_of_sum(ours, Removal::basic(0), 0), both);
+}
+
+#[test]
+fn numbers_stand_for_texts() {
+    let text = "single epoch must be 3 bytes total".to_string();
+    assert_eq!(StorageFlags::deserialize(&[0, 5]), Err(StorageFlagsError::StorageFlagsWrongSize(text)));
+    assert_eq!(refusal(Question::Read { reader: Reader::Any, src: vec![0, 5], lent: room(0) }), 2);
+}
+
 #[test]
 fn each_is_in_the_list_once() {
     assert_eq!(INTENDED.len(), 8);
