@@ -1,6 +1,7 @@
 -- What the proofs share, and the crates above cite. Assumes nothing.
 pub mod Tables
 pub mod Rising
+pub mod Halving
 pub mod Unions
 pub mod Dropping
 pub mod Proper

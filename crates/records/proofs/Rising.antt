@@ -3,7 +3,7 @@
 use mathlib.Core.Path.{_≡_, refl}
 use mathlib.Core.List.{List, [], _∷_}
 use mathlib.Core.Bool.{true, _&&_, and-eq-true-iff}
-use Prim.Native.Nat.{ℕ, zero, suc, _+_, _≤_, _<_}
+use Prim.Native.Nat.{ℕ, zero, suc, _+_, _≤_, _<_, zero-le, suc-le-suc}
 use native.Mathlib.Numerals.{add-one}
 use native.Mathlib.Omega.{arith}
 use native.Mathlib.Decide.{decLt, ℕ-discrete}
@@ -48,6 +48,15 @@ asc-lower a b [] p h = asc-none a
 asc-lower a b (e ∷ es) p h =
     let q : b < e = asc-head b e es h in
     asc-cons a e es (omega arith) (asc-tail b e es h)
+
+-- every one of them is above what they ascend from
+pub asc-above : (b : ℕ) (es : List ℕ) (i : ℕ) → ascending b es ≡ true → i < length es → b < getD es i 0
+asc-above b [] i h p = absurd (omega arith)
+asc-above b (e ∷ es) zero h p = asc-head b e es h
+asc-above b (e ∷ es) (suc i) h p =
+    let q = asc-head b e es h in
+    let r = asc-above e es i (asc-tail b e es h) (omega arith) in
+    omega arith
 
 pub asc-rises : (b : ℕ) (es : List ℕ) → ascending b es ≡ true → rising es ≡ true
 unfolding rising
@@ -96,17 +105,34 @@ module _ (es : List ℕ) (i : ℕ) where
   pub asc-end : (b : ℕ) → length es ≤ i → ascending b (drop i es) ≡ true
   asc-end b p = rw (drop-of-length-le es {i = i} p) (asc-none b)
 
-  -- ---- the place of an epoch
+-- ---- the place of an epoch
 
-  module _ (e : ℕ) where
-    pub place-here : i < length es → e ≤ getD es i 0 → placeOf e (drop i es) ≡ 0
-    unfolding placeOf
-    place-here p q = rw (drop-next es i p, le-ltb (getD es i 0) e q)
+pub place-within : (e : ℕ) (es : List ℕ) → placeOf e es ≤ length es
+unfolding placeOf
+place-within e [] = zero-le
+place-within e (x ∷ xs) =
+    elim (decLt x e) [
+      | yes p ↦ rw (lt-ltb x e p) (suc-le-suc (place-within e xs))
+      | no p ↦ rw (le-ltb x e (omega arith)) zero-le
+    ]
 
-    pub place-on : i < length es → getD es i 0 < e → placeOf e (drop i es) ≡ suc (placeOf e (drop (i + 1) es))
-    unfolding placeOf
-    place-on p q = rw (drop-next es i p, lt-ltb (getD es i 0) e q)
+-- it is not behind an epoch that is not below
+pub place-upto : (e : ℕ) (es : List ℕ) (i : ℕ) → i < length es → e ≤ getD es i 0 → placeOf e es ≤ i
+unfolding placeOf
+place-upto e [] i p q = absurd (omega arith)
+place-upto e (x ∷ xs) zero p q = rw (le-ltb x e q) zero-le
+place-upto e (x ∷ xs) (suc i) p q =
+    elim (decLt x e) [
+      | yes l ↦ rw (lt-ltb x e l) (suc-le-suc (place-upto e xs i (omega arith) q))
+      | no l ↦ rw (le-ltb x e (omega arith)) zero-le
+    ]
 
-    pub place-end : length es ≤ i → placeOf e (drop i es) ≡ 0
-    unfolding placeOf
-    place-end p = rw (drop-of-length-le es {i = i} p)
+-- in a rising table it is behind every epoch below
+pub place-past : (e : ℕ) (es : List ℕ) (i : ℕ) → rising es ≡ true → i < length es → getD es i 0 < e → i < placeOf e es
+unfolding placeOf
+place-past e [] i h p q = absurd (omega arith)
+place-past e (x ∷ xs) zero h p q = rw (lt-ltb x e q) (suc-le-suc zero-le)
+place-past e (x ∷ xs) (suc i) h p q =
+    let a = asc-of-rises x xs h in
+    let l : x < getD xs i 0 = asc-above x xs i a (omega arith) in
+    rw (lt-ltb x e (omega arith)) (suc-le-suc (place-past e xs i (asc-rises x xs a) (omega arith) q))

@@ -53,19 +53,27 @@ pub fn is_proper(head: Head, epochs: &[u16], counts: &[u32]) -> bool
     false
 }
 
-// The place of an epoch: where its record stands, or where it would stand.
+// The place of an epoch: where its record stands, or where it would stand. It is one of the `left` places from `at` on, or the one
+// behind them, and each look at the middle leaves half of them.
 pub fn find(epochs: &[u16], epoch: u16) -> usize
     requires { ⌜ rising (now epochs) ≡ true ⌝ }
     ensures { λ r. ⌜ r ≡ placeOf epoch (now (epochs .entry)) ⌝ }
 {
-    let mut i: usize = 0;
-    while i < epochs.len() {
-        if epoch <= epochs[i] {
-            return i;
+    let mut at: usize = 0;
+    let mut left = epochs.len();
+    while 1 < left {
+        let half = left / 2;
+        left -= half;
+        if epochs[at + half] < epoch {
+            at += half;
         }
-        i += 1;
     }
-    i
+    if at < epochs.len() {
+        if epochs[at] < epoch {
+            return at + 1;
+        }
+    }
+    at
 }
 
 // What stands around an epoch: how many records are below it, how many are at most there, and the count there, or 0.

@@ -1,37 +1,49 @@
--- `records::table::find` meets its contract: the place in the whole is the number passed and the place in what is left.
+-- `records::table::find` meets its contract: the place stays between the bounds, whichever way a look goes, and the last look tells it.
 -- Assumes nothing.
-use mathlib.Core.Path.{_≡_}
-use Prim.Native.Nat.{_+_, _-_, _≤_}
 use native.Mathlib.Omega.{arith}
-use lib.ListN.{length, drop}
 use borrow.Author.Needs.{needs}
-use Rattle.records.specs.Tables.{placeOf}
-use Rattle.records.proofs.Rising.{place-here, place-on, place-end}
+use Rattle.records.proofs.Halving.{Between, between-start, halved, middle-in, fewer-left, between-up, between-down, done-behind, done-here, done-end}
 use Rattle.records.proofs.table.find.Statement.{statement}
 use Rattle.records.proofs.table.find.Tie as tie
 
 abbrev Inv-loop : tie.InvT-loop
-Inv-loop epochs epoch i₀ i = (i ≤ length epochs) × (placeOf epoch epochs ≡ i + placeOf epoch (drop i epochs))
+Inv-loop epochs epoch at₀ left₀ at left = Between epoch epochs at left
 
 abbrev μ-loop : tie.MeasureT-loop
-μ-loop epochs epoch i₀ i = length epochs - i
+μ-loop epochs epoch at₀ left₀ at left = left
 
-returns : tie.Need-returns Inv-loop μ-loop
-returns c =
-    let a = c .before .before .before .before .args in
-    let i = c .before .before .before .loop .i in
-    omega (arith, place-here (a .epochs .now) i (a .epoch) (c .before .before .loop-test .taken) (c .if1 .taken))
+sub-left : tie.Need-sub-left Inv-loop μ-loop
+sub-left c = omega (arith, halved (c .before .loop .left) .most)
+
+shared-slice-read-if1 : tie.Need-shared-slice-read-if1 Inv-loop μ-loop
+shared-slice-read-if1 c = middle-in (c .before .before .loop .inv) (c .before .loop-test .taken)
+
+loop-less : tie.Need-loop-less Inv-loop μ-loop
+loop-less c = fewer-left (c .before .before .before .loop .inv) (c .before .before .loop-test .taken)
 
 loop-again : tie.Need-loop-again Inv-loop μ-loop
 loop-again c =
-    let a = c .before .before .before .before .args in
-    let i = c .before .before .before .loop .i in
-    omega (arith, place-on (a .epochs .now) i (a .epoch) (c .before .before .loop-test .taken) (c .if1 .left))
+    let l = c .before .before .before in
+    between-up (l .loop .inv) (c .before .before .loop-test .taken) (l .before .pre) (c .if1 .taken)
+
+loop-less-2 : tie.Need-loop-less-2 Inv-loop μ-loop
+loop-less-2 c = fewer-left (c .before .before .before .loop .inv) (c .before .before .loop-test .taken)
+
+loop-again-2 : tie.Need-loop-again-2 Inv-loop μ-loop
+loop-again-2 c = between-down (c .before .before .before .loop .inv) (c .before .before .loop-test .taken) (c .if1 .left)
+
+returns : tie.Need-returns Inv-loop μ-loop
+returns c =
+    let l = c .before .before .before .before in
+    done-behind (l .loop .inv) (c .before .before .before .loop-test .left) (l .before .pre) (c .before .before .if2 .taken) (c .if3 .taken)
 
 returns-2 : tie.Need-returns-2 Inv-loop μ-loop
 returns-2 c =
-    let a = c .before .before .args in
-    omega (arith, place-end (a .epochs .now) (c .before .loop .i) (a .epoch) (c .loop-test .left))
+    let l = c .before .before .before .before in
+    done-here (l .loop .inv) (c .before .before .before .loop-test .left) (c .before .before .if2 .taken) (c .if3 .left)
+
+returns-3 : tie.Need-returns-3 Inv-loop μ-loop
+returns-3 c = done-end (c .before .before .loop .inv) (c .before .loop-test .left) (c .if2 .left)
 
 pub find-spec : {M : Type 1} → statement M
 find-spec =
@@ -39,11 +51,19 @@ find-spec =
     (tie.spec
     Inv-loop
     μ-loop
+    (λ c. between-start)
+    sub-left
+    (λ c. search needs)
+    (λ c. search needs)
+    shared-slice-read-if1
+    (λ c. search needs)
+    loop-less
+    loop-again
+    loop-less-2
+    loop-again-2
     (λ c. search needs)
     (λ c. search needs)
     (λ c. search needs)
     returns
-    (λ c. search needs)
-    (λ c. search needs)
-    loop-again
-    returns-2)
+    returns-2
+    returns-3)
