@@ -9,8 +9,8 @@ const USAGE: &str = "\
 usage: lookup [--rounds N]
        lookup once RECORDS ORDER
 
-Measures the walk and the halving at 8, 64, 1,024 and 16,384 records, N rounds of both in turn. `once` asks every question once of both and
-compares the answers; it is what valgrind counts the instructions of. ORDER is `scattered` or `ascending`.";
+Measures the walk and the halving at 8, 64, 1,024 and 16,384 records, N rounds of both in turn. `once` asks some questions of both, one
+time each, and compares the answers; valgrind counts its instructions. RECORDS is 1 to 65536, ORDER `scattered` or `ascending`.";
 
 /// How many records the tables have.
 const SIZES: [usize; 4] = [8, 64, 1_024, 16_384];
@@ -20,7 +20,7 @@ const ROUNDS: usize = 31;
 
 /// How many questions one round asks, and how many are asked where instructions are counted.
 const ASKED: usize = 16_384;
-const COUNTED: usize = 1_024;
+const COUNTED: usize = 256;
 
 extern "C" {
     fn lookup_walk(epochs: *const u16, len: usize, epoch: u16) -> usize;
@@ -60,7 +60,11 @@ impl Order {
         match self {
             // an odd factor: no epoch comes twice, and neighbours lie far apart
             Order::Scattered => (0..asked).map(|k| (k * 40_503 % 65_536) as u16).collect(),
-            Order::Ascending => epochs.iter().copied().cycle().take(asked).collect(),
+            // of a table with more epochs than questions, some of all parts
+            Order::Ascending => {
+                let step = (epochs.len() / asked).max(1);
+                epochs.iter().copied().step_by(step).cycle().take(asked).collect()
+            }
         }
     }
 }
@@ -70,33 +74,34 @@ fn table(records: usize) -> Vec<u16> {
     (0..records).map(|k| ((2 * k + 1) * 65_536 / (2 * records)) as u16).collect()
 }
 
-/// Asks each question of both, and compares the answers with what the standard library says.
-fn once(records: usize, order: Order) -> Result<(), String> {
+/// Asks each question of both, compares the answers with what the standard library says, and gives how many there were.
+fn once(records: usize, order: Order) -> Result<usize, String> {
     let epochs = table(records);
-    for epoch in order.questions(&epochs, COUNTED) {
+    let questions = order.questions(&epochs, COUNTED);
+    for &epoch in &questions {
         let right = epochs.partition_point(|other| *other < epoch);
         let (walked, halved) = (walk(&epochs, epoch), halves(&epochs, epoch));
         if (walked, halved) != (right, right) {
             return Err(format!("{records} records, epoch {epoch}: the walk says {walked}, the halving {halved}, and it is {right}"));
         }
     }
-    Ok(())
+    Ok(questions.len())
 }
 
 /// A line of the report.
 fn measure(records: usize, order: Order, rounds: usize) -> Result<String, String> {
-    once(records, order)?;
+    let asked = once(records, order)?;
     let epochs = table(records);
     let questions = order.questions(&epochs, ASKED);
     let ask = |find: fn(&[u16], u16) -> usize| {
-        for epoch in &questions {
-            black_box(find(&epochs, *epoch));
+        for &epoch in &questions {
+            black_box(find(&epochs, epoch));
         }
     };
     let [walked, halved] = interleaved(rounds, [&|| ask(walk), &|| ask(halves)]);
     let arguments = ["once", &records.to_string(), order.name()];
     let counts = callgrind::instructions(&arguments, ["lookup_walk", "lookup_halves"])?;
-    let [walk_count, halves_count] = counts.map(|count| count as f64 / COUNTED as f64);
+    let [walk_count, halves_count] = counts.map(|count| count as f64 / asked as f64);
     Ok(format!(
         "| {records} | {} | {walk_count:.0} | {halves_count:.0} | {:.2} | {:.1} | {:.1} | {:.2} | {:.2} |",
         order.name(),
@@ -131,7 +136,7 @@ fn run(arguments: &[&str]) -> Result<(), String> {
             _ => Err(format!("{rounds} is no number of rounds")),
         },
         ["once", records, order] => match (records.parse(), Order::ALL.into_iter().find(|known| known.name() == *order)) {
-            (Ok(records @ 1..=65_536), Some(order)) => once(records, order),
+            (Ok(records @ 1..=65_536), Some(order)) => once(records, order).map(|asked| println!("asked {asked}")),
             _ => Err(USAGE.into()),
         },
         _ => Err(USAGE.into()),
