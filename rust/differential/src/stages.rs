@@ -10,6 +10,10 @@ use crate::short_strings;
 /// The most records or rows on a side of a random question.
 const MOST: usize = 40;
 
+/// Every so many rounds the tables may be as long as those of elements that live long.
+const LONG: u64 = 16;
+const MOST_OF_LONG: usize = 1_000;
+
 /// A history comes every so many rounds.
 const HISTORY: u64 = 8;
 
@@ -31,8 +35,9 @@ fn random_rounds(run: &mut Run, rounds: u64, seed: u64) {
             return;
         }
         run.progress.stage(format!("round {} of {rounds}", round + 1));
+        let most = if round % LONG == 0 { MOST_OF_LONG } else { MOST };
         for randomly in RANDOMLY {
-            run.compare(&randomly(&mut random, MOST));
+            run.compare(&randomly(&mut random, most));
         }
         if round % HISTORY == 0 && run.has_histories() {
             histories::history(run, &mut random, MOST / 4);
