@@ -29,11 +29,13 @@ extern "C" {
 
 /// The place of an epoch in rising epochs, by a walk.
 fn walk(epochs: &[u16], epoch: u16) -> usize {
+    // SAFETY: pointer and length are a slice's, and the tables made here rise, which is all that the contract asks for
     unsafe { lookup_walk(epochs.as_ptr(), epochs.len(), epoch) }
 }
 
 /// The same by halves.
 fn halves(epochs: &[u16], epoch: u16) -> usize {
+    // SAFETY: as above
     unsafe { lookup_halves(epochs.as_ptr(), epochs.len(), epoch) }
 }
 
@@ -131,6 +133,10 @@ fn report(rounds: usize) -> Result<(), String> {
 fn run(arguments: &[&str]) -> Result<(), String> {
     match arguments {
         [] => report(ROUNDS),
+        ["--help"] => {
+            println!("{USAGE}");
+            Ok(())
+        }
         ["--rounds", rounds] => match rounds.parse() {
             Ok(rounds) if rounds > 0 => report(rounds),
             _ => Err(format!("{rounds} is no number of rounds")),
