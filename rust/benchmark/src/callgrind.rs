@@ -3,7 +3,7 @@ use std::env;
 use std::fs;
 use std::process::{Command, Stdio};
 
-/// Runs this program once more under callgrind with some arguments, and gives the instructions within each of the functions named.
+/// Runs this program once more under callgrind with some arguments, and gives the instructions of each function named, with those of its calls.
 pub fn instructions<const N: usize>(arguments: &[&str], functions: [&str; N]) -> Result<[u64; N], String> {
     let program = env::current_exe().map_err(|error| format!("this program is not found: {error}"))?;
     let file = env::temp_dir().join(format!("callgrind.{}", std::process::id()));
@@ -21,7 +21,7 @@ pub fn instructions<const N: usize>(arguments: &[&str], functions: [&str; N]) ->
     Ok(functions.map(|name| counted(&report, name)))
 }
 
-/// The instructions of one function in callgrind's report: the last numbers of the lines between its name and the next.
+/// The instructions of one function in callgrind's report: the second numbers of the lines between its name and the next.
 fn counted(report: &str, function: &str) -> u64 {
     let heading = format!("fn={function}");
     let mut within = false;
