@@ -1,7 +1,8 @@
--- From version 1 on a sum keeps the exact total wherever nothing saturates. For a row added, for rows joined, then for removals.
+-- From version 1 on a sum keeps the exact total wherever nothing saturates; at every version it is never more. For a row added, for rows
+-- joined, then for removals.
 -- Assumes nothing.
 use mathlib.Core.Path.{_≡_, refl, sym, ap, _∙_}
-use mathlib.Core.Bool.{true, cond, and-eq-true-iff}
+use mathlib.Core.Bool.{Bool, true, false, cond, and-eq-true-iff}
 use mathlib.Core.List.{List, [], _∷_}
 use Prim.Native.Nat.{ℕ, _+_, _≤_}
 use native.Mathlib.Omega.{arith}
@@ -15,7 +16,7 @@ use Rattle.rows.specs.declared.order.Order.the-variants.{Less, Equal, Greater}
 use Rattle.rows.proofs.Rows.{asc-tail}
 use Rattle.rows.proofs.Removals.{total-cons, total-none}
 use Rattle.sums.specs.Joins.{plus, addRow, joined}
-use Rattle.sums.specs.Sums.{unknown, sum, isEqual, bytesAt, fits, exact}
+use Rattle.sums.specs.Sums.{unknown, ofZeros, anyOfZeros, withoutZeros, basicPlus, sum, isEqual, bytesAt, fits, exact}
 use Rattle.sums.proofs.Adding.{add-cases, add-none, right-same}
 use Rattle.sums.proofs.Joining.{AllAfter, all-after}
 use Rattle.sums.proofs.Losing.{basic-later}
@@ -84,3 +85,48 @@ sum-exact v h (basic m) (sectioned ys) p e = ap totalRows (basic-later v m ys h)
 sum-exact v h (sectioned xs) nothing p e = omega arith
 sum-exact v h (sectioned xs) (basic n) p e = let t = total-added (unknown n) xs (fits-first (unknown n) [] xs e .0) in omega arith
 sum-exact v h (sectioned xs) (sectioned ys) p e = total-joined xs ys p e
+
+-- ---- never more than was added
+
+most-added : (r : Row) (l : List Row) → totalRows (addRow r l) ≤ r .part .bytes + totalRows l
+most-added r [] = omega (arith, ap totalRows (add-none r), total-cons r [])
+most-added r (b ∷ l) =
+    let t = total-cons b l in
+    let ih = most-added r l in
+    add-cases (λ (m : List Row). totalRows m ≤ r .part .bytes + totalRows (b ∷ l)) r b l
+    (λ e. omega (arith, total-cons r (b ∷ l)))
+    (λ e. let p = total-cons (plus r b) l in omega arith)
+    (λ e. let p = total-cons b (addRow r l) in omega arith)
+
+most-joined : (xs ys : List Row) → totalRows (joined xs ys) ≤ totalRows xs + totalRows ys
+unfolding joined
+most-joined [] ys = omega (arith, total-none)
+most-joined (x ∷ xs) ys = omega (arith, most-joined xs ys, most-added x (joined xs ys), total-cons x xs)
+
+most-without : (l : List Row) → totalRows (withoutZeros l) ≤ totalRows l
+unfolding withoutZeros
+most-without [] = omega arith
+most-without (b ∷ l) = go (ofZeros b) (most-without l)
+  where
+    go : (z : Bool) → totalRows (withoutZeros l) ≤ totalRows l → totalRows (cond z (withoutZeros l) (b ∷ withoutZeros l)) ≤ totalRows (b ∷ l)
+    go true h = omega (arith, total-cons b l)
+    go false h = omega (arith, total-cons b l, total-cons b (withoutZeros l))
+
+most-basic : (v m : ℕ) (l : List Row) → totalRows (basicPlus v m l) ≤ m + totalRows l
+unfolding basicPlus
+most-basic v m l = go (leb 1 v) (anyOfZeros l)
+  where
+    go : (p q : Bool) → totalRows (cond p (addRow (unknown m) l) (cond q (withoutZeros l) (addRow (unknown m) l))) ≤ m + totalRows l
+    go true q = most-added (unknown m) l
+    go false true = omega (arith, most-without l)
+    go false false = most-added (unknown m) l
+
+-- AT EVERY VERSION A SUM IS AT MOST WHAT WAS ADDED, saturated or not
+pub sum-most : (v : ℕ) (x y : Removal) → total (sum v x y) ≤ total x + total y
+sum-most v nothing y = omega arith
+sum-most v (basic m) nothing = omega arith
+sum-most v (basic m) (basic n) = omega arith
+sum-most v (basic m) (sectioned ys) = most-basic v m ys
+sum-most v (sectioned xs) nothing = omega arith
+sum-most v (sectioned xs) (basic n) = omega (arith, most-added (unknown n) xs)
+sum-most v (sectioned xs) (sectioned ys) = most-joined xs ys

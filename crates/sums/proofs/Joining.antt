@@ -1,4 +1,4 @@
--- Rows joined: in any order, never shorter than either side, ascending; and from the back, by the last rows of both sides.
+-- Rows joined: in any order and grouping, never shorter than either side, ascending; and from the back, by the last rows of both sides.
 -- Assumes nothing.
 use mathlib.Core.Path.{_≡_, refl, sym, ap, _∙_}
 use mathlib.Core.Bool.{true}
@@ -32,6 +32,17 @@ joined-add-right r (x ∷ xs) ys = ap (addRow x) (joined-add-right r xs ys) ∙ 
 pub joined-one : (r : Row) (xs : List Row) → ascends xs ≡ true → joined xs (r ∷ []) ≡ addRow r xs
 joined-one r xs s = ap (joined xs) (sym (add-none r)) ∙ joined-add-right r xs [] ∙ ap (addRow r) (joined-none xs s)
 
+-- a row more on the left
+pub joined-add : (r : Row) (xs ys : List Row) → joined (addRow r xs) ys ≡ addRow r (joined xs ys)
+unfolding joined
+joined-add r [] ys = ap (λ (l : List Row). joined l ys) (add-none r)
+joined-add r (x ∷ xs) ys =
+    let ih = joined-add r xs ys in
+    add-cases (λ (l : List Row). joined l ys ≡ addRow r (addRow x (joined xs ys))) r x xs
+    (λ e. refl)
+    (λ e. sym (add-fused r x (joined xs ys) e))
+    (λ e. ap (addRow x) ih ∙ add-comm x r (joined xs ys))
+
 -- JOINS COMMUTE
 pub joined-comm : (xs ys : List Row) → ascends xs ≡ true → ascends ys ≡ true → joined xs ys ≡ joined ys xs
 unfolding joined
@@ -39,6 +50,12 @@ joined-comm [] ys s t = sym (joined-none ys t)
 joined-comm (x ∷ xs) ys s t =
     ap (addRow x) (joined-comm xs ys (asc-tail x xs s) t)
     ∙ sym (ap (joined ys) (sym (add-before x xs (asc-before x xs s))) ∙ joined-add-right x ys xs)
+
+-- JOINS ASSOCIATE
+pub joined-assoc : (xs ys zs : List Row) → joined (joined xs ys) zs ≡ joined xs (joined ys zs)
+unfolding joined
+joined-assoc [] ys zs = refl
+joined-assoc (x ∷ xs) ys zs = joined-add x (joined xs ys) zs ∙ ap (addRow x) (joined-assoc xs ys zs)
 
 pub joined-ascends : (xs ys : List Row) → ascends ys ≡ true → ascends (joined xs ys) ≡ true
 unfolding joined

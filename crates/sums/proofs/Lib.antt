@@ -6,6 +6,8 @@ pub mod Losing
 pub mod Answering
 pub mod Basics
 pub mod Exact
+pub mod AnyOrder
+pub mod VersionZero
 pub mod Reading
 pub mod Only
 pub mod Marked

@@ -1,3 +1,4 @@
 pub mod Joins
 pub mod Sums
 pub mod Calls
+pub mod AnyOrder
