@@ -16,10 +16,10 @@ use Rattle.rows.specs.declared.order.Order.the-variants.{Less, Equal, Greater}
 use Rattle.rows.proofs.Rows.{asc-tail}
 use Rattle.rows.proofs.Removals.{total-cons, total-none}
 use Rattle.sums.specs.Joins.{plus, addRow, joined}
-use Rattle.sums.specs.Sums.{unknown, ofZeros, anyOfZeros, withoutZeros, basicPlus, sum, isEqual, bytesAt, fits, exact}
+use Rattle.sums.specs.Sums.{unknown, ofZeros, withoutZeros, sum, isEqual, bytesAt, fits, exact}
 use Rattle.sums.proofs.Adding.{add-cases, add-none, right-same}
 use Rattle.sums.proofs.Joining.{AllAfter, all-after}
-use Rattle.sums.proofs.Losing.{basic-later}
+use Rattle.sums.proofs.Losing.{basic-later, basic-cases}
 
 -- ---- the bytes at a row's pair
 
@@ -112,21 +112,13 @@ most-without (b ∷ l) = go (ofZeros b) (most-without l)
     go true h = omega (arith, total-cons b l)
     go false h = omega (arith, total-cons b l, total-cons b (withoutZeros l))
 
-most-basic : (v m : ℕ) (l : List Row) → totalRows (basicPlus v m l) ≤ m + totalRows l
-unfolding basicPlus
-most-basic v m l = go (leb 1 v) (anyOfZeros l)
-  where
-    go : (p q : Bool) → totalRows (cond p (addRow (unknown m) l) (cond q (withoutZeros l) (addRow (unknown m) l))) ≤ m + totalRows l
-    go true q = most-added (unknown m) l
-    go false true = omega (arith, most-without l)
-    go false false = most-added (unknown m) l
-
 -- AT EVERY VERSION A SUM IS AT MOST WHAT WAS ADDED, saturated or not
 pub sum-most : (v : ℕ) (x y : Removal) → total (sum v x y) ≤ total x + total y
 sum-most v nothing y = omega arith
 sum-most v (basic m) nothing = omega arith
 sum-most v (basic m) (basic n) = omega arith
-sum-most v (basic m) (sectioned ys) = most-basic v m ys
+sum-most v (basic m) (sectioned ys) =
+    basic-cases (λ (l : List Row). totalRows l ≤ m + totalRows ys) v m ys (most-added (unknown m) ys) (omega (arith, most-without ys))
 sum-most v (sectioned xs) nothing = omega arith
 sum-most v (sectioned xs) (basic n) = omega (arith, most-added (unknown n) xs)
 sum-most v (sectioned xs) (sectioned ys) = most-joined xs ys

@@ -117,21 +117,36 @@ module _ {n : ℕ} {t : Tables} (p : Proper n t) (k : ℕ) (w : Losing (rowsIn n
   unfolding withoutZeros anyOfZeros
   losing-end g h = record { within = g; others = w .others ∙ rw (rows-end (p .room) k h); some-lost = w .some-lost ∙ rw (rows-end (p .room) k h) (or-false (ltb 0 k)) }
 
--- ---- a basic number plus rows, by the version and by how many are lost
+-- ---- a basic number plus rows
 
 pub basic-later : (v n : ℕ) (rs : List Row) → 1 ≤ v → basicPlus v n rs ≡ addRow (unknown n) rs
 unfolding basicPlus
 basic-later v n rs h = rw (le-leb 1 v h)
 
+-- either the number's row is added, or rows are lost
+pub basic-cases : (P : List Row → Type 0) (v n : ℕ) (rs : List Row) → P (addRow (unknown n) rs) → P (withoutZeros rs) → P (basicPlus v n rs)
+unfolding basicPlus
+basic-cases P v n rs made lost = go (leb _ v) (anyOfZeros rs)
+  where
+    go : (later any : Bool) → P (cond later (addRow (unknown n) rs) (cond any (withoutZeros rs) (addRow (unknown n) rs)))
+    go true any = made
+    go false true = lost
+    go false false = made
+
+-- where no row has the zero identifier, none is lost
+pub basic-whole : (v n : ℕ) (rs : List Row) → anyOfZeros rs ≡ false → basicPlus v n rs ≡ addRow (unknown n) rs
+unfolding basicPlus
+basic-whole v n rs h = rw h (either (leb _ v))
+  where
+    either : (later : Bool) → cond later (addRow (unknown n) rs) (addRow (unknown n) rs) ≡ addRow (unknown n) rs
+    either true = refl
+    either false = refl
+
+-- by the version and by how many are lost
 module _ (v n : ℕ) {rs : List Row} {m k : ℕ} (l : Lost rs m k) where
   pub basic-made : k ≤ 0 → basicPlus v n rs ≡ addRow (unknown n) rs
-  unfolding basicPlus
-  basic-made h = rw (l .some-lost, le-ltb 0 k h) (same-made (leb 1 v))
-    where
-      same-made : (b : Bool) → cond b (addRow (unknown n) rs) (addRow (unknown n) rs) ≡ addRow (unknown n) rs
-      same-made true = refl
-      same-made false = refl
+  basic-made h = basic-whole v n rs (l .some-lost ∙ le-ltb 0 k h)
 
-  pub basic-lost : v ≡ 0 → 0 < k → basicPlus v n rs ≡ drop k rs
+  pub basic-lost : v < 1 → 0 < k → basicPlus v n rs ≡ drop k rs
   unfolding basicPlus
-  basic-lost e h = rw (lt-leb 1 v (omega arith), l .some-lost, lt-ltb 0 k h) (l .others)
+  basic-lost e h = rw (lt-leb 1 v e, l .some-lost, lt-ltb 0 k h) (l .others)

@@ -4,7 +4,6 @@ use mathlib.Core.Path.{_≡_, refl, sym, ap, _∙_}
 use mathlib.Core.Bool.{Bool, true, false, cond, _&&_}
 use mathlib.Core.List.{List, [], _∷_}
 use Prim.Native.Nat.{ℕ}
-use lib.Dec.{leb}
 use lib.ListN.{length}
 use Rattle.records.specs.Answers.{Answer, ok}
 use Rattle.records.proofs.Answers.{refused-not-ok}
@@ -15,11 +14,11 @@ use Rattle.rows.specs.declared.removed.Removed.{Removed}
 use Rattle.rows.specs.declared.removed.Removed.the-variants.{None, Basic, Sectioned}
 use Rattle.rows.proofs.Rows.{Before, asc-none, asc-before, asc-tail, asc-cons, proper-rows}
 use Rattle.rows.proofs.Over.{removal-over, proper-over}
-use Rattle.sums.specs.Joins.{addRow}
-use Rattle.sums.specs.Sums.{unknown, ofZeros, anyOfZeros, withoutZeros, basicPlus, sum}
+use Rattle.sums.specs.Sums.{unknown, ofZeros, withoutZeros, sum}
 use Rattle.sums.specs.Calls.{After, kept, placing, summed}
 use Rattle.sums.proofs.Adding.{less-trans, add-ascends}
 use Rattle.sums.proofs.Joining.{joined-ascends}
+use Rattle.sums.proofs.Losing.{basic-cases}
 
 -- ---- a sum of ascending rows ascends, at every version
 
@@ -45,21 +44,12 @@ without-ascends (b ∷ l) s = go (ofZeros b) (without-ascends l (asc-tail b l s)
     go true k = k
     go false k = asc-cons b (withoutZeros l) (before-without b l (asc-tail b l s) (asc-before b l s)) k
 
-basic-ascends : (v n : ℕ) (l : List Row) → ascends l ≡ true → ascends (basicPlus v n l) ≡ true
-unfolding basicPlus
-basic-ascends v n l s = go (leb 1 v) (anyOfZeros l)
-  where
-    go : (p q : Bool) → ascends (cond p (addRow (unknown n) l) (cond q (withoutZeros l) (addRow (unknown n) l))) ≡ true
-    go true q = add-ascends (unknown n) l s
-    go false true = without-ascends l s
-    go false false = add-ascends (unknown n) l s
-
 -- A SUM OF PROPER REMOVALS IS PROPER
 pub sum-ascends : (v : ℕ) (x y : Removal) → ascends (rowsOfRemoval x) ≡ true → ascends (rowsOfRemoval y) ≡ true → ascends (rowsOfRemoval (sum v x y)) ≡ true
 sum-ascends v nothing y p q = q
 sum-ascends v (basic m) nothing p q = p
 sum-ascends v (basic m) (basic n) p q = p
-sum-ascends v (basic m) (sectioned ys) p q = basic-ascends v m ys q
+sum-ascends v (basic m) (sectioned ys) p q = basic-cases (λ (l : List Row). ascends l ≡ true) v m ys (add-ascends (unknown m) ys q) (without-ascends ys q)
 sum-ascends v (sectioned xs) nothing p q = p
 sum-ascends v (sectioned xs) (basic n) p q = add-ascends (unknown n) xs p
 sum-ascends v (sectioned xs) (sectioned ys) p q = joined-ascends xs ys q

@@ -1,19 +1,19 @@
 -- Request (ix) at version 0: for each law that breaks a smallest example, by computation, and what shows that none is smaller.
 -- Assumes nothing.
 use mathlib.Core.Path.{_≡_, refl, sym, ap, _∙_}
-use mathlib.Core.Bool.{Bool, true, false, cond}
+use mathlib.Core.Bool.{true, false}
 use mathlib.Core.List.{List, [], _∷_}
 use Prim.Native.Nat.{ℕ, _+_}
 use native.Mathlib.Omega.{arith}
-use lib.Dec.{leb}
 use Rattle.records.specs.Flags.{zeros, same}
 use Rattle.rows.specs.Order.{order}
-use Rattle.rows.specs.Rows.{Row, row, ascends}
+use Rattle.rows.specs.Rows.{row}
 use Rattle.rows.specs.Removals.{Removal, nothing, basic, sectioned, rowsOfRemoval, totalRows, total}
 use Rattle.rows.proofs.Rows.{asc-none, asc-cons}
 use Rattle.sums.specs.Joins.{addRow}
 use Rattle.sums.specs.Sums.{unknown, anyOfZeros, withoutZeros, basicPlus, sum, bytesAt, fits, exact}
 use Rattle.sums.specs.AnyOrder.{ProperRemoval, Commutative, Associative, ExactTotal}
+use Rattle.sums.proofs.Losing.{basic-whole}
 use Rattle.sums.proofs.Exact.{sum-exact}
 use Rattle.sums.proofs.AnyOrder.{sum-comm}
 
@@ -68,18 +68,10 @@ not-exact law =
 
 -- where the right one has no row of the zero identifier, the version does not matter
 pub same-version : (v : ℕ) (x y : Removal) → anyOfZeros (rowsOfRemoval y) ≡ false → sum v x y ≡ sum 1 x y
-unfolding basicPlus
 same-version v nothing y h = refl
 same-version v (basic m) nothing h = refl
 same-version v (basic m) (basic n) h = refl
-same-version v (basic m) (sectioned ys) h = ap sectioned (made v ∙ sym (made 1))
-  where
-    either : (b : Bool) → cond b (addRow (unknown m) ys) (addRow (unknown m) ys) ≡ addRow (unknown m) ys
-    either true = refl
-    either false = refl
-
-    made : (w : ℕ) → basicPlus w m ys ≡ addRow (unknown m) ys
-    made w = rw h (either (leb 1 w))
+same-version v (basic m) (sectioned ys) h = ap sectioned (basic-whole v m ys h ∙ sym (basic-whole 1 m ys h))
 same-version v (sectioned xs) nothing h = refl
 same-version v (sectioned xs) (basic n) h = refl
 same-version v (sectioned xs) (sectioned ys) h = refl
