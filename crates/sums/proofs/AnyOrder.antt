@@ -15,6 +15,7 @@ use Rattle.sums.proofs.Adding.{add-comm, add-fused}
 use Rattle.sums.proofs.Joining.{joined-add, joined-add-right, joined-comm, joined-assoc}
 use Rattle.sums.proofs.Losing.{basic-later}
 use Rattle.sums.proofs.Exact.{sum-exact}
+use Rattle.sums.proofs.Saturated.{sum-less}
 
 -- NONE IS NEUTRAL, AT EVERY VERSION
 pub none-neutral : (v : ℕ) → NeutralNone v
@@ -73,4 +74,5 @@ module _ (v : ℕ) (h : 1 ≤ v) where
         associative = λ x y z p q r. sum-assoc x y z;
         neutral = none-neutral v;
         exact-total = λ x y p q e. sum-exact v h x y p e;
+        saturated-total = sum-less v;
       }

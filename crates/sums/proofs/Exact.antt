@@ -9,10 +9,13 @@ use native.Mathlib.Omega.{arith}
 use lib.Dec.{leb}
 use borrow.Author.Tests.{leb-true}
 use Rattle.fields.specs.Varint.{largest}
+use Rattle.records.specs.Flags.{zeros, same}
+use Rattle.records.proofs.Owners.{same-self}
 use Rattle.rows.specs.Rows.{Row, compared, ascends}
 use Rattle.rows.specs.Removals.{Removal, nothing, basic, sectioned, rowsOfRemoval, totalRows, total}
 use Rattle.rows.specs.declared.order.Order.{Order}
 use Rattle.rows.specs.declared.order.Order.the-variants.{Less, Equal, Greater}
+use Rattle.rows.proofs.Comparing.{compared-same}
 use Rattle.rows.proofs.Rows.{asc-tail}
 use Rattle.rows.proofs.Removals.{total-cons, total-none}
 use Rattle.sums.specs.Joins.{plus, addRow, joined}
@@ -23,7 +26,7 @@ use Rattle.sums.proofs.Losing.{basic-later, basic-cases}
 
 -- ---- the bytes at a row's pair
 
-bytes-at : (r b : Row) (l : List Row) (o : Order) → compared r b ≡ o → bytesAt r (b ∷ l) ≡ cond (isEqual o) (b .part .bytes) (bytesAt r l)
+pub bytes-at : (r b : Row) (l : List Row) (o : Order) → compared r b ≡ o → bytesAt r (b ∷ l) ≡ cond (isEqual o) (b .part .bytes) (bytesAt r l)
 unfolding bytesAt
 bytes-at r b l o e = ap (λ (p : Order). cond (isEqual p) (b .part .bytes) (bytesAt r l)) e
 
@@ -41,7 +44,7 @@ bytes-behind x a (b ∷ l) e =
     kept x b l m e =
         bytes-at x b m (compared x b) refl ∙ ap (cond (isEqual (compared x b)) (b .part .bytes)) e ∙ sym (bytes-at x b l (compared x b) refl)
 
-bytes-joined : (x : Row) (xs ys : List Row) → AllAfter x xs → bytesAt x (joined xs ys) ≡ bytesAt x ys
+pub bytes-joined : (x : Row) (xs ys : List Row) → AllAfter x xs → bytesAt x (joined xs ys) ≡ bytesAt x ys
 unfolding joined
 bytes-joined x [] ys h = refl
 bytes-joined x (a ∷ xs) ys h = bytes-behind x a (joined xs ys) (h .0) ∙ bytes-joined x xs ys (h .1)
@@ -88,7 +91,7 @@ sum-exact v h (sectioned xs) (sectioned ys) p e = total-joined xs ys p e
 
 -- ---- never more than was added
 
-most-added : (r : Row) (l : List Row) → totalRows (addRow r l) ≤ r .part .bytes + totalRows l
+pub most-added : (r : Row) (l : List Row) → totalRows (addRow r l) ≤ r .part .bytes + totalRows l
 most-added r [] = omega (arith, ap totalRows (add-none r), total-cons r [])
 most-added r (b ∷ l) =
     let t = total-cons b l in
@@ -98,19 +101,29 @@ most-added r (b ∷ l) =
     (λ e. let p = total-cons (plus r b) l in omega arith)
     (λ e. let p = total-cons b (addRow r l) in omega arith)
 
-most-joined : (xs ys : List Row) → totalRows (joined xs ys) ≤ totalRows xs + totalRows ys
+pub most-joined : (xs ys : List Row) → totalRows (joined xs ys) ≤ totalRows xs + totalRows ys
 unfolding joined
 most-joined [] ys = omega (arith, total-none)
 most-joined (x ∷ xs) ys = omega (arith, most-joined xs ys, most-added x (joined xs ys), total-cons x xs)
 
-most-without : (l : List Row) → totalRows (withoutZeros l) ≤ totalRows l
-unfolding withoutZeros
-most-without [] = omega arith
-most-without (b ∷ l) = go (ofZeros b) (most-without l)
+-- what is lost at version 0 has the bytes at a number's pair
+pub most-without : (n : ℕ) (l : List Row) → totalRows (withoutZeros l) + bytesAt (unknown n) l ≤ totalRows l
+unfolding withoutZeros bytesAt
+most-without n [] = omega arith
+most-without n (b ∷ l) = go (compared (unknown n) b) refl (most-without n l)
   where
-    go : (z : Bool) → totalRows (withoutZeros l) ≤ totalRows l → totalRows (cond z (withoutZeros l) (b ∷ withoutZeros l)) ≤ totalRows (b ∷ l)
-    go true h = omega (arith, total-cons b l)
-    go false h = omega (arith, total-cons b l, total-cons b (withoutZeros l))
+    others : (z : Bool) → totalRows (withoutZeros l) + bytesAt (unknown n) l ≤ totalRows l
+        → totalRows (cond z (withoutZeros l) (b ∷ withoutZeros l)) + bytesAt (unknown n) l ≤ totalRows (b ∷ l)
+    others true h = omega (arith, total-cons b l)
+    others false h = omega (arith, total-cons b l, total-cons b (withoutZeros l))
+
+    go : (o : Order) → compared (unknown n) b ≡ o → totalRows (withoutZeros l) + bytesAt (unknown n) l ≤ totalRows l
+        → totalRows (withoutZeros (b ∷ l)) + cond (isEqual o) (b .part .bytes) (bytesAt (unknown n) l) ≤ totalRows (b ∷ l)
+    go Less o h = others (ofZeros b) h
+    go Greater o h = others (ofZeros b) h
+    go Equal o h =
+        let z : ofZeros b ≡ true = ap (λ (i : List ℕ). same i zeros) (sym (compared-same (unknown n) b o .0)) ∙ same-self zeros in
+        rw z (omega (arith, h, total-cons b l))
 
 -- AT EVERY VERSION A SUM IS AT MOST WHAT WAS ADDED, saturated or not
 pub sum-most : (v : ℕ) (x y : Removal) → total (sum v x y) ≤ total x + total y
@@ -118,7 +131,7 @@ sum-most v nothing y = omega arith
 sum-most v (basic m) nothing = omega arith
 sum-most v (basic m) (basic n) = omega arith
 sum-most v (basic m) (sectioned ys) =
-    basic-cases (λ (l : List Row). totalRows l ≤ m + totalRows ys) v m ys (most-added (unknown m) ys) (omega (arith, most-without ys))
+    basic-cases (λ (l : List Row). totalRows l ≤ m + totalRows ys) v m ys (most-added (unknown m) ys) (omega (arith, most-without m ys))
 sum-most v (sectioned xs) nothing = omega arith
 sum-most v (sectioned xs) (basic n) = omega (arith, most-added (unknown n) xs)
 sum-most v (sectioned xs) (sectioned ys) = most-joined xs ys

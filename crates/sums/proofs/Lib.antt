@@ -6,6 +6,7 @@ pub mod Losing
 pub mod Answering
 pub mod Basics
 pub mod Exact
+pub mod Saturated
 pub mod AnyOrder
 pub mod VersionZero
 pub mod Reading
