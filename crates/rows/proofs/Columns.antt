@@ -5,11 +5,11 @@ use mathlib.Core.List.{List, [], _∷_, _++_}
 use Prim.Native.Nat.{ℕ, zero, suc, _+_, _-_, _≤_}
 use native.Mathlib.Nat.{le-of-suc-le-suc, not-suc-le-zero, sub-zero}
 use native.Mathlib.Omega.{arith}
-use lib.ListN.{length, take, drop, length-drop}
+use lib.ListN.{length, take, drop, length-drop, length-append}
 use lib.Seq.{drop-append-add, drop-drop, take-nil, take-all}
 use Rattle.records.specs.Tables.{At, recordsOf, epochsOf, countsOf, over}
 use Rattle.records.proofs.Tables.{over-holds, over-long, take-records, drop-records, length-column, column-append}
-use Rattle.rows.specs.Rows.{Row, ascends, idsOf, partsOf, Tables, tables, rowsOf, rowsIn, overRows, Room, Proper}
+use Rattle.rows.specs.Rows.{Row, ascends, idsOf, partsOf, Tables, tables, rowsOf, rowsIn, roomIn, overRows, Room, Proper}
 use Rattle.rows.proofs.Rows.{asc-drop}
 
 -- the rows' epochs
@@ -93,6 +93,9 @@ over-twice ys xs old h =
     ap (λ l. ys ++ l)
     (ap (λ (k : ℕ). drop k (over xs old)) e ∙ drop-append-add xs (drop (length xs) old) n ∙ drop-drop n (length xs) old ∙ ap (λ (k : ℕ). drop k old) (sym e))
 
+as-long-as {ℓ} : {A : Type ℓ} (xs old : List A) → length xs ≤ length old → length (over xs old) ≡ length old
+as-long-as xs old h = let a = length-append xs (drop (length xs) old) in let b = length-drop (length xs) old in omega arith
+
 module _ (rs : List Row) (t : Tables) where
   pub over-room : {n : ℕ} → Room n t → Room n (overRows rs t)
   over-room r =
@@ -109,6 +112,15 @@ module _ (rs : List Row) (t : Tables) where
         epochs-long = omega (arith, length-epochs rs, over-holds (epochsIn rs) (t .epochs));
         bytes-long = omega (arith, length-bytes rs, over-holds (bytesIn rs) (t .bytes));
       }
+
+  -- rows that have room leave the room as it was
+  pub room-over : (n : ℕ) → Room (length rs) t → roomIn n (overRows rs t) ≡ roomIn n t
+  room-over n r =
+      rw (
+        as-long-as (idsOf rs) (t .ids) (omega (arith, r .ids-long, length-ids rs)),
+        as-long-as (epochsIn rs) (t .epochs) (omega (arith, r .epochs-long, length-epochs rs)),
+        as-long-as (bytesIn rs) (t .bytes) (omega (arith, r .bytes-long, length-bytes rs)),
+      )
 
 read-rows : (rs : List Row) (is : List (List ℕ)) (es bs : List ℕ) → rowsIn (length rs) (tables (idsOf rs ++ is) (epochsIn rs ++ es) (bytesIn rs ++ bs)) ≡ rs
 unfolding rowsOf recordsOf idsOf partsOf epochsOf countsOf

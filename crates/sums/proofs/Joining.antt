@@ -64,7 +64,7 @@ joined-ascends (x ∷ xs) ys t = add-ascends x (joined xs ys) (joined-ascends xs
 
 -- ---- never shorter
 
-more-add : (r : Row) (l : List Row) → length l ≤ length (addRow r l)
+pub more-add : (r : Row) (l : List Row) → length l ≤ length (addRow r l)
 unfolding addRow
 more-add r [] = omega arith
 more-add r (b ∷ l) =

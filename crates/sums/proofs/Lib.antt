@@ -10,5 +10,6 @@ pub mod Saturated
 pub mod AnyOrder
 pub mod VersionZero
 pub mod Reading
+pub mod Batches
 pub mod Only
 pub mod Marked

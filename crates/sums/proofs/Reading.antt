@@ -56,7 +56,7 @@ sum-ascends v (sectioned xs) (sectioned ys) p q = joined-ascends xs ys q
 
 -- ---- what is left in the tables
 
-proper-ascends : (x : Removed) (t : Tables) → proper x t ≡ true → ascends (rowsOfRemoval (removalOf x t)) ≡ true
+pub proper-ascends : (x : Removed) (t : Tables) → proper x t ≡ true → ascends (rowsOfRemoval (removalOf x t)) ≡ true
 proper-ascends None t h = asc-none
 proper-ascends (Basic n) t h = asc-none
 proper-ascends (Sectioned n) t h = proper-rows n t h .rises
