@@ -1,12 +1,13 @@
--- Many removals added up: a batch of calls leaves the sum of all, and from version 1 on neither the order nor the grouping shows.
+-- Removals added up by one call after another: a batch leaves the sum of all where that has room, and else some call is refused for room; so from
+-- version 1 on its order does not show.
 -- Assumes nothing.
 use mathlib.Core.Path.{_≡_, refl, sym, ap, _∙_, subst}
 use mathlib.Core.Bool.{Bool, true, false}
-use mathlib.Core.List.{List, [], _∷_, _++_, map, List·Permᴰ, List·Permᴰ·nil, List·Permᴰ·cons, List·Permᴰ·swap, List·Permᴰ·trans, Permᴰ·map}
+use mathlib.Core.List.{List, [], _∷_, map, List·Permᴰ, Permᴰ·map}
 use Prim.Native.Nat.{ℕ, _≤_}
 use native.Mathlib.Omega.{arith}
 use lib.ListN.{length}
-use Rattle.records.specs.Answers.{Answer, ok, refused}
+use Rattle.records.specs.Answers.{Answer, refused}
 use Rattle.records.proofs.Answers.{refused-not-ok}
 use Rattle.rows.specs.Rows.{Tables, roomIn, overRows, Room}
 use Rattle.rows.specs.Removals.{Removal, nothing, basic, sectioned, removalOf, proper, rowsOfRemoval, stateOf}
@@ -16,69 +17,13 @@ use Rattle.rows.proofs.Rows.{room-in, has-room, room-less, proper-rows}
 use Rattle.rows.proofs.Over.{removal-over, proper-over}
 use Rattle.rows.proofs.Columns.{over-room, room-over, over-over}
 use Rattle.sums.specs.Sums.{unknown, sum}
-use Rattle.sums.specs.Calls.{After, kept, placing, summed}
+use Rattle.sums.specs.Calls.{After, kept, placing}
 use Rattle.sums.specs.AnyOrder.{ProperRemoval}
-use Rattle.sums.specs.Batches.{Operand, Each, ProperOperand, onward, addAll, SameSheet, AnyBatch, Group, one, two, sumOf, members, AnyGrouping}
+use Rattle.sums.specs.Batches.{Each, Operand, ProperOperand, onward, addAll, SameSheet, AnyBatch}
 use Rattle.sums.proofs.Joining.{more-add, more-left}
 use Rattle.sums.proofs.Answering.{done, placing-stays, placing-nothing, placing-basic, summed-proper}
 use Rattle.sums.proofs.Reading.{sum-ascends, proper-ascends}
-use Rattle.sums.proofs.AnyOrder.{none-neutral, sum-comm, sum-assoc}
-
--- ---- removals added in turn
-
--- to a first one
-unfoldable sumAll : ℕ → Removal → List Removal → Removal
-sumAll v x [] = x
-sumAll v x (y ∷ ys) = sumAll v (sum v x y) ys
-
-module _ (v : ℕ) (h : 1 ≤ v) where
-  -- the first one can be added last of all
-  sum-first : (x : Removal) (ys : List Removal) → sumAll v x ys ≡ sum v x (sumAll v nothing ys)
-  unfolding sumAll
-  sum-first x [] = sym (none-neutral v .on-the-right x)
-  sum-first x (y ∷ ys) = sum-first (sum v x y) ys ∙ sum-assoc v h x y (sumAll v nothing ys) ∙ ap (sum v x) (sym (sum-first y ys))
-
-  -- the first two in either order
-  sum-swap : (a b : Removal) → ProperRemoval a → ProperRemoval b → (ys : List Removal) → sumAll v nothing (a ∷ b ∷ ys) ≡ sumAll v nothing (b ∷ a ∷ ys)
-  unfolding sumAll
-  sum-swap a b p q ys = ap (λ (x : Removal). sumAll v x ys) (sum-comm v h a b p q)
-
--- in another order each still has it
-each-perm : {A : Type 0} (P : A → Type 0) {xs ys : List A} → List·Permᴰ xs ys → Each P xs → Each P ys
-each-perm P List·Permᴰ·nil p = p
-each-perm P (List·Permᴰ·cons e d) p = (subst P e (p .0), each-perm P d (p .1))
-each-perm P (List·Permᴰ·swap e f) p = (subst P f (p .1 .0), (subst P e (p .0), p .1 .1))
-each-perm P (List·Permᴰ·trans d e) p = each-perm P e (each-perm P d p)
-
--- IN ANY ORDER
-sum-perm : (v : ℕ) → 1 ≤ v → {xs ys : List Removal} → List·Permᴰ xs ys → Each ProperRemoval xs → sumAll v nothing xs ≡ sumAll v nothing ys
-unfolding sumAll
-sum-perm v h List·Permᴰ·nil p = refl
-sum-perm v h (List·Permᴰ·cons {a} {b} {l₁} {l₂} e d) p =
-    sum-first v h a l₁ ∙ ap (sum v a) (sum-perm v h d (p .1)) ∙ ap (λ (x : Removal). sum v x (sumAll v nothing l₂)) e ∙ sym (sum-first v h b l₂)
-sum-perm v h (List·Permᴰ·swap {a} {b} {a′} {b′} {l} e f) p =
-    sum-swap v h a b (p .0) (p .1 .0) l ∙ ap (λ (x : Removal). sumAll v nothing (x ∷ a ∷ l)) f ∙ ap (λ (x : Removal). sumAll v nothing (a′ ∷ x ∷ l)) e
-sum-perm v h (List·Permᴰ·trans d e) p = sum-perm v h d p ∙ sum-perm v h e (each-perm ProperRemoval d p)
-
--- ---- group by group
-
-sum-append : (v : ℕ) → 1 ≤ v → (xs ys : List Removal) (x : Removal) → sumAll v x (xs ++ ys) ≡ sum v (sumAll v x xs) (sumAll v nothing ys)
-unfolding sumAll
-sum-append v h [] ys x = sum-first v h x ys
-sum-append v h (y ∷ xs) ys x = sum-append v h xs ys (sum v x y)
-
-sum-members : (v : ℕ) → 1 ≤ v → (a : Group) → sumOf v a ≡ sumAll v nothing (members a)
-unfolding sumAll sumOf members
-sum-members v h (one x) = refl
-sum-members v h (two a b) =
-    ap (λ (x : Removal). sum v x (sumOf v b)) (sum-members v h a) ∙ ap (sum v (sumAll v nothing (members a))) (sum-members v h b)
-    ∙ sym (sum-append v h (members a) (members b) nothing)
-
--- FROM VERSION 1 ON NEITHER THE GROUPING NOR THE ORDER SHOWS
-pub any-grouping : (v : ℕ) → 1 ≤ v → AnyGrouping v
-any-grouping v h a b p d = sum-members v h a ∙ sum-perm v h d p ∙ sym (sum-members v h b)
-
--- ---- one call after another
+use Rattle.sums.proofs.Grouping.{sumAll, sum-first, each-perm, sum-perm}
 
 -- the removal that an operand stands for
 abbrev removalIn : Operand → Removal
@@ -118,6 +63,10 @@ placing-self None t p = placing-nothing t
 placing-self (Basic n) t p = placing-basic t n
 placing-self (Sectioned n) t p = placing-stays (proper-rows n t p .room)
 
+-- the answer of an outcome
+abbrev answered : After → Answer Removed
+answered a = a .answer
+
 -- by a test
 either : {A : Type 0} (b : Bool) → (b ≡ true → A) → (b ≡ false → A) → A
 either true f g = f refl
@@ -147,6 +96,13 @@ module _ (v : ℕ) where
     first-short : roomIn (length (rowsOfRemoval next)) t ≡ false → addAll v (y ∷ ys) x t ≡ kept 10 t
     first-short h = first _ (placing-none next t h)
 
+    -- what had no room before the first call has none behind it
+    still-short : Room (length (rowsOfRemoval next)) t → roomIn (length (rowsOfRemoval (all next ys))) t ≡ false
+        → roomIn (length (rowsOfRemoval (all (removalOf (stateOf next) (overRows (rowsOfRemoval next) t)) ys))) (overRows (rowsOfRemoval next) t) ≡ false
+    still-short r h =
+        ap (λ (z : Removal). roomIn (length (rowsOfRemoval (all z ys))) (overRows (rowsOfRemoval next) t)) (removal-over next t)
+        ∙ room-over (rowsOfRemoval next) t (length (rowsOfRemoval (all next ys))) r ∙ h
+
   -- where the sum of all has room, it is left
   batch-fits : (ys : List Operand) (x : Removed) (t : Tables) → proper x t ≡ true → Each ProperOperand ys
       → Room (length (rowsOfRemoval (all (removalOf x t) ys))) t → addAll v ys x t ≡ placing (all (removalOf x t) ys) t
@@ -168,31 +124,38 @@ module _ (v : ℕ) where
   batch-short : (ys : List Operand) (x : Removed) (t : Tables) → proper x t ≡ true → Each ProperOperand ys
       → roomIn (length (rowsOfRemoval (all (removalOf x t) ys))) t ≡ false → addAll v ys x t .answer ≡ refused 10
   unfolding sumAll addAll
-  batch-short [] x t p q h = ap (λ (a : After). a .answer) (placing-self x t p ∙ placing-none (removalOf x t) t h)
+  batch-short [] x t p q h = ap answered (placing-self x t p ∙ placing-none (removalOf x t) t h)
   batch-short (y ∷ ys) x t p q h =
       let n = next y ys x t p q in
       let rs = rowsOfRemoval n in
+      let later : Room (length rs) t → addAll v ys (stateOf n) (overRows rs t) .answer ≡ refused 10 =
+      λ r. batch-short ys (stateOf n) (overRows rs t) (proper-over n t (next-proper y ys x t p q)) (q .1) (still-short y ys x t p q r h) in
       either (roomIn (length rs) t)
-      (λ f.
-        ap (λ (a : After). a .answer) (first-fits y ys x t p q (room-in (length rs) t f))
-        ∙ batch-short ys (stateOf n) (overRows rs t) (proper-over n t (next-proper y ys x t p q)) (q .1)
-        (ap (λ (z : Removal). roomIn (length (rowsOfRemoval (all z ys))) (overRows rs t)) (removal-over n t) ∙ room-over rs t (length (rowsOfRemoval (all n ys))) (room-in (length rs) t f) ∙ h))
-      (λ f. ap (λ (a : After). a .answer) (first-short y ys x t p q f))
+      (λ f. let r = room-in (length rs) t f in ap answered (first-fits y ys x t p q r) ∙ later r)
+      (λ f. ap answered (first-short y ys x t p q f))
+
+module _ (v : ℕ) (h : 1 ≤ v) (x : Removed) (t : Tables) (p : proper x t ≡ true) (ys zs : List Operand) (q : Each ProperOperand ys) (d : List·Permᴰ ys zs) where
+  same-all : all v (removalOf x t) ys ≡ all v (removalOf x t) zs
+  same-all =
+      sum-first v h (removalOf x t) (map removalIn ys) ∙ ap (sum v (removalOf x t)) (sum-perm v h (Permᴰ·map removalIn d) (all-ascend ys q))
+      ∙ sym (sum-first v h (removalOf x t) (map removalIn zs))
+
+  sheet-fits : Room (length (rowsOfRemoval (all v (removalOf x t) ys))) t → SameSheet (addAll v ys x t) (addAll v zs x t)
+  sheet-fits r =
+      let k = each-perm ProperOperand d q in
+      let theirs = batch-fits v zs x t p k (subst (λ (z : Removal). Room (length (rowsOfRemoval z)) t) same-all r) in
+      let same = batch-fits v ys x t p q r ∙ ap (λ (z : Removal). placing z t) same-all ∙ sym theirs in
+      record { same-answer = ap answered same; same-rows = λ s g. ap (λ (a : After). a .rows) same }
+
+  sheet-short : roomIn (length (rowsOfRemoval (all v (removalOf x t) ys))) t ≡ false → SameSheet (addAll v ys x t) (addAll v zs x t)
+  sheet-short f =
+      let k = each-perm ProperOperand d q in
+      let ours = batch-short v ys x t p q f in
+      let theirs = batch-short v zs x t p k (ap (λ (z : Removal). roomIn (length (rowsOfRemoval z)) t) (sym same-all) ∙ f) in
+      record { same-answer = ours ∙ sym theirs; same-rows = λ s g. absurd (refused-not-ok 10 s (sym ours ∙ g)) }
 
 -- FROM VERSION 1 ON THE ORDER OF A BATCH DOES NOT SHOW
 pub any-batch : (v : ℕ) → 1 ≤ v → AnyBatch v
 any-batch v h x t p ys zs q d =
-    let r = removalOf x t in
-    let e : all v r ys ≡ all v r zs = sum-first v h r (map removalIn ys) ∙ ap (sum v r) (sum-perm v h (Permᴰ·map removalIn d) (all-ascend ys q)) ∙ sym (sum-first v h r (map removalIn zs)) in
-    let k = each-perm ProperOperand d q in
-    either (roomIn (length (rowsOfRemoval (all v r ys))) t)
-    (λ f.
-      let w = room-in (length (rowsOfRemoval (all v r ys))) t f in
-      let same : addAll v ys x t ≡ addAll v zs x t =
-            batch-fits v ys x t p q w ∙ ap (λ (z : Removal). placing z t) e
-            ∙ sym (batch-fits v zs x t p k (subst (λ (z : Removal). Room (length (rowsOfRemoval z)) t) e w)) in
-      record { same-answer = ap (λ (a : After). a .answer) same; same-rows = λ s g. ap (λ (a : After). a .rows) same })
-    (λ f.
-      let ours = batch-short v ys x t p q f in
-      let theirs = batch-short v zs x t p k (ap (λ (z : Removal). roomIn (length (rowsOfRemoval z)) t) (sym e) ∙ f) in
-      record { same-answer = ours ∙ sym theirs; same-rows = λ s g. absurd (refused-not-ok 10 s (sym ours ∙ g)) })
+    let n = length (rowsOfRemoval (all v (removalOf x t) ys)) in
+    either (roomIn n t) (λ f. sheet-fits v h x t p ys zs q d (room-in n t f)) (sheet-short v h x t p ys zs q d)

@@ -10,6 +10,7 @@ pub mod Saturated
 pub mod AnyOrder
 pub mod VersionZero
 pub mod Reading
+pub mod Grouping
 pub mod Batches
 pub mod Only
 pub mod Marked
