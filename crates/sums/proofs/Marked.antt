@@ -1,9 +1,9 @@
 -- P14 of document 01 and the other cases of a sum, as one table under one statement: two removals at a version, and what the call answers and
--- leaves of lent tables with more room than needed, with exact room, and with one row less. By computation.
+-- leaves of lent tables with more room than needed, with exact room, and with one row less; and a batch in two orders. By computation.
 -- Assumes nothing.
 use Prim.Native.Nat.{ℕ}
 use mathlib.Core.Path.{_≡_, refl}
-use mathlib.Core.List.{List, [], _∷_, _++_, map}
+use mathlib.Core.List.{List, [], _∷_, _++_, map, reverse}
 use lib.ListN.{replicate}
 use Rattle.records.specs.Tables.{recordsOf, epochsOf, countsOf}
 use Rattle.records.specs.Flags.{zeros, same}
@@ -12,9 +12,11 @@ use Rattle.rows.specs.Order.{order}
 use Rattle.rows.specs.Rows.{Row, row, ascends, idsOf, partsOf, Tables, tables, rowsOf, properRows, overRows}
 use Rattle.rows.specs.Removals.{Removal, nothing, basic, sectioned, rowsOfRemoval, stateOf}
 use Rattle.rows.specs.declared.removed.Removed.{Removed}
+use Rattle.rows.specs.declared.removed.Removed.the-variants.{None}
 use Rattle.sums.specs.Joins.{addRow, joined}
 use Rattle.sums.specs.Sums.{anyOfZeros, withoutZeros, basicPlus}
 use Rattle.sums.specs.Calls.{After, kept, placing, summed}
+use Rattle.sums.specs.Batches.{Operand, addAll}
 
 -- a version, two removals in their tables, and what is left
 pub record Example : Type 0 where
@@ -82,3 +84,20 @@ examples =
 pub marked : map (λ (e : Example). summed (e .version) (e .left) (e .left-rows) (e .right) (e .right-rows)) examples ≡ map (λ (e : Example). e .after) examples
 unfolding examples summed placing properRows rowsOf recordsOf epochsOf countsOf idsOf partsOf ascends order addRow joined basicPlus anyOfZeros withoutZeros same
 marked = refl
+
+-- ---- a batch
+
+-- a removal in tables of its own
+abbrev lent : Removal → Operand
+lent r = record { state = stateOf r; rows = holding (rowsOfRemoval r) }
+
+-- four removals, one after another
+abbrev batch : List Operand
+batch =
+    lent (basic 4294967295) ∷ lent (sectioned (row zeros 3 10 ∷ [])) ∷ lent (sectioned (row zeros 3 1 ∷ row (id 1) 3 7 ∷ [])) ∷ lent (basic 1) ∷ []
+
+-- added up from the front and from the back, from version 1 on: the same rows, one of them saturated, in tables with just enough room
+pub added-up : map (λ (b : List Operand). addAll 1 b None (holding three)) (batch ∷ reverse batch ∷ [])
+    ≡ replicate 2 (gives (sectioned (row zeros 3 11 ∷ row zeros 65535 4294967295 ∷ row (id 1) 3 7 ∷ [])) (holding three))
+unfolding addAll summed placing properRows rowsOf recordsOf epochsOf countsOf idsOf partsOf ascends order addRow joined basicPlus anyOfZeros withoutZeros same
+added-up = refl
