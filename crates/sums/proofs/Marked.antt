@@ -1,8 +1,10 @@
 -- P14 of document 01 and the other cases of a sum, as one table under one statement: two removals at a version, and what the call answers and
--- leaves of lent tables with more room than needed, with exact room, and with one row less; and a batch in two orders. By computation.
+-- leaves of lent tables with more room than needed, with exact room, and with one row less; a batch in two orders; and
+-- where nothing saturates. By computation.
 -- Assumes nothing.
 use Prim.Native.Nat.{ℕ}
 use mathlib.Core.Path.{_≡_, refl}
+use mathlib.Core.Bool.{true, false}
 use mathlib.Core.List.{List, [], _∷_, _++_, map, reverse}
 use lib.ListN.{replicate}
 use Rattle.records.specs.Tables.{recordsOf, epochsOf, countsOf}
@@ -14,7 +16,7 @@ use Rattle.rows.specs.Removals.{Removal, nothing, basic, sectioned, rowsOfRemov
 use Rattle.rows.specs.declared.removed.Removed.{Removed}
 use Rattle.rows.specs.declared.removed.Removed.the-variants.{None}
 use Rattle.sums.specs.Joins.{addRow, joined}
-use Rattle.sums.specs.Sums.{anyOfZeros, withoutZeros, basicPlus}
+use Rattle.sums.specs.Sums.{anyOfZeros, withoutZeros, basicPlus, bytesAt, fits, exact}
 use Rattle.sums.specs.Calls.{After, kept, placing, summed}
 use Rattle.sums.specs.Batches.{Operand, addAll}
 
@@ -101,3 +103,17 @@ pub added-up : map (λ (b : List Operand). addAll 1 b None (holding three)) (bat
     ≡ replicate 2 (gives (sectioned (row zeros 3 11 ∷ row zeros 65535 4294967295 ∷ row (id 1) 3 7 ∷ [])) (holding three))
 unfolding addAll summed placing properRows rowsOf recordsOf epochsOf countsOf idsOf partsOf ascends order addRow joined basicPlus anyOfZeros withoutZeros same
 added-up = refl
+
+-- ---- where nothing saturates
+
+-- pairs of removals that meet at a pair of identifier and epoch, or do not, up to the limit and past it
+pub saturating :
+    exact (sectioned (row zeros 3 4294967295 ∷ [])) (sectioned (row zeros 4 1 ∷ []))
+    ∷ exact (sectioned (row zeros 3 4294967295 ∷ [])) (sectioned (row zeros 3 0 ∷ []))
+    ∷ exact (sectioned (row zeros 3 4294967295 ∷ [])) (sectioned (row zeros 3 1 ∷ []))
+    ∷ exact (basic 4294967295) (sectioned (row zeros 65535 1 ∷ []))
+    ∷ exact (basic 4294967295) (basic 1)
+    ∷ []
+    ≡ true ∷ true ∷ false ∷ false ∷ false ∷ []
+unfolding fits bytesAt order
+saturating = refl
