@@ -104,7 +104,7 @@ module _ (v : ℕ) where
         ∙ room-over (rowsOfRemoval next) t (length (rowsOfRemoval (all next ys))) r ∙ h
 
   -- where the sum of all has room, it is left
-  batch-fits : (ys : List Operand) (x : Removed) (t : Tables) → proper x t ≡ true → Each ProperOperand ys
+  pub batch-fits : (ys : List Operand) (x : Removed) (t : Tables) → proper x t ≡ true → Each ProperOperand ys
       → Room (length (rowsOfRemoval (all (removalOf x t) ys))) t → addAll v ys x t ≡ placing (all (removalOf x t) ys) t
   unfolding sumAll addAll
   batch-fits [] x t p q h = placing-self x t p
@@ -121,7 +121,7 @@ module _ (v : ℕ) where
       ∙ ap (done (stateOf (all n ys))) (over-over rs (rowsOfRemoval (all n ys)) t more) ∙ sym (placing-room (all n ys) t h)
 
   -- where it has none, some call has none
-  batch-short : (ys : List Operand) (x : Removed) (t : Tables) → proper x t ≡ true → Each ProperOperand ys
+  pub batch-short : (ys : List Operand) (x : Removed) (t : Tables) → proper x t ≡ true → Each ProperOperand ys
       → roomIn (length (rowsOfRemoval (all (removalOf x t) ys))) t ≡ false → addAll v ys x t .answer ≡ refused 10
   unfolding sumAll addAll
   batch-short [] x t p q h = ap answered (placing-self x t p ∙ placing-none (removalOf x t) t h)
