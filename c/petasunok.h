@@ -197,7 +197,7 @@ petasunok_split petasunok_split_storage_removed_bytes(
     uint16_t *value_epochs, size_t value_epochs_len, uint32_t *value_bytes, size_t value_bytes_len);
 
 /* Adds the right removal to the left one, in the left one's tables: 11, 10. At version 0 a basic number plus rows loses what the
- * original's first versions lose. */
+ * original's first versions lose; from version 1 on removals can be added in any order. */
 petasunok_sum petasunok_add_assign(
     petasunok_removal self, uint8_t (*self_ids)[32], size_t self_ids_len,
     uint16_t *self_epochs, size_t self_epochs_len, uint32_t *self_bytes, size_t self_bytes_len,

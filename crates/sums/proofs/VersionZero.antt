@@ -40,7 +40,7 @@ not-commutative law =
 
 -- ---- the grouping of three
 
--- two basic 0 make one row; made one after the other, the second loses the first's
+-- two basic 0 together make one row; one after the other, the row that one makes is lost by the other
 pub two-groupings : (sum 0 (sum 0 (basic 0) (basic 0)) noRows ≡ sectioned (unknown 0 ∷ [])) × (sum 0 (basic 0) (sum 0 (basic 0) noRows) ≡ noRows)
 unfolding basicPlus anyOfZeros withoutZeros same addRow order
 two-groupings = (refl, refl)

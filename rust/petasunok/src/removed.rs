@@ -57,7 +57,8 @@ impl StorageRemovedBytes {
     /// Adds another removal to this one. A refusal, which is 11, leaves this one as it was.
     ///
     /// The original takes the version from a thread; here it is an argument. At version 0 a basic number plus sections loses all
-    /// sections of the zero identifier, and the number, if there is such a section; from version 1 on nothing is lost.
+    /// sections of the zero identifier, and the number, if there is such a section; from version 1 on nothing is lost, and many removals
+    /// can be added in any order.
     ///
     /// ```
     /// use petasunok::StorageRemovedBytes::*;
