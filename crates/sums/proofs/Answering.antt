@@ -1,17 +1,17 @@
 -- What `add_assign` leaves, by its tests: whether the operands are proper and whether the rows have room.
 -- Assumes nothing.
-use mathlib.Core.Path.{_≡_, sym, ap}
-use mathlib.Core.Bool.{true, false, and-false}
+use mathlib.Core.Path.{_≡_, sym, ap, _∙_}
+use mathlib.Core.Bool.{Bool, true, false, and-false}
 use mathlib.Core.List.{List}
 use Prim.Native.Nat.{ℕ}
 use native.Mathlib.Omega.{arith}
 use lib.ListN.{length}
 use Rattle.records.specs.Answers.{ok}
 use Rattle.rows.specs.Rows.{Row, Tables, rowsIn, roomIn, overRows, Room}
-use Rattle.rows.specs.Removals.{nothing, basic, sectioned, removalOf, proper}
+use Rattle.rows.specs.Removals.{Removal, nothing, basic, sectioned, removalOf, proper, rowsOfRemoval, stateOf}
 use Rattle.rows.specs.declared.removed.Removed.{Removed}
 use Rattle.rows.specs.declared.removed.Removed.the-variants.{None, Basic, Sectioned}
-use Rattle.rows.proofs.Rows.{length-rows, has-room}
+use Rattle.rows.proofs.Rows.{length-rows, has-room, proper-rows}
 use Rattle.rows.proofs.Columns.{over-nothing}
 use Rattle.rows.proofs.Backing.{rows-stay}
 use Rattle.sums.specs.Sums.{sum}
@@ -21,34 +21,47 @@ use Rattle.sums.specs.Calls.{After, kept, placing, summed}
 abbrev pub done : Removed → Tables → After
 done s t = record { answer = ok s; rows = t }
 
--- ---- rows, by whether they have room
+-- ---- a removal, by whether its rows have room
 
-module _ (rs : List Row) (count : ℕ) (t : Tables) (e : count ≡ length rs) where
-  pub placing-fits : (t′ : Tables) → roomIn count t ≡ true → t′ ≡ overRows rs t → done (Sectioned count) t′ ≡ placing (sectioned rs) t
+module _ (r : Removal) (t : Tables) where
+  pub placing-room : roomIn (length (rowsOfRemoval r)) t ≡ true → placing r t ≡ done (stateOf r) (overRows (rowsOfRemoval r) t)
   unfolding placing
-  placing-fits t′ h g = rw (← e, h, g)
+  placing-room h = rw h
+
+  pub placing-none : roomIn (length (rowsOfRemoval r)) t ≡ false → placing r t ≡ kept 10 t
+  unfolding placing
+  placing-none h = rw h
+
+-- rows that were counted
+module _ (rs : List Row) (count : ℕ) (t : Tables) (e : count ≡ length rs) where
+  counted : (b : Bool) → roomIn count t ≡ b → roomIn (length rs) t ≡ b
+  counted b h = ap (λ (k : ℕ). roomIn k t) (sym e) ∙ h
+
+  pub placing-fits : (t′ : Tables) → roomIn count t ≡ true → t′ ≡ overRows rs t → done (Sectioned count) t′ ≡ placing (sectioned rs) t
+  placing-fits t′ h g = rw (e, g) (sym (placing-room (sectioned rs) t (counted true h)))
 
   pub placing-short : roomIn count t ≡ false → kept 10 t ≡ placing (sectioned rs) t
-  unfolding placing
-  placing-short h = rw (← e, h)
+  placing-short h = sym (placing-none (sectioned rs) t (counted false h))
 
--- rows that stand in the tables stay
+-- ---- a removal that stands in the tables stays
+
 pub placing-stays : {n : ℕ} {t : Tables} → Room n t → done (Sectioned n) t ≡ placing (sectioned (rowsIn n t)) t
 placing-stays {n} {t} r = placing-fits (rowsIn n t) n t (sym (length-rows r)) t (has-room r) (sym (rows-stay r))
-
--- ---- no rows
 
 no-rows : (t : Tables) → Room 0 t
 no-rows t = record { ids-long = omega arith; epochs-long = omega arith; bytes-long = omega arith }
 
 module _ (t : Tables) where
   pub placing-nothing : done None t ≡ placing nothing t
-  unfolding placing
-  placing-nothing = rw (has-room (no-rows t)) (ap (done None) (sym (over-nothing t)))
+  placing-nothing = ap (done None) (sym (over-nothing t)) ∙ sym (placing-room nothing t (has-room (no-rows t)))
 
   pub placing-basic : (n : ℕ) → done (Basic n) t ≡ placing (basic n) t
-  unfolding placing
-  placing-basic n = rw (has-room (no-rows t)) (ap (done (Basic n)) (sym (over-nothing t)))
+  placing-basic n = ap (done (Basic n)) (sym (over-nothing t)) ∙ sym (placing-room (basic n) t (has-room (no-rows t)))
+
+pub placing-self : (x : Removed) (t : Tables) → proper x t ≡ true → done x t ≡ placing (removalOf x t) t
+placing-self None t p = placing-nothing t
+placing-self (Basic n) t p = placing-basic t n
+placing-self (Sectioned n) t p = placing-stays (proper-rows n t p .room)
 
 -- ---- whether the operands are proper
 

@@ -12,8 +12,7 @@ use Rattle.records.proofs.Answers.{refused-not-ok}
 use Rattle.rows.specs.Rows.{Tables, roomIn, overRows, Room}
 use Rattle.rows.specs.Removals.{Removal, nothing, basic, sectioned, removalOf, proper, rowsOfRemoval, stateOf}
 use Rattle.rows.specs.declared.removed.Removed.{Removed}
-use Rattle.rows.specs.declared.removed.Removed.the-variants.{None, Basic, Sectioned}
-use Rattle.rows.proofs.Rows.{room-in, has-room, room-less, proper-rows}
+use Rattle.rows.proofs.Rows.{room-in, has-room, room-less}
 use Rattle.rows.proofs.Over.{removal-over, proper-over}
 use Rattle.rows.proofs.Columns.{over-room, room-over, over-over}
 use Rattle.sums.specs.Sums.{unknown, sum}
@@ -21,7 +20,7 @@ use Rattle.sums.specs.Calls.{After, kept, placing}
 use Rattle.sums.specs.AnyOrder.{ProperRemoval}
 use Rattle.sums.specs.Batches.{Each, Operand, ProperOperand, onward, addAll, SameSheet, AnyBatch}
 use Rattle.sums.proofs.Joining.{more-add, more-left}
-use Rattle.sums.proofs.Answering.{done, placing-stays, placing-nothing, placing-basic, summed-proper}
+use Rattle.sums.proofs.Answering.{done, placing-room, placing-none, placing-self, summed-proper}
 use Rattle.sums.proofs.Reading.{sum-ascends, proper-ascends}
 use Rattle.sums.proofs.Grouping.{sumAll, sum-first, each-perm, sum-perm}
 
@@ -47,21 +46,6 @@ more-all v x [] p q = omega arith
 more-all v x (y ∷ ys) p q =
     let ih = more-all v (sum v x y) ys (sum-ascends v x y p (q .0)) (q .1) in
     omega (arith, more-rows v x y p (q .0))
-
--- a removal placed, by whether it has room
-placing-room : (r : Removal) (t : Tables) → Room (length (rowsOfRemoval r)) t → placing r t ≡ done (stateOf r) (overRows (rowsOfRemoval r) t)
-unfolding placing
-placing-room r t h = rw (has-room h)
-
-placing-none : (r : Removal) (t : Tables) → roomIn (length (rowsOfRemoval r)) t ≡ false → placing r t ≡ kept 10 t
-unfolding placing
-placing-none r t h = rw h
-
--- a proper removal stands where it is placed
-placing-self : (x : Removed) (t : Tables) → proper x t ≡ true → done x t ≡ placing (removalOf x t) t
-placing-self None t p = placing-nothing t
-placing-self (Basic n) t p = placing-basic t n
-placing-self (Sectioned n) t p = placing-stays (proper-rows n t p .room)
 
 -- the answer of an outcome
 abbrev answered : After → Answer Removed
@@ -91,7 +75,7 @@ module _ (v : ℕ) where
     first a e = ap (λ (b : After). onward (b .answer) (b .rows) (addAll v ys)) (sym (summed-proper v x t (y .state) (y .rows) p (q .0)) ∙ e)
 
     first-fits : Room (length (rowsOfRemoval next)) t → addAll v (y ∷ ys) x t ≡ addAll v ys (stateOf next) (overRows (rowsOfRemoval next) t)
-    first-fits h = first _ (placing-room next t h)
+    first-fits h = first _ (placing-room next t (has-room h))
 
     first-short : roomIn (length (rowsOfRemoval next)) t ≡ false → addAll v (y ∷ ys) x t ≡ kept 10 t
     first-short h = first _ (placing-none next t h)
@@ -117,8 +101,8 @@ module _ (v : ℕ) where
       let e = removal-over n t in
       first-fits y ys x t p q (room-less (length rs) more h)
       ∙ batch-fits ys (stateOf n) (overRows rs t) (proper-over n t np) (q .1) (subst (λ (z : Removal). Room (length (rowsOfRemoval (all z ys))) (overRows rs t)) (sym e) then)
-      ∙ ap (λ (z : Removal). placing (all z ys) (overRows rs t)) e ∙ placing-room (all n ys) (overRows rs t) then
-      ∙ ap (done (stateOf (all n ys))) (over-over rs (rowsOfRemoval (all n ys)) t more) ∙ sym (placing-room (all n ys) t h)
+      ∙ ap (λ (z : Removal). placing (all z ys) (overRows rs t)) e ∙ placing-room (all n ys) (overRows rs t) (has-room then)
+      ∙ ap (done (stateOf (all n ys))) (over-over rs (rowsOfRemoval (all n ys)) t more) ∙ sym (placing-room (all n ys) t (has-room h))
 
   -- where it has none, some call has none
   pub batch-short : (ys : List Operand) (x : Removed) (t : Tables) → proper x t ≡ true → Each ProperOperand ys
@@ -128,10 +112,9 @@ module _ (v : ℕ) where
   batch-short (y ∷ ys) x t p q h =
       let n = next y ys x t p q in
       let rs = rowsOfRemoval n in
-      let later : Room (length rs) t → addAll v ys (stateOf n) (overRows rs t) .answer ≡ refused 10 =
-      λ r. batch-short ys (stateOf n) (overRows rs t) (proper-over n t (next-proper y ys x t p q)) (q .1) (still-short y ys x t p q r h) in
+      let np = next-proper y ys x t p q in
       either (roomIn (length rs) t)
-      (λ f. let r = room-in (length rs) t f in ap answered (first-fits y ys x t p q r) ∙ later r)
+      (λ f. let r = room-in (length rs) t f in ap answered (first-fits y ys x t p q r) ∙ batch-short ys (stateOf n) (overRows rs t) (proper-over n t np) (q .1) (still-short y ys x t p q r h))
       (λ f. ap answered (first-short y ys x t p q f))
 
 module _ (v : ℕ) (h : 1 ≤ v) (x : Removed) (t : Tables) (p : proper x t ≡ true) (ys zs : List Operand) (q : Each ProperOperand ys) (d : List·Permᴰ ys zs) where

@@ -63,8 +63,7 @@ not-exact law =
     let e = law (basic 0) (oneRow 1) asc-none (asc-cons _ [] tt asc-none) (byte-lost .0) in
     omega (arith, byte-lost .1 .0, byte-lost .1 .1)
 
--- ---- none is smaller: no example without a row of the zero identifier breaks the order of two or the exact total, and by `sum-most` (Exact)
--- none without a byte breaks the exact total; the example of three has no row and no byte
+-- ---- none is smaller
 
 -- where the right one has no row of the zero identifier, the version does not matter
 pub same-version : (v : ℕ) (x y : Removal) → anyOfZeros (rowsOfRemoval y) ≡ false → sum v x y ≡ sum 1 x y
@@ -81,6 +80,6 @@ module _ (v : ℕ) (x y : Removal) (p : ProperRemoval x) (q : ProperRemoval y) (
   pub comm-without-zeros : anyOfZeros (rowsOfRemoval x) ≡ false → sum v x y ≡ sum v y x
   comm-without-zeros none-left = same-version v x y none-right ∙ sum-comm 1 (omega arith) x y p q ∙ sym (same-version v y x none-left)
 
-  -- so has one that breaks the exact total
+  -- so has one that breaks the exact total; by `sum-most` of Exact it has a byte too
   pub exact-without-zeros : exact x y ≡ true → total (sum v x y) ≡ total x + total y
   exact-without-zeros e = ap total (same-version v x y none-right) ∙ sum-exact 1 (omega arith) x y p e

@@ -3,6 +3,7 @@
 #![cfg(not(debug_assertions))] // a minute in a dev build, seconds in a release build
 use differential::boundary;
 use differential::expected::expected;
+use differential::groups::sums::VERSIONS;
 use differential::model;
 use differential::question::{Question, Reply};
 use differential::values::*;
@@ -11,9 +12,6 @@ use std::collections::BTreeMap;
 /// Who is asked.
 type Asked = fn(&Question) -> Reply;
 const ASKED: [Asked; 2] = [boundary::ask, |question| expected(question).reply];
-
-/// Versions at which nothing is lost.
-const LATER: [u16; 3] = [1, 2, 65_535];
 
 /// The pairs that rows have: that of a basic number, another of the zero identifier, and one of another.
 const PAIRS: [(Id, u16); 3] = [(ZEROS, u16::MAX), (ZEROS, 0), ([1; 32], 0)];
@@ -88,7 +86,7 @@ fn triples(some: &[Removal]) -> impl Iterator<Item = [&Removal; 3]> + Clone {
 #[test]
 fn none_is_neutral_at_every_version() {
     let none = Removal::default();
-    for (asked, version) in ASKED.into_iter().flat_map(|asked| [0, 1, 2, 65_535].map(|version| (asked, version))) {
+    for (asked, version) in ASKED.into_iter().flat_map(|asked| VERSIONS.map(|version| (asked, version))) {
         for x in &small(&PAIRS) {
             assert_eq!((&sum(asked, &none, x, version), &sum(asked, x, &none, version)), (x, x));
         }
@@ -98,23 +96,24 @@ fn none_is_neutral_at_every_version() {
 #[test]
 fn from_version_1_on_in_any_order() {
     let (many, few) = (small(&PAIRS), small(&PAIRS[..2]));
+    let later = VERSIONS.into_iter().filter(|version| *version > 0).cycle();
     for asked in ASKED {
-        for (both, version) in pairs(&many).zip(LATER.into_iter().cycle()) {
-            assert!(commutes(asked, version, both), "{both:?}");
-            assert!(keeps_total(asked, version, both), "{both:?}");
+        for (both, version) in pairs(&many).zip(later.clone()) {
+            assert!(commutes(asked, version, both), "version {version}: {both:?}");
+            assert!(keeps_total(asked, version, both), "version {version}: {both:?}");
         }
-        for (three, version) in triples(&few).zip(LATER.into_iter().cycle()) {
-            assert!(associates(asked, version, three), "{three:?}");
+        for (three, version) in triples(&few).zip(later.clone()) {
+            assert!(associates(asked, version, three), "version {version}: {three:?}");
         }
     }
 }
 
 #[test]
 fn where_something_saturates_the_total_is_less_at_every_version() {
-    for (asked, version) in ASKED.into_iter().flat_map(|asked| [0, 1, 2, 65_535].map(|version| (asked, version))) {
+    for (asked, version) in ASKED.into_iter().flat_map(|asked| VERSIONS.map(|version| (asked, version))) {
         for [x, y] in pairs(&small(&PAIRS)) {
             let (given, left) = (model::total(x) + model::total(y), model::total(&sum(asked, x, y, version)));
-            assert!(left < given || left == given && exact(x, y), "{x:?} {y:?}");
+            assert!(left < given || left == given && exact(x, y), "version {version}: {x:?} {y:?}");
         }
     }
 }

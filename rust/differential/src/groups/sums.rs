@@ -6,7 +6,7 @@ use crate::random::Random;
 use crate::values::*;
 
 /// The versions at which something could change.
-const VERSIONS: [u16; 4] = [0, 1, 2, 65_535];
+pub const VERSIONS: [u16; 4] = [0, 1, 2, 65_535];
 
 /// Pairs of numbers in every form of a sum, all pairs of some removals, and every room.
 pub fn boundaries(visit: &mut Visit) {
