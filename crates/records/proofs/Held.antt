@@ -90,7 +90,7 @@ module _ (e : ℕ) where
   held-passes r rs p = rw (ne-eqb e (r .epoch) p)
 
   -- nothing is read of records above an epoch
-  read-above : {A : Type 0} (read : List At → A) → Passes e read → (b : ℕ) (rs : List At) → e ≤ b → ascending b (epochsOf rs) ≡ true → read rs ≡ read []
+  pub read-above : {A : Type 0} (read : List At → A) → Passes e read → (b : ℕ) (rs : List At) → e ≤ b → ascending b (epochsOf rs) ≡ true → read rs ≡ read []
   unfolding epochsOf
   read-above read passes b [] p h = refl
   read-above read passes b (r ∷ rs) p h =

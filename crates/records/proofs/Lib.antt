@@ -9,5 +9,6 @@ pub mod Answers
 pub mod Only
 pub mod Owners
 pub mod Held
+pub mod Alike
 pub mod Around
 pub mod Merged

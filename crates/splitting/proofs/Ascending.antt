@@ -15,7 +15,7 @@ use Rattle.rows.specs.Removals.{rowsOfRemoval}
 use Rattle.rows.proofs.Under.{parts-under, asc-under}
 use Rattle.splitting.specs.Sections.{above, asked, section, sections, split, besideBase}
 use Rattle.splitting.specs.Calls.{parted}
-use Rattle.splitting.proofs.Sections.{sections-none}
+use Rattle.splitting.proofs.Sections.{split-none}
 
 -- a section before sections that ascend from its epoch
 section-before : (b e n most : ℕ) (ss : List At) → b < e → ascending e (epochsOf ss) ≡ true → ascending b (epochsOf (section e n most ++ ss)) ≡ true
@@ -63,9 +63,13 @@ module _ (base : ℕ) (rs : List At) (n : ℕ) (h : ascending base (epochsOf rs)
   unfolding split
   split-beside = beside-section base (asked n rs) (asked n rs) (sections rs n) ∙ beside-all base base (sections rs n) (omega arith) (sections-ascend base rs n h)
 
--- so many records were visited as the value's removal has sections beside the base
+-- the sections of the value's removal
+pub value-parts : (i : List ℕ) (base : ℕ) (rs : List At) (m n : ℕ) → partsOf (rowsOfRemoval (parted i base rs m n .value)) ≡ split base rs n
+unfolding partsOf
+value-parts i base rs m zero = sym (split-none base rs)
+value-parts i base rs m (suc n) = parts-under i (split base rs (suc n))
+
+-- so many records were visited as it has sections beside the base
 pub visited-beside : (i : List ℕ) (base : ℕ) (rs : List At) (m n : ℕ) → ascending base (epochsOf rs) ≡ true
     → parted i base rs m n .visited ≡ length (besideBase base (partsOf (rowsOfRemoval (parted i base rs m n .value))))
-unfolding besideBase partsOf
-visited-beside i base rs m zero h = ap (length {A = At}) (sections-none rs)
-visited-beside i base rs m (suc n) h = ap (length {A = At}) (sym (ap (besideBase base) (parts-under i (split base rs (suc n))) ∙ split-beside base rs (suc n) h))
+visited-beside i base rs m n h = ap (length {A = At}) (sym (ap (besideBase base) (value-parts i base rs m n) ∙ split-beside base rs n h))

@@ -2,26 +2,19 @@
 -- and 3, and only when all later ones are down to that; the base the rest; no other epoch anything.
 -- Assumes nothing.
 use mathlib.Core.Path.{_≡_, refl, sym, ap, _∙_}
-use mathlib.Core.Bool.{Bool, true, false, cond, true≢false}
+use mathlib.Core.Bool.{true, false}
 use mathlib.Core.List.{List, [], _∷_, _++_, append-assoc}
 use Prim.Native.Nat.{ℕ, zero, suc, _+_, _-_, _≤_, _<_, min}
 use native.Mathlib.Omega.{arith}
 use lib.Dec.{eqb, ltb}
-use borrow.Author.Tests.{eqb-false, eq-eqb, ne-eqb, lt-ltb}
+use borrow.Author.Tests.{eq-eqb, ne-eqb, lt-ltb}
 use Rattle.records.specs.Tables.{At, _⦂_, epochsOf, ascending, has, held}
 use Rattle.records.proofs.Rising.{asc-head, asc-tail}
 use Rattle.records.proofs.Held.{Passes, has-passes, held-passes, has-above, held-above}
+use Rattle.records.proofs.Alike.{apart}
 use Rattle.splitting.specs.Sections.{minimum, above, spare, asked, section, sections, split}
 use Rattle.splitting.proofs.Sections.{spare-append}
 use Rattle.splitting.proofs.Ascending.{sections-ascend}
-
--- an epoch that no record has is not the first record's
-apart : (d e : ℕ) (b : Bool) → cond (eqb d e) true b ≡ false → (d ≡ e → ⊥) × (b ≡ false)
-apart d e b h = by (eqb d e) refl h
-  where
-    by : (t : Bool) → eqb d e ≡ t → cond t true b ≡ false → (d ≡ e → ⊥) × (b ≡ false)
-    by true p q = absurd (true≢false q)
-    by false p q = (eqb-false d e p, q)
 
 -- ---- one section before others
 
@@ -127,7 +120,7 @@ has-none : (e : ℕ) (rs : List At) (n : ℕ) → has e rs ≡ false → has e (
 unfolding sections has
 has-none e [] n h = refl
 has-none e (r ∷ rs) n h =
-    let p = apart e (r .epoch) (has e rs) h in
+    let p = apart e r rs h in
     beside e (has e) (has-passes e) (r .epoch) (p .0) (asked n rs) (above r) (sections rs n) ∙ has-none e rs n (p .1)
 
 -- a section stands nowhere else

@@ -1,0 +1,105 @@
+-- What each epoch gives, of any sections: the first four properties hold exactly if each record gives the smaller of what is asked of it and
+-- what it holds above 3, and the base what the records cannot. Where that is so, the fifth holds exactly if a section stands where something is asked.
+-- Assumes nothing.
+use mathlib.Core.Path.{_≡_, refl, sym, ap, _∙_}
+use mathlib.Core.List.{List, [], _∷_}
+use Prim.Native.Nat.{ℕ, zero, suc, _+_, _≤_, _<_, min}
+use native.Mathlib.Omega.{arith}
+use lib.Dec.{ltb}
+use Rattle.records.specs.Tables.{At, has}
+use Rattle.splitting.specs.Sections.{above, spare, asked}
+use Rattle.splitting.proofs.Sums.{sections-sum, gave-less}
+use Rattle.division.specs.Fair.{OfEach, gives, together, AllDown, ThreeKept, LatestFirst, BaseLast, SectionIfAsked, SectionWhereAsked}
+
+-- sections ss of n bytes; each record gives the smaller of what is asked of it and what it holds above 3
+abbrev pub RecordsGive : List At → ℕ → List At → Type 0
+RecordsGive ss n rs = OfEach (λ r later. gives ss (r .epoch) ≡ min (asked n later) (above r)) rs
+
+-- a section stands at a record's epoch exactly if something is asked of it
+abbrev pub RecordsHave : List At → ℕ → List At → Type 0
+RecordsHave ss n rs = OfEach (λ r later. has (r .epoch) ss ≡ ltb 0 (asked n later)) rs
+
+-- the later epochs gave less than n exactly if they cannot give n
+pub less-asked : (rs : List At) (n : ℕ) → ltb (min n (spare rs)) n ≡ ltb 0 (asked n rs)
+less-asked rs n = sym (gave-less [] rs n ∙ ap (λ (k : ℕ). ltb k n) (sections-sum [] rs n))
+
+module _ (ss : List At) (n : ℕ) where
+  -- ---- from the properties
+
+  -- records that keep enough give no more than they can
+  most : (rs : List At) → ThreeKept ss rs → together ss rs ≤ spare rs
+  unfolding together spare
+  most [] k = omega arith
+  most (r ∷ later) k = omega (arith, k .0, most later (k .1))
+
+  -- those that are down give all that they can
+  all : (rs : List At) → AllDown ss rs → together ss rs ≡ spare rs
+  unfolding together spare
+  all [] d = refl
+  all (r ∷ later) d = omega (arith, d .0, all later (d .1))
+
+  -- the earlier epochs give x of n bytes, and something only when all of these are down
+  as-asked : (x : ℕ) (rs : List At) → x + together ss rs ≡ n → ThreeKept ss rs → (0 < x → AllDown ss rs) → together ss rs ≡ min n (spare rs)
+  as-asked zero rs e k d = omega (arith, most rs k)
+  as-asked (suc x) rs e k d = omega (arith, all rs (d (omega arith)))
+
+  -- of two numbers one is not 0
+  either : {A : Type 0} (x y : ℕ) → (0 < x → A) → (0 < y → A) → 0 < x + y → A
+  either zero y f g h = g (omega arith)
+  either (suc x) y f g h = f (omega arith)
+
+  pub each-gives : (x : ℕ) (rs : List At) → x + together ss rs ≡ n → ThreeKept ss rs → LatestFirst ss rs → (0 < x → AllDown ss rs) → RecordsGive ss n rs
+  unfolding together spare
+  each-gives x [] e k l d = tt
+  each-gives x (r ∷ later) e k l d =
+      let y = gives ss (r .epoch) in
+      let d′ = either x y (λ h. d h .1) (λ h. l .0 (omega arith)) in
+      let e′ : x + y + together ss later ≡ n = omega arith in
+      let here = as-asked x (r ∷ later) e k d in
+      let behind = as-asked (x + y) later e′ (k .1) d′ in
+      (omega (arith, here, behind), each-gives (x + y) later e′ (k .1) (l .1) d′)
+
+  -- ---- from what each record gives
+
+  pub give-together : (rs : List At) → RecordsGive ss n rs → together ss rs ≡ min n (spare rs)
+  unfolding together spare
+  give-together [] g = omega arith
+  give-together (r ∷ later) g = omega (arith, g .0, give-together later (g .1))
+
+  pub keep : (rs : List At) → RecordsGive ss n rs → ThreeKept ss rs
+  keep [] g = tt
+  keep (r ∷ later) g = (omega (arith, g .0), keep later (g .1))
+
+  -- all are down where no less is asked than they can give
+  down : (rs : List At) → spare rs ≤ n → RecordsGive ss n rs → AllDown ss rs
+  unfolding spare
+  down [] h g = tt
+  down (r ∷ later) h g = (omega (arith, g .0), down later (omega arith) (g .1))
+
+  pub latest : (rs : List At) → RecordsGive ss n rs → LatestFirst ss rs
+  latest [] g = tt
+  latest (r ∷ later) g = (λ h. down later (omega (arith, g .0)) (g .1), latest later (g .1))
+
+  pub base-after : (base : ℕ) (rs : List At) → gives ss base ≡ asked n rs → RecordsGive ss n rs → BaseLast ss base rs
+  base-after base rs b g = λ h. down rs (omega arith) g
+
+  -- ---- where sections stand
+
+  -- where the later records give as asked, the fifth property speaks of what is asked
+  module _ (e : ℕ) (rs : List At) (g : RecordsGive ss n rs) where
+    told : ltb (together ss rs) n ≡ ltb 0 (asked n rs)
+    told = ap (λ (k : ℕ). ltb k n) (give-together rs g) ∙ less-asked rs n
+
+    pub if-asked : SectionIfAsked ss n e rs → has e ss ≡ ltb 0 (asked n rs)
+    if-asked h = let t = told in cc
+
+    pub asked-if : has e ss ≡ ltb 0 (asked n rs) → SectionIfAsked ss n e rs
+    asked-if h = let t = told in cc
+
+  pub each-has : (rs : List At) → RecordsGive ss n rs → OfEach (λ r later. SectionIfAsked ss n (r .epoch) later) rs → RecordsHave ss n rs
+  each-has [] g h = tt
+  each-has (r ∷ later) g h = (if-asked (r .epoch) later (g .1) (h .0), each-has later (g .1) (h .1))
+
+  pub has-each : (rs : List At) → RecordsGive ss n rs → RecordsHave ss n rs → OfEach (λ r later. SectionIfAsked ss n (r .epoch) later) rs
+  has-each [] g h = tt
+  has-each (r ∷ later) g h = (asked-if (r .epoch) later (g .1) (h .0), has-each later (g .1) (h .1))

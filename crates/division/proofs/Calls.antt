@@ -1,0 +1,44 @@
+-- The same of proper flags, and of what an accepted call of `split_storage_removed_bytes` leaves: its sections are the only fair ones, and a
+-- call for more bytes takes no less from any epoch.
+-- Assumes nothing.
+use mathlib.Core.Path.{_≡_, sym, ap, subst, _∙_}
+use mathlib.Core.Bool.{true}
+use mathlib.Core.List.{List}
+use Prim.Native.Nat.{ℕ, _≤_}
+use native.Mathlib.Omega.{arith}
+use Rattle.records.specs.Tables.{At}
+use Rattle.records.specs.Flags.{idOf, ownerOf, flagsOf, proper}
+use Rattle.records.specs.Answers.{ok}
+use Rattle.records.specs.declared.head.Head.{Head}
+use Rattle.records.proofs.Proper.{proper-inv, proper-ascends}
+use Rattle.rows.specs.Rows.{Tables, partsOf}
+use Rattle.rows.specs.Removals.{Removal, rowsOfRemoval}
+use Rattle.splitting.specs.Sections.{split}
+use Rattle.splitting.specs.Calls.{Told, splitRemoved}
+use Rattle.splitting.proofs.Ascending.{value-parts}
+use Rattle.splitting.proofs.Accepted.{flags-proper, value-stands}
+use Rattle.division.specs.Fair.{gives, OnlyFair, NeverLess}
+use Rattle.division.specs.Calls.{sectionsLeft}
+use Rattle.division.proofs.OnlyFair.{split-only-fair, split-never-less}
+
+-- ---- proper flags
+
+module _ (h : Head) (es cs : List ℕ) (p : proper h es cs ≡ true) where
+  -- of all kinds, kinds 1 and 3 among them, and of any amount
+  pub only-fair : (n : ℕ) → OnlyFair (h .base) (flagsOf h es cs .records) n (split (h .base) (flagsOf h es cs .records) n)
+  only-fair = split-only-fair (h .base) (flagsOf h es cs .records) (proper-ascends (proper-inv h es cs p))
+
+  pub never-less : NeverLess (split (h .base) (flagsOf h es cs .records))
+  never-less = split-never-less (h .base) (flagsOf h es cs .records) (proper-ascends (proper-inv h es cs p))
+
+-- ---- accepted calls
+
+module _ (h : Head) (es cs : List ℕ) (key n : ℕ) (kt vt : Tables) (t : Told) (e : splitRemoved h es cs key n kt vt .answer ≡ ok t) where
+  left-split : sectionsLeft t (splitRemoved h es cs key n kt vt) ≡ split (h .base) (flagsOf h es cs .records) n
+  left-split =
+      ap (λ (r : Removal). partsOf (rowsOfRemoval r)) (value-stands h es cs key n kt vt t e)
+      ∙ value-parts (idOf (ownerOf h)) (h .base) (flagsOf h es cs .records) key n
+
+  pub left-only-fair : OnlyFair (h .base) (flagsOf h es cs .records) n (sectionsLeft t (splitRemoved h es cs key n kt vt))
+  left-only-fair =
+      subst (OnlyFair (h .base) (flagsOf h es cs .records) n) (sym left-split) (only-fair h es cs (flags-proper h es cs key n kt vt t e) n)

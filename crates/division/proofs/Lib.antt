@@ -1,0 +1,6 @@
+-- What the proofs share. Assumes nothing.
+pub mod Each
+pub mod Sums
+pub mod Amounts
+pub mod OnlyFair
+pub mod Calls

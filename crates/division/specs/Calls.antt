@@ -1,0 +1,11 @@
+-- What an accepted call of `split_storage_removed_bytes` leaves, read as sections.
+-- Assumes nothing.
+use mathlib.Core.List.{List}
+use Rattle.records.specs.Tables.{At}
+use Rattle.rows.specs.Rows.{partsOf}
+use Rattle.rows.specs.Removals.{rowsOfRemoval, removalOf}
+use Rattle.splitting.specs.Calls.{Told, After}
+
+-- the sections of the value's removal, from its state and the tables lent for its rows
+abbrev pub sectionsLeft : Told → After → List At
+sectionsLeft t a = partsOf (rowsOfRemoval (removalOf (t .value) (a .value-rows)))
