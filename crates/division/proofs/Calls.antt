@@ -42,3 +42,10 @@ module _ (h : Head) (es cs : List ℕ) (key n : ℕ) (kt vt : Tables) (t : Told)
   pub left-only-fair : OnlyFair (h .base) (flagsOf h es cs .records) n (sectionsLeft t (splitRemoved h es cs key n kt vt))
   left-only-fair =
       subst (OnlyFair (h .base) (flagsOf h es cs .records) n) (sym left-split) (only-fair h es cs (flags-proper h es cs key n kt vt t e) n)
+
+-- two calls of the same flags, the second for no fewer bytes
+pub left-never-less : (h : Head) (es cs : List ℕ) (k l m n : ℕ) (kt vt lt wt : Tables) (t u : Told) → splitRemoved h es cs k m kt vt .answer ≡ ok t
+    → splitRemoved h es cs l n lt wt .answer ≡ ok u → m ≤ n → (e : ℕ)
+    → gives (sectionsLeft t (splitRemoved h es cs k m kt vt)) e ≤ gives (sectionsLeft u (splitRemoved h es cs l n lt wt)) e
+left-never-less h es cs k l m n kt vt lt wt t u p q less e =
+    rw (left-split h es cs k m kt vt t p, left-split h es cs l n lt wt u q) (never-less h es cs (flags-proper h es cs k m kt vt t p) m n e less)

@@ -4,3 +4,5 @@ pub mod Sums
 pub mod Amounts
 pub mod OnlyFair
 pub mod Calls
+pub mod Needed
+pub mod Marked
