@@ -5,7 +5,6 @@ use mathlib.Core.Path.{_≡_, sym, ap, subst, _∙_}
 use mathlib.Core.Bool.{true}
 use mathlib.Core.List.{List}
 use Prim.Native.Nat.{ℕ, _≤_}
-use native.Mathlib.Omega.{arith}
 use Rattle.records.specs.Tables.{At}
 use Rattle.records.specs.Flags.{idOf, ownerOf, flagsOf, proper}
 use Rattle.records.specs.Answers.{ok}
@@ -17,7 +16,7 @@ use Rattle.splitting.specs.Sections.{split}
 use Rattle.splitting.specs.Calls.{Told, splitRemoved}
 use Rattle.splitting.proofs.Ascending.{value-parts}
 use Rattle.splitting.proofs.Accepted.{flags-proper, value-stands}
-use Rattle.division.specs.Fair.{gives, OnlyFair, NeverLess}
+use Rattle.division.specs.Fair.{OnlyFair, NoLess, NeverLess}
 use Rattle.division.specs.Calls.{sectionsLeft}
 use Rattle.division.proofs.OnlyFair.{split-only-fair, split-never-less}
 
@@ -46,6 +45,6 @@ module _ (h : Head) (es cs : List ℕ) (key n : ℕ) (kt vt : Tables) (t : Told)
 -- two calls of the same flags, the second for no fewer bytes
 pub left-never-less : (h : Head) (es cs : List ℕ) (k l m n : ℕ) (kt vt lt wt : Tables) (t u : Told) → splitRemoved h es cs k m kt vt .answer ≡ ok t
     → splitRemoved h es cs l n lt wt .answer ≡ ok u → m ≤ n → (e : ℕ)
-    → gives (sectionsLeft t (splitRemoved h es cs k m kt vt)) e ≤ gives (sectionsLeft u (splitRemoved h es cs l n lt wt)) e
-left-never-less h es cs k l m n kt vt lt wt t u p q less e =
-    rw (left-split h es cs k m kt vt t p, left-split h es cs l n lt wt u q) (never-less h es cs (flags-proper h es cs k m kt vt t p) m n e less)
+    → NoLess (sectionsLeft t (splitRemoved h es cs k m kt vt)) (sectionsLeft u (splitRemoved h es cs l n lt wt)) e
+left-never-less h es cs k l m n kt vt lt wt t u p q less =
+    rw (left-split h es cs k m kt vt t p, left-split h es cs l n lt wt u q) (never-less h es cs (flags-proper h es cs k m kt vt t p) m n less)

@@ -13,7 +13,7 @@ use Rattle.records.proofs.Alike.{held-none, alike}
 use Rattle.splitting.specs.Sections.{above, asked, split}
 use Rattle.splitting.proofs.Ascending.{split-ascends}
 use Rattle.splitting.proofs.Given.{record-has, record-gives, base-has, base-gives, nowhere-else}
-use Rattle.division.specs.Fair.{Division, OfEach, gives, together, RightSum, ThreeKept, LatestFirst, BaseLast, SectionWhereAsked, Fair, OnlyFair, NeverLess}
+use Rattle.division.specs.Fair.{Division, OfEach, gives, together, RightSum, ThreeKept, LatestFirst, BaseLast, SectionWhereAsked, Fair, OnlyFair, NoLess, NeverLess}
 use Rattle.division.proofs.Each.{of-each, at-each}
 use Rattle.division.proofs.Sums.{total-gives}
 use Rattle.division.proofs.Amounts.{RecordsGive, RecordsHave, each-gives, give-together, keep, latest, base-after, if-asked, asked-if, each-has, has-each}
@@ -134,9 +134,14 @@ module _ (base : ℕ) (rs : List At) (a : ascending base (epochsOf rs) ≡ true)
   -- ---- larger amounts
 
   pub split-never-less : NeverLess (split base rs)
-  split-never-less m n e h =
+  split-never-less m n h =
       let x = split-amounts m in
       let y = split-amounts n in
-      at-every (λ c. gives (split base rs m) c ≤ gives (split base rs n) c) (omega (arith, x .base-gives, y .base-gives))
-      (at-each (λ c. gives (split base rs m) c ≤ gives (split base rs n) c) (λ r later p q. omega arith) rs (x .records-give) (y .records-give))
-      (λ c p q. omega (arith, held-none c (split base rs m) (split-division m .nowhere-else c p q))) e
+      at-every (NoLess (split base rs m) (split base rs n)) (omega (arith, x .base-gives, y .base-gives))
+      (at-each (NoLess (split base rs m) (split base rs n)) (λ r later p q. omega arith) rs (x .records-give) (y .records-give))
+      (λ e p q.
+      omega (
+        arith,
+        held-none e (split base rs m) (split-division m .nowhere-else e p q),
+        held-none e (split base rs n) (split-division n .nowhere-else e p q),
+      ))

@@ -83,6 +83,10 @@ pub record OnlyFair (base : ℕ) (rs : List At) (n : ℕ) (ss : List At) : Type 
   pub is-fair : Fair base rs n ss
   pub no-other : (us : List At) → Division base rs us → Fair base rs n us → us ≡ ss
 
+-- an epoch gives no less in us than in ss
+abbrev pub NoLess : List At → List At → ℕ → Type 0
+NoLess ss us e = gives ss e ≤ gives us e
+
 -- no epoch gives less of a larger amount
 abbrev pub NeverLess : (ℕ → List At) → Type 0
-NeverLess divided = (m n e : ℕ) → m ≤ n → gives (divided m) e ≤ gives (divided n) e
+NeverLess divided = (m n : ℕ) → m ≤ n → (e : ℕ) → NoLess (divided m) (divided n) e
