@@ -5,6 +5,7 @@ use differential::boundary;
 use differential::expected::expected;
 use differential::question::{Question, Reply, Split};
 use differential::values::*;
+use petasunok::{MergingOwnersStrategy, StorageFlags};
 
 /// Records above the base by their counts, the latest last.
 type Counts = [u32];
@@ -165,4 +166,14 @@ fn the_worked_example() {
     for (amount, sections) in divided {
         assert_eq!(split(&[10, 9, 2], amount), sections, "{amount} bytes");
     }
+}
+
+/// What its merge leaves: two records are dropped, also the one whose section is 0.
+#[test]
+fn the_worked_example_merged() {
+    let flags = StorageFlags::MultiEpoch(5, [(7, 10), (8, 9), (9, 2)].into());
+    let (_, removed) = flags.split_storage_removed_bytes(0, 10).unwrap();
+    let incoming = StorageFlags::new_single_epoch(9, None);
+    let merged = flags.combine_removed_bytes(incoming, &removed, MergingOwnersStrategy::RaiseIssue);
+    assert_eq!(merged, Ok(StorageFlags::MultiEpoch(5, [(7, 6)].into())));
 }
