@@ -6,10 +6,12 @@ use mathlib.Core.List.{List, [], _∷_}
 use Prim.Native.Nat.{ℕ, zero, suc, _+_, _≤_, _<_, min}
 use native.Mathlib.Omega.{arith}
 use lib.Dec.{ltb}
+use borrow.Author.Tests.{lt-ltb}
 use Rattle.records.specs.Tables.{At, has}
+use Rattle.records.proofs.Alike.{has-held}
 use Rattle.splitting.specs.Sections.{above, spare, asked}
 use Rattle.splitting.proofs.Sums.{sections-sum, gave-less}
-use Rattle.division.specs.Fair.{OfEach, gives, together, AllDown, ThreeKept, LatestFirst, BaseLast, SectionIfAsked, SectionWhereAsked}
+use Rattle.division.specs.Fair.{OfEach, gives, together, AllDown, ThreeKept, LatestFirst, BaseLast, SectionIfAsked}
 
 -- sections ss of n bytes; each record gives the smaller of what is asked of it and what it holds above 3
 abbrev pub RecordsGive : List At → ℕ → List At → Type 0
@@ -103,3 +105,17 @@ module _ (ss : List At) (n : ℕ) where
   pub has-each : (rs : List At) → RecordsGive ss n rs → RecordsHave ss n rs → OfEach (λ r later. SectionIfAsked ss n (r .epoch) later) rs
   has-each [] g h = tt
   has-each (r ∷ later) g h = (asked-if (r .epoch) later (g .1) (h .0), has-each later (g .1) (h .1))
+
+  -- where an epoch gives something, the fifth property follows from the sum: the others give the rest, so the later ones less than n
+  pub section-given : (e : ℕ) (later : List At) (x : ℕ) → x + gives ss e + together ss later ≡ n → 0 < gives ss e → SectionIfAsked ss n e later
+  section-given e later x s h =
+      let p = has-held e ss h in
+      let q = lt-ltb (together ss later) n (omega arith) in
+      cc
+
+  pub each-given : (x : ℕ) (rs : List At) → x + together ss rs ≡ n → OfEach (λ r later. 0 < gives ss (r .epoch) → SectionIfAsked ss n (r .epoch) later) rs
+  unfolding together
+  each-given x [] e = tt
+  each-given x (r ∷ later) e =
+      let e′ : x + gives ss (r .epoch) + together ss later ≡ n = omega arith in
+      (section-given (r .epoch) later x e′, each-given (x + gives ss (r .epoch)) later e′)

@@ -5,7 +5,6 @@ use mathlib.Core.Path.{_≡_, sym, ap, subst, _∙_}
 use mathlib.Core.Bool.{true}
 use mathlib.Core.List.{List}
 use Prim.Native.Nat.{ℕ, _≤_}
-use Rattle.records.specs.Tables.{At}
 use Rattle.records.specs.Flags.{idOf, ownerOf, flagsOf, proper}
 use Rattle.records.specs.Answers.{ok}
 use Rattle.records.specs.declared.head.Head.{Head}
@@ -18,7 +17,8 @@ use Rattle.splitting.proofs.Ascending.{value-parts}
 use Rattle.splitting.proofs.Accepted.{flags-proper, value-stands}
 use Rattle.division.specs.Fair.{OnlyFair, NoLess, NeverLess}
 use Rattle.division.specs.Calls.{sectionsLeft}
-use Rattle.division.proofs.OnlyFair.{split-only-fair, split-never-less}
+use Rattle.division.proofs.OnlyFair.{split-only-fair}
+use Rattle.division.proofs.Larger.{split-never-less}
 
 -- ---- proper flags
 

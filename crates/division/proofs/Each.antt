@@ -1,7 +1,8 @@
--- What is said of each record: at each epoch that has one, and of the records of which some stand before others.
+-- What is said of each record: wherever it stands among all, and at each epoch that has one. With the base and what is said of no other epoch that
+-- is every epoch.
 -- Assumes nothing.
-use mathlib.Core.Path.{_≡_, sym, ap, subst, _∙_}
-use mathlib.Core.Bool.{true, false, true≢false}
+use mathlib.Core.Path.{_≡_, refl, sym, subst, _∙_}
+use mathlib.Core.Bool.{Bool, true, false, true≢false}
 use mathlib.Core.List.{List, [], _∷_, _++_, append-assoc}
 use Prim.Native.Nat.{ℕ}
 use native.Mathlib.Decide.{ℕ-discrete}
@@ -29,3 +30,24 @@ module _ {P Q : At → List At → Type 0} (R : ℕ → Type 0) (both : (r : At)
         | yes s ↦ subst R (sym s) (both r later (p .0) (q .0))
         | no s ↦ at-each later (p .1) (q .1) e (sym (has-passes e r later s) ∙ h)
       ]
+
+-- ---- every epoch: the base, a record's, or another
+
+module _ (base : ℕ) (rs : List At) where
+  pub at-every : (P : ℕ → Type 0) → P base → ((e : ℕ) → has e rs ≡ true → P e) → ((e : ℕ) → (e ≡ base → ⊥) → has e rs ≡ false → P e) → (e : ℕ) → P e
+  at-every P b r o e =
+      elim (ℕ-discrete e base) [
+        | yes p ↦ subst P (sym p) b
+        | no p ↦ by (has e rs) (λ q. r e q) (λ q. o e p q)
+      ]
+    where
+      by : {A : Type 0} (t : Bool) → (t ≡ true → A) → (t ≡ false → A) → A
+      by true f g = f refl
+      by false f g = g refl
+
+  -- two sets of sections of which the same is read at the base and at each record, and nothing else at another epoch, are read alike
+  pub read-alike : {A : Type 0} (read : ℕ → List At → A) (x : A) (v : At → List At → A) (ss us : List At) → read base ss ≡ x → read base us ≡ x
+      → OfEach (λ r later. read (r .epoch) ss ≡ v r later) rs → OfEach (λ r later. read (r .epoch) us ≡ v r later) rs
+      → ((e : ℕ) → (e ≡ base → ⊥) → has e rs ≡ false → read e ss ≡ read e us) → (e : ℕ) → read e ss ≡ read e us
+  read-alike read x v ss us p q f g other =
+      at-every (λ e. read e ss ≡ read e us) (p ∙ sym q) (at-each (λ e. read e ss ≡ read e us) (λ r later h k. h ∙ sym k) rs f g) other

@@ -4,11 +4,11 @@
 use mathlib.Core.Path.{_≡_, refl, sym, ap, _∙_}
 use mathlib.Core.Bool.{Bool, true, false, true≢false}
 use mathlib.Core.List.{List, [], _∷_}
-use Prim.Native.Nat.{ℕ, _+_, _≤_}
+use Prim.Native.Nat.{ℕ, _+_}
 use native.Mathlib.Omega.{arith}
 use native.Mathlib.Decide.{ℕ-discrete}
 use Rattle.records.specs.Tables.{At, _⦂_, epochsOf, ascending, rising, has, held}
-use Rattle.records.proofs.Rising.{asc-tail, asc-rises, rises-cons, asc-of-rises}
+use Rattle.records.proofs.Rising.{asc-rises}
 use Rattle.records.proofs.Held.{has-none, has-passes, held-passes, has-above, held-above}
 use Rattle.records.proofs.Alike.{apart, not-first, held-first}
 use Rattle.division.specs.Fair.{Division, total, gives, together}

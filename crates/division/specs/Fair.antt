@@ -36,7 +36,7 @@ together ss (r ∷ rs) = gives ss (r .epoch) + together ss rs
 abbrev pub least : At → ℕ
 least r = min (r .bytes) minimum
 
--- some records are all down to that
+-- some records are all down to that: with what each gives it is the count
 abbrev pub AllDown : List At → List At → Type 0
 AllDown ss rs = OfEach (λ r later. gives ss (r .epoch) + least r ≡ r .bytes) rs
 
@@ -46,7 +46,7 @@ AllDown ss rs = OfEach (λ r later. gives ss (r .epoch) + least r ≡ r .bytes) 
 abbrev pub RightSum : List At → ℕ → Type 0
 RightSum ss n = total ss ≡ n
 
--- no record left with less than the smaller of its count and 3
+-- no record left with less than the smaller of its count and 3: with what it gives that is at most the count
 abbrev pub ThreeKept : List At → List At → Type 0
 ThreeKept ss rs = OfEach (λ r later. gives ss (r .epoch) + least r ≤ r .bytes) rs
 

@@ -38,6 +38,14 @@ held-none e (r ∷ rs) h =
     let p = apart e r rs h in
     held-passes e r rs (p .0) ∙ held-none e rs (p .1)
 
+-- so where something is held there is one
+pub has-held : (e : ℕ) (rs : List At) → 0 < held e rs → has e rs ≡ true
+has-held e rs h = by (has e rs) refl
+  where
+    by : (b : Bool) → has e rs ≡ b → b ≡ true
+    by true p = refl
+    by false p = absurd (omega (arith, held-none e rs p))
+
 -- ---- two tables
 
 -- what is read at each epoch of both tables is read behind their first records
