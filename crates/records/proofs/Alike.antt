@@ -23,6 +23,7 @@ apart e r rs h = by (eqb e (r .epoch)) refl h
     by true p q = absurd (true≢false q)
     by false p q = (eqb-false e (r .epoch) p, q)
 
+-- a table has its first record
 pub not-first : {A : Type 0} (r : At) (rs : List At) → has (r .epoch) (r ∷ rs) ≡ false → A
 not-first r rs h = absurd (apart (r .epoch) r rs h .0 refl)
 
@@ -67,6 +68,12 @@ unfolding epochsOf
 alone x y xs ys p hy same =
     not-first x xs (same ∙ has-above (x .epoch) (x .epoch) (y ∷ ys) (omega arith) (asc-cons (x .epoch) (y .epoch) (epochsOf ys) p hy))
 
+-- first records at one epoch are the same
+first-same : (x y : At) (xs ys : List At) → x .epoch ≡ y .epoch → ((e : ℕ) → held e (x ∷ xs) ≡ held e (y ∷ ys)) → x ≡ y
+first-same x y xs ys p same =
+    let q = sym (held-first x xs) ∙ same (x .epoch) ∙ ap (λ (d : ℕ). held d (y ∷ ys)) p ∙ held-first y ys in
+    λ i. record { epoch = p i; bytes = q i }
+
 pub alike : (xs ys : List At) → rising (epochsOf xs) ≡ true → rising (epochsOf ys) ≡ true
     → ((e : ℕ) → has e xs ≡ has e ys) → ((e : ℕ) → held e xs ≡ held e ys) → xs ≡ ys
 unfolding rising epochsOf
@@ -78,11 +85,9 @@ alike (x ∷ xs) (y ∷ ys) hx hy has-same held-same =
       | lower p ↦ alone x y xs ys p hy (has-same (x .epoch))
       | higher p ↦ alone y x ys xs p hx (sym (has-same (y .epoch)))
       | equal p ↦
-          let q : x .bytes ≡ y .bytes =
-          sym (held-first x xs) ∙ held-same (x .epoch) ∙ ap (λ (d : ℕ). held d (y ∷ ys)) p ∙ held-first y ys in
-          let first : x ≡ y = λ i. record { epoch = p i; bytes = q i } in
-          let rest : xs ≡ ys =
-          alike xs ys (asc-rises (x .epoch) (epochsOf xs) hx) (asc-rises (y .epoch) (epochsOf ys) hy)
-          (behind has has-passes x y xs ys p hx hy has-same) (behind held held-passes x y xs ys p hx hy held-same) in
+          let first = first-same x y xs ys p held-same in
+          let has-behind = behind has has-passes x y xs ys p hx hy has-same in
+          let held-behind = behind held held-passes x y xs ys p hx hy held-same in
+          let rest = alike xs ys (asc-rises (x .epoch) (epochsOf xs) hx) (asc-rises (y .epoch) (epochsOf ys) hy) has-behind held-behind in
           λ i. first i ∷ rest i
     ]
