@@ -22,7 +22,7 @@ abbrev pub RecordsHave : List At → ℕ → List At → Type 0
 RecordsHave ss n rs = OfEach (λ r later. has (r .epoch) ss ≡ ltb 0 (asked n later)) rs
 
 -- the later epochs gave less than n exactly if they cannot give n
-pub less-asked : (rs : List At) (n : ℕ) → ltb (min n (spare rs)) n ≡ ltb 0 (asked n rs)
+less-asked : (rs : List At) (n : ℕ) → ltb (min n (spare rs)) n ≡ ltb 0 (asked n rs)
 less-asked rs n = sym (gave-less [] rs n ∙ ap (λ (k : ℕ). ltb k n) (sections-sum [] rs n))
 
 module _ (ss : List At) (n : ℕ) where
@@ -68,9 +68,14 @@ module _ (ss : List At) (n : ℕ) where
   give-together [] g = omega arith
   give-together (r ∷ later) g = omega (arith, g .0, give-together later (g .1))
 
+  -- what follows for a record where those behind it give so
+  module _ {P Q : At → List At → Type 0} (one : (r : At) (later : List At) → RecordsGive ss n later → P r later → Q r later) where
+    each : (rs : List At) → RecordsGive ss n rs → OfEach P rs → OfEach Q rs
+    each [] g p = tt
+    each (r ∷ later) g p = (one r later (g .1) (p .0), each later (g .1) (p .1))
+
   pub keep : (rs : List At) → RecordsGive ss n rs → ThreeKept ss rs
-  keep [] g = tt
-  keep (r ∷ later) g = (omega (arith, g .0), keep later (g .1))
+  keep rs g = each (λ r later behind p. omega arith) rs g g
 
   -- all are down where no less is asked than they can give
   down : (rs : List At) → spare rs ≤ n → RecordsGive ss n rs → AllDown ss rs
@@ -79,8 +84,7 @@ module _ (ss : List At) (n : ℕ) where
   down (r ∷ later) h g = (omega (arith, g .0), down later (omega arith) (g .1))
 
   pub latest : (rs : List At) → RecordsGive ss n rs → LatestFirst ss rs
-  latest [] g = tt
-  latest (r ∷ later) g = (λ h. down later (omega (arith, g .0)) (g .1), latest later (g .1))
+  latest rs g = each (λ r later behind p h. down later (omega arith) behind) rs g g
 
   pub base-after : (base : ℕ) (rs : List At) → gives ss base ≡ asked n rs → RecordsGive ss n rs → BaseLast ss base rs
   base-after base rs b g = λ h. down rs (omega arith) g
@@ -99,12 +103,10 @@ module _ (ss : List At) (n : ℕ) where
     asked-if h = let t = told in cc
 
   pub each-has : (rs : List At) → RecordsGive ss n rs → OfEach (λ r later. SectionIfAsked ss n (r .epoch) later) rs → RecordsHave ss n rs
-  each-has [] g h = tt
-  each-has (r ∷ later) g h = (if-asked (r .epoch) later (g .1) (h .0), each-has later (g .1) (h .1))
+  each-has = each (λ r later. if-asked (r .epoch) later)
 
   pub has-each : (rs : List At) → RecordsGive ss n rs → RecordsHave ss n rs → OfEach (λ r later. SectionIfAsked ss n (r .epoch) later) rs
-  has-each [] g h = tt
-  has-each (r ∷ later) g h = (asked-if (r .epoch) later (g .1) (h .0), has-each later (g .1) (h .1))
+  has-each = each (λ r later. asked-if (r .epoch) later)
 
   -- where an epoch gives something, the fifth property follows from the sum: the others give the rest, so the later ones less than n
   pub section-given : (e : ℕ) (later : List At) (x : ℕ) → x + gives ss e + together ss later ≡ n → 0 < gives ss e → SectionIfAsked ss n e later
