@@ -125,21 +125,21 @@ fn the_first_four_fix_what_each_epoch_gives() {
     }
 }
 
-/// For each property the example of the page and of the proof, which has all others: counts, an amount, and the sections.
+/// For each property the example of the page and of the proof: counts, an amount, the split, and a set that has all others.
 #[test]
 fn none_of_the_five_follows_from_the_others() {
-    let examples: [(&Counts, u32, &Sections); 5] = [
-        (&[4], 2, &[Some(2), Some(1)]),
-        (&[4], 2, &[None, Some(2)]),
-        (&[4, 4], 1, &[None, Some(1), Some(0)]),
-        (&[4], 1, &[Some(1), Some(0)]),
-        (&[10, 3], 1, &[None, Some(1), None]),
+    let examples: [(&Counts, u32, &Sections, &Sections); 5] = [
+        (&[4], 2, &[Some(1), Some(1)], &[Some(2), Some(1)]),
+        (&[4], 2, &[Some(1), Some(1)], &[None, Some(2)]),
+        (&[4, 4], 1, &[None, None, Some(1)], &[None, Some(1), Some(0)]),
+        (&[4], 1, &[None, Some(1)], &[Some(1), Some(0)]),
+        (&[10, 3], 1, &[None, Some(1), Some(0)], &[None, Some(1), None]),
     ];
-    for (lacking, (counts, amount, sections)) in examples.into_iter().enumerate() {
+    for (lacking, (counts, amount, fair, another)) in examples.into_iter().enumerate() {
         let mut others = [true; 5];
         others[lacking] = false;
-        assert_eq!(has(counts, amount, sections), others);
-        assert_ne!(sections, split(counts, amount));
+        assert_eq!(has(counts, amount, another), others);
+        assert_eq!(split(counts, amount), fair);
     }
 }
 
