@@ -1,5 +1,5 @@
--- What each epoch gives, of any sections: the first four properties hold exactly if each record gives the smaller of what is asked of it and
--- what it holds above 3, and the base what the records cannot. Where that is so, the fifth holds exactly if a section stands where something is asked.
+-- What each record gives, of any sections with the first four properties: the smaller of what is asked of it and what it holds above 3. Where that is
+-- so, these properties hold, and the fifth holds exactly if a section stands where something is asked. By cases on the records.
 -- Assumes nothing.
 use mathlib.Core.Path.{_≡_, refl, sym, ap, _∙_}
 use mathlib.Core.List.{List, [], _∷_}
@@ -25,6 +25,11 @@ RecordsHave ss n rs = OfEach (λ r later. has (r .epoch) ss ≡ ltb 0 (asked n l
 less-asked : (rs : List At) (n : ℕ) → ltb (min n (spare rs)) n ≡ ltb 0 (asked n rs)
 less-asked rs n = sym (gave-less [] rs n ∙ ap (λ (k : ℕ). ltb k n) (sections-sum [] rs n))
 
+-- where a sum is not 0, one of the two is not
+either : {A : Type 0} (x y : ℕ) → (0 < x → A) → (0 < y → A) → 0 < x + y → A
+either zero y f g h = g (omega arith)
+either (suc x) y f g h = f (omega arith)
+
 module _ (ss : List At) (n : ℕ) where
   -- ---- from the properties
 
@@ -44,11 +49,6 @@ module _ (ss : List At) (n : ℕ) where
   as-asked : (x : ℕ) (rs : List At) → x + together ss rs ≡ n → ThreeKept ss rs → (0 < x → AllDown ss rs) → together ss rs ≡ min n (spare rs)
   as-asked zero rs e k d = omega (arith, most rs k)
   as-asked (suc x) rs e k d = omega (arith, all rs (d (omega arith)))
-
-  -- of two numbers one is not 0
-  either : {A : Type 0} (x y : ℕ) → (0 < x → A) → (0 < y → A) → 0 < x + y → A
-  either zero y f g h = g (omega arith)
-  either (suc x) y f g h = f (omega arith)
 
   pub each-gives : (x : ℕ) (rs : List At) → x + together ss rs ≡ n → ThreeKept ss rs → LatestFirst ss rs → (0 < x → AllDown ss rs) → RecordsGive ss n rs
   unfolding together spare

@@ -1,5 +1,5 @@
--- What is said of each record: wherever it stands among all, and at each epoch that has one. With the base and what is said of no other epoch that
--- is every epoch.
+-- What is said of each record: how it follows from what holds wherever a record stands among all, and what it tells of each epoch with a record. An
+-- epoch is the base, a record's, or neither; so what is shown of these three is shown of every epoch.
 -- Assumes nothing.
 use mathlib.Core.Path.{_≡_, refl, sym, subst, _∙_}
 use mathlib.Core.Bool.{Bool, true, false, true≢false}
@@ -45,7 +45,7 @@ module _ (base : ℕ) (rs : List At) where
       by true f g = f refl
       by false f g = g refl
 
-  -- two sets of sections of which the same is read at the base and at each record, and nothing else at another epoch, are read alike
+  -- what is read of two sets of sections is the same at every epoch, if it is so at the base, at each record, and where there is neither
   pub read-alike : {A : Type 0} (read : ℕ → List At → A) (x : A) (v : At → List At → A) (ss us : List At) → read base ss ≡ x → read base us ≡ x
       → OfEach (λ r later. read (r .epoch) ss ≡ v r later) rs → OfEach (λ r later. read (r .epoch) us ≡ v r later) rs
       → ((e : ℕ) → (e ≡ base → ⊥) → has e rs ≡ false → read e ss ≡ read e us) → (e : ℕ) → read e ss ≡ read e us

@@ -50,7 +50,7 @@ module _ (base : ℕ) (rs : List At) (a : ascending base (epochsOf rs) ≡ true)
       let e = sum-gives s in
       (section-given ss n base rs 0 (omega arith), each-given ss n (gives ss base) rs e)
 
-  -- so amounts and sections that stand so are fair
+  -- sections that give and stand so are fair
   pub fair : Amounts base rs n ss → Standing base rs n ss → Fair base rs n ss
   fair m s =
       let g = m .records-give in

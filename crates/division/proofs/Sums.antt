@@ -2,7 +2,7 @@
 -- By cases on the sections.
 -- Assumes nothing.
 use mathlib.Core.Path.{_≡_, refl, sym, ap, _∙_}
-use mathlib.Core.Bool.{Bool, true, false, true≢false}
+use mathlib.Core.Bool.{true, false, true≢false}
 use mathlib.Core.List.{List, [], _∷_}
 use Prim.Native.Nat.{ℕ, _+_}
 use native.Mathlib.Omega.{arith}
@@ -10,7 +10,7 @@ use native.Mathlib.Decide.{ℕ-discrete}
 use Rattle.records.specs.Tables.{At, _⦂_, epochsOf, ascending, rising, has, held}
 use Rattle.records.proofs.Rising.{asc-rises}
 use Rattle.records.proofs.Held.{has-none, has-passes, held-passes, has-above, held-above}
-use Rattle.records.proofs.Alike.{apart, not-first, held-first}
+use Rattle.records.proofs.Alike.{apart, not-first, held-first, has-unless}
 use Rattle.division.specs.Fair.{Division, total, gives, together}
 
 -- ---- one section more
@@ -60,20 +60,13 @@ only-behind rs s ss a o e h =
       | no p ↦ sym (has-passes e s ss p) ∙ o e h
     ]
 
--- a section where no other has to stand has its record
-stands : (rs : List At) (s : At) (ss : List At) → Only rs (s ∷ ss) → has (s .epoch) rs ≡ true
-stands rs s ss o = by (has (s .epoch) rs) refl
-  where
-    by : (b : Bool) → has (s .epoch) rs ≡ b → b ≡ true
-    by true p = refl
-    by false p = not-first s ss (o (s .epoch) p)
-
 all-sections : (rs ss : List At) → rising (epochsOf rs) ≡ true → rising (epochsOf ss) ≡ true → Only rs ss → total ss ≡ together ss rs
 unfolding total epochsOf rising
 all-sections rs [] a h o = sym (together-none rs)
 all-sections rs (s ∷ ss) a h o =
     let rest = all-sections rs ss a (asc-rises (s .epoch) (epochsOf ss) h) (only-behind rs s ss h o) in
-    omega (arith, rest, among s ss rs a (held-above (s .epoch) (s .epoch) ss (omega arith) h) (stands rs s ss o))
+    let record-there = has-unless (s .epoch) rs (λ p. not-first s ss (o (s .epoch) p)) in
+    omega (arith, rest, among s ss rs a (held-above (s .epoch) (s .epoch) ss (omega arith) h) record-there)
 
 -- the base stands before the records
 pub total-gives : (base : ℕ) (rs ss : List At) → ascending base (epochsOf rs) ≡ true → Division base rs ss → total ss ≡ gives ss base + together ss rs

@@ -39,13 +39,17 @@ held-none e (r ∷ rs) h =
     let p = apart e r rs h in
     held-passes e r rs (p .0) ∙ held-none e rs (p .1)
 
--- so where something is held there is one
-pub has-held : (e : ℕ) (rs : List At) → 0 < held e rs → has e rs ≡ true
-has-held e rs h = by (has e rs) refl
+-- a record stands where it cannot be missing
+pub has-unless : (e : ℕ) (rs : List At) → (has e rs ≡ false → ⊥) → has e rs ≡ true
+has-unless e rs = by (has e rs)
   where
-    by : (b : Bool) → has e rs ≡ b → b ≡ true
-    by true p = refl
-    by false p = absurd (omega (arith, held-none e rs p))
+    by : (b : Bool) → (b ≡ false → ⊥) → b ≡ true
+    by true n = refl
+    by false n = absurd (n refl)
+
+-- so where something is held
+pub has-held : (e : ℕ) (rs : List At) → 0 < held e rs → has e rs ≡ true
+has-held e rs h = has-unless e rs (λ p. omega (arith, held-none e rs p))
 
 -- ---- two tables
 

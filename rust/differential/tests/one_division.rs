@@ -107,10 +107,15 @@ fn split(counts: &Counts, amount: u32) -> Vec<Option<u32>> {
 
 #[test]
 fn exactly_one_set_is_fair_and_it_is_the_split() {
+    let (mut cases, mut tried) = (0, 0);
     for (counts, amount) in small() {
-        let fair: Vec<_> = sets(&counts, amount).into_iter().filter(|sections| has(&counts, amount, sections) == [true; 5]).collect();
-        assert_eq!(fair, [split(&counts, amount)], "{counts:?}, {amount} bytes");
+        let mut sets = sets(&counts, amount);
+        cases += 1;
+        tried += sets.len();
+        sets.retain(|sections| has(&counts, amount, sections) == [true; 5]);
+        assert_eq!(sets, [split(&counts, amount)], "{counts:?}, {amount} bytes");
     }
+    assert_eq!((cases, tried), (2_312, 8_894_124), "docs/DIVISION.md has these figures");
 }
 
 #[test]

@@ -84,8 +84,8 @@ impl StorageFlags {
     }
 
     /// split_storage_removed_bytes removes bytes as LIFO: the key's at the base epoch, the value's from the latest record down. It answers
-    /// the key's removal and the value's. No other division of the value's bytes takes them from the latest records first and leaves each
-    /// record 3. Refusals: 11, 8.
+    /// the key's removal and the value's. No other division of the value's bytes is "latest first, three kept"
+    /// (`docs/DIVISION.md` in the repository). Refusals: 11, 8.
     ///
     /// ```
     /// use petasunok::{StorageFlags, StorageRemovedBytes::*};
