@@ -52,6 +52,11 @@ module _ {all : List ℕ} {at : ℕ} {old left : List ℕ} {i : ℕ} {new : List
   parts-done h =
       record { behind = omega (arith, p .reached, ap length h); wrote = rw h at (p .to-set) }
 
+  -- what is left is written part by part itself
+  pub parts-then : {rest : List ℕ} {j : ℕ} {new′ : List ℕ} → Parts left i new rest j new′ → Parts all at old rest j new′
+  parts-then q =
+      record { to-set = q .to-set ∙ p .to-set; reached = q .reached ∙ p .reached; long = q .long ∙ p .long }
+
   -- what is left has room where all has
   pub parts-room : at + length all ≤ length old → i + length left ≤ length new
   parts-room r = omega (arith, p .reached, p .long)

@@ -12,3 +12,4 @@ pub mod Held
 pub mod Alike
 pub mod Around
 pub mod Merged
+pub mod Runs

@@ -1,15 +1,17 @@
 -- Records and the two tables that hold them: the one gives the other back, and records are written into tables one after another.
 -- Assumes nothing.
 use mathlib.Core.Path.{_≡_, refl, sym, ap, _∙_}
-use mathlib.Core.List.{List, [], _∷_, _++_}
+use mathlib.Core.List.{List, [], _∷_, _++_, append-nil}
 use Prim.Native.Nat.{ℕ, zero, suc, _+_, _-_, _≤_, _<_}
 use native.Mathlib.Nat.{zero-add}
 use native.Mathlib.Numerals.{add-one}
 use native.Mathlib.Omega.{arith}
 use lib.ListN.{length, take, drop, getD, set, length-append, length-drop, drop-of-length-le}
 use lib.Seq.{length-take-le, take-at, drop-cons, getD-take, take-add, sets, sets-eq}
-use Rattle.fields.proofs.Parts.{sets-append, Parts, parts-start, parts-byte, parts-done}
+use Rattle.fields.specs.Writing.{Put}
+use Rattle.fields.proofs.Parts.{Parts, parts-start, parts-byte, parts-put, parts-then, parts-done, put-long}
 use Rattle.records.specs.Tables.{At, _⦂_, recordsOf, epochsOf, countsOf, over, Placed}
+use Rattle.records.specs.Runs.{Room}
 
 -- ---- records, and their epochs and counts
 
@@ -63,6 +65,14 @@ pub epochs-cons : (r : At) (rs : List At) → epochsOf (r ∷ rs) ≡ r .epoch �
 unfolding epochsOf
 epochs-cons r rs = refl
 
+pub epochs-append : (rs ss : List At) → epochsOf (rs ++ ss) ≡ epochsOf rs ++ epochsOf ss
+unfolding epochsOf
+epochs-append = column-append epochsOf (λ (r : At). r .epoch) refl (λ r rs. refl)
+
+pub counts-append : (rs ss : List At) → countsOf (rs ++ ss) ≡ countsOf rs ++ countsOf ss
+unfolding countsOf
+counts-append = column-append countsOf (λ (r : At). r .bytes) refl (λ r rs. refl)
+
 -- ---- from a place on
 
 no-counts : (es : List ℕ) → recordsOf es [] ≡ []
@@ -90,6 +100,12 @@ take-records zero es cs = refl
 take-records (suc n) [] cs = refl
 take-records (suc n) (e ∷ es) [] = refl
 take-records (suc n) (e ∷ es) (c ∷ cs) = rw (take-records n es cs)
+
+pub first-long : (es cs : List ℕ) (n : ℕ) → n ≤ length es → n ≤ length cs → length (take n (recordsOf es cs)) ≡ n
+first-long es cs n he hc =
+    ap (length {A = At}) (take-records n es cs)
+    ∙ length-recordsOf (take n es) (take n cs) (length-take-le n es he ∙ sym (length-take-le n cs hc))
+    ∙ length-take-le n es he
 
 module _ (es cs : List ℕ) (n i : ℕ) (he : n ≤ length es) (hc : n ≤ length cs) where
   pub first-on : i < n → drop i (take n (recordsOf es cs)) ≡ getD es i 0 ⦂ getD cs i 0 ∷ drop (i + 1) (take n (recordsOf es cs))
@@ -161,13 +177,37 @@ module _ {all left : List At} {at k : ℕ} {es₀ cs₀ es cs : List ℕ} (f : F
 
 -- ---- one run of records after another
 
-pub epochs-append : (rs ss : List At) → epochsOf (rs ++ ss) ≡ epochsOf rs ++ epochsOf ss
-unfolding epochsOf
-epochs-append = column-append epochsOf (λ (r : At). r .epoch) refl (λ r rs. refl)
+module _ {rs : List At} {at next : ℕ} {es cs es′ cs′ : List ℕ} (p : Placed rs at next es cs es′ cs′) where
+  epochs-put : Put (epochsOf rs) at next es es′
+  epochs-put = record { behind = p .behind ∙ rw (length-epochsOf rs); wrote = p .epochs-set }
 
-pub counts-append : (rs ss : List At) → countsOf (rs ++ ss) ≡ countsOf rs ++ countsOf ss
-unfolding countsOf
-counts-append = column-append countsOf (λ (r : At). r .bytes) refl (λ r rs. refl)
+  counts-put : Put (countsOf rs) at next cs cs′
+  counts-put = record { behind = p .behind ∙ rw (length-countsOf rs); wrote = p .counts-set }
+
+  pub placed-long : (length es′ ≡ length es) × (length cs′ ≡ length cs)
+  placed-long = (put-long epochs-put, put-long counts-put)
+
+module _ {all left : List At} {at k : ℕ} {es₀ cs₀ es cs : List ℕ} (f : Filling all left at k es₀ cs₀ es cs) where
+  -- a run more is written
+  pub filling-run : {rs rest : List At} {n : ℕ} {es′ cs′ : List ℕ} → left ≡ rs ++ rest → Placed rs k n es cs es′ cs′ → Filling all rest at n es₀ cs₀ es′ cs′
+  filling-run {rs} {rest} h p =
+      record {
+        epochs = parts-put (f .epochs) (ap epochsOf h ∙ epochs-append rs rest) (epochs-put p);
+        counts = parts-put (f .counts) (ap countsOf h ∙ counts-append rs rest) (counts-put p);
+      }
+
+  -- what is left is written one after another itself
+  pub filling-then : {rest : List At} {n : ℕ} {es′ cs′ : List ℕ} → Filling left rest k n es cs es′ cs′ → Filling all rest at n es₀ cs₀ es′ cs′
+  filling-then g = record { epochs = parts-then (f .epochs) (g .epochs); counts = parts-then (f .counts) (g .counts) }
+
+  -- a run that is left has room where all have
+  pub filling-fits : (rs rest : List At) → left ≡ rs ++ rest → Room all at es₀ cs₀ → Room rs k es cs
+  filling-fits rs rest h r =
+      let l : length left ≡ length rs + length rest = ap (length {A = At}) h ∙ length-append rs rest in
+      record {
+        in-epochs = omega (arith, r .in-epochs, filling-reached f, f .epochs .long);
+        in-counts = omega (arith, r .in-counts, filling-reached f, f .counts .long);
+      }
 
 pub placed-one : (e c k : ℕ) (es cs : List ℕ) → Placed (e ⦂ c ∷ []) k (k + 1) es cs (set es k e) (set cs k c)
 unfolding epochsOf countsOf
@@ -176,10 +216,4 @@ placed-one e c k es cs = record { behind = refl; epochs-set = refl; counts-set =
 pub placed-then : {rs ss : List At} {at k n : ℕ} {es cs es′ cs′ es″ cs″ : List ℕ} → Placed rs at k es cs es′ cs′ → Placed ss k n es′ cs′ es″ cs″
     → Placed (rs ++ ss) at n es cs es″ cs″
 placed-then {rs} {ss} {at} {k} {n} {es} {cs} p q =
-    let ke : k ≡ at + length (epochsOf rs) = p .behind ∙ rw (length-epochsOf rs) in
-    let kc : k ≡ at + length (countsOf rs) = p .behind ∙ rw (length-countsOf rs) in
-    record {
-      behind = omega (arith, p .behind, q .behind, length-append rs ss);
-      epochs-set = q .epochs-set ∙ rw (p .epochs-set, ke, epochs-append rs ss) (sym (sets-append (epochsOf rs) (epochsOf ss) es at));
-      counts-set = q .counts-set ∙ rw (p .counts-set, kc, counts-append rs ss) (sym (sets-append (countsOf rs) (countsOf ss) cs at));
-    }
+    filling-done (filling-run (filling-run (filling-start (rs ++ ss) at es cs) refl p) (sym (append-nil ss)) q) refl

@@ -1,7 +1,7 @@
 -- The next record of a union, from the tests that find it, and what the loops over a union keep.
 -- A record below all that is left goes to the front; of two at one epoch the incoming one stands.
 -- Assumes nothing.
-use mathlib.Core.Path.{_≡_, refl, ap, _∙_}
+use mathlib.Core.Path.{_≡_, refl, sym, ap, _∙_}
 use mathlib.Core.List.{List, [], _∷_}
 use mathlib.Core.Bool.{Bool, true, false}
 use Prim.Native.Nat.{ℕ, _+_, _≤_, _<_}
@@ -11,9 +11,10 @@ use lib.ListN.{length, drop, getD, length-drop, drop-of-length-le}
 use borrow.Author.Tests.{ltb-true, ltb-false, lt-ltb, le-ltb, eqb-true, eqb-false, eq-eqb, ne-eqb}
 use Rattle.records.specs.Tables.{At, _⦂_, recordsOf, epochsOf, ascending, put, union, Table, Above}
 use Rattle.records.specs.Unions.{Within, Stepped}
+use Rattle.records.specs.Runs.{Selected}
 use Rattle.records.specs.declared.table.Next.{Next}
 use Rattle.records.proofs.Tables.{length-recordsOf, epochs-records, drop-records, records-on}
-use Rattle.records.proofs.Rising.{asc-none, asc-head, asc-tail, asc-cons, asc-lower, asc-rises, asc-behind}
+use Rattle.records.proofs.Rising.{Side, side, lower, equal, higher, asc-none, asc-head, asc-tail, asc-cons, asc-lower, asc-rises, asc-behind, asc-from}
 
 -- the records' epochs ascend strictly and are above b
 abbrev above : ℕ → List At → Type 0
@@ -143,7 +144,7 @@ module _ {oe oc te tc : List ℕ} {i j : ℕ} (ours : Table oe oc) (theirs : Tab
           falls = omega arith;
         }
 
-    pub step-both : i < length oe → getD te j 0 ≡ getD oe i 0
+    step-both : i < length oe → getD te j 0 ≡ getD oe i 0
         → Stepped (recordsOf oe oc) (recordsOf te tc) i j (record { epoch = getD te j 0; count = getD tc j 0; i = i + 1; j = j + 1 })
     step-both p h =
         record {
@@ -152,6 +153,21 @@ module _ {oe oc te tc : List ℕ} {i j : ℕ} (ours : Table oe oc) (theirs : Tab
           theirs-next = omega (arith, length-recordsOf te tc (theirs .even));
           falls = omega arith;
         }
+
+    -- both have a record: the selects give the next
+    pub step-selected : {e n a b : ℕ} → i < length oe → Selected (getD oe i 0) (getD te j 0) (getD oe i 0) (getD te j 0) e
+        → Selected (getD oe i 0) (getD te j 0) (getD oc i 0) (getD tc j 0) n → Selected (getD te j 0) (getD oe i 0) i (i + 1) a
+        → Selected (getD oe i 0) (getD te j 0) j (j + 1) b → Stepped (recordsOf oe oc) (recordsOf te tc) i j (record { epoch = e; count = n; i = a; j = b })
+    step-selected {e} {n} {a} {b} p se sn sa sb = by (side (getD oe i 0) (getD te j 0))
+      where
+        by : Side (getD oe i 0) (getD te j 0) → Stepped (recordsOf oe oc) (recordsOf te tc) i j (record { epoch = e; count = n; i = a; j = b })
+        by (lower l) =
+            rw (se .below l, sn .below l, sa .from (omega arith), sb .below l) (step-ours p (asc-from te j (getD oe i 0) (theirs .rises) q l))
+        by (equal l) =
+            rw (se .from (omega arith), sn .from (omega arith), sa .from (omega arith), sb .from (omega arith)) (step-both p (sym l))
+        by (higher l) =
+            rw (se .from (omega arith), sn .from (omega arith), sa .below l, sb .from (omega arith))
+            (step-theirs (asc-from oe i (getD te j 0) (ours .rises) p l))
 
 -- ---- the loops over a union
 

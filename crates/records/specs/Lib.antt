@@ -1,5 +1,6 @@
 pub mod Refusals
 pub mod Tables
 pub mod Unions
+pub mod Runs
 pub mod Flags
 pub mod Answers

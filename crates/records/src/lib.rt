@@ -1,6 +1,7 @@
 // Flags by value: the head, refusals and answers, and the two lent tables that hold records.
 mod answer;
 mod head;
+mod joining;
 mod refusal;
 mod table;
 

@@ -8,6 +8,11 @@ ghost use Rattle.records.specs.Unions.{Within, Stepped, spotOf};
 ghost use Rattle.records.specs.Flags.{agrees, proper};
 use crate::head::Head;
 use crate::head::Kind;
+use crate::joining::copy_run;
+use crate::joining::lead_end;
+use crate::joining::lesser;
+use crate::joining::standing;
+use crate::joining::upto;
 
 // Whether the epochs ascend strictly and are all above the base. No early exit: a loop of this shape can become vector code.
 pub fn ascend(base: u16, epochs: &[u16]) -> bool
@@ -117,12 +122,7 @@ pub fn copy_records(
     requires { ⌜ (n ≤ length (now epochs)) × (n ≤ length (now counts)) ⌝ }
     ensures { λ _. ⌜ Placed (take n (recordsOf (now («from_epochs» .entry)) (now («from_counts» .entry)))) 0 n (now (epochs .entry)) (now (counts .entry)) (now (epochs .exit)) (now (counts .exit)) ⌝ }
 {
-    let mut i: usize = 0;
-    while i < n {
-        epochs[i] = from_epochs[i];
-        counts[i] = from_counts[i];
-        i += 1;
-    }
+    copy_run(from_epochs, from_counts, 0, n, epochs, counts, 0);
 }
 
 // The next record of a union, and the places behind it in the two tables.
@@ -133,7 +133,8 @@ pub struct Next {
     pub j: usize,
 }
 
-// The next record of the union of what stands from i on in ours and from j on in theirs.
+// The next record of the union of what stands from i on in ours and from j on in theirs. Where both have one it is found without
+// a branch.
 pub fn next_record(
     our_epochs: &[u16],
     our_counts: &[u32],
@@ -165,27 +166,11 @@ pub fn next_record(
         };
     }
     let ours = our_epochs[i];
-    if ours < theirs {
-        return Next {
-            epoch: ours,
-            count: our_counts[i],
-            i: i + 1,
-            j,
-        };
-    }
-    if ours == theirs {
-        return Next {
-            epoch: theirs,
-            count: their_counts[j],
-            i: i + 1,
-            j: j + 1,
-        };
-    }
     Next {
-        epoch: theirs,
-        count: their_counts[j],
-        i,
-        j: j + 1,
+        epoch: lesser(ours, theirs),
+        count: standing(ours, theirs, our_counts[i], their_counts[j]),
+        i: upto(ours, theirs, i),
+        j: upto(theirs, ours, j),
     }
 }
 
@@ -216,7 +201,8 @@ pub fn union_len(
     n
 }
 
-// Puts that union into the two tables lent for it, from the place `at` on; answers the place behind it.
+// Puts that union into the two tables lent for it, from the place `at` on; answers the place behind it. Ours that are below all
+// of theirs go first and are copied as one run, and so is what is left of one side where the other is passed.
 pub fn union_into(
     our_epochs: &[u16],
     our_counts: &[u32],
@@ -235,11 +221,15 @@ pub fn union_into(
     requires { ⌜ at + length (union (drop i (recordsOf (now «our_epochs») (now «our_counts»))) (drop j (recordsOf (now «their_epochs») (now «their_counts»)))) ≤ length (now counts) ⌝ }
     ensures { λ r. ⌜ Placed (union (drop i (recordsOf (now («our_epochs» .entry)) (now («our_counts» .entry)))) (drop j (recordsOf (now («their_epochs» .entry)) (now («their_counts» .entry))))) at r (now (epochs .entry)) (now (counts .entry)) (now (epochs .exit)) (now (counts .exit)) ⌝ }
 {
-    let end = our_epochs.len() + their_epochs.len();
-    let mut a = i;
+    let our_end = our_epochs.len();
+    let their_end = their_epochs.len();
+    let mut a = lead_end(our_epochs, i, their_epochs, j);
     let mut b = j;
-    let mut k = at;
-    while a + b < end {
+    let mut k = copy_run(our_epochs, our_counts, i, a, epochs, counts, at);
+    while a < our_end {
+        if their_end <= b {
+            return copy_run(our_epochs, our_counts, a, our_end, epochs, counts, k);
+        }
         let next = next_record(our_epochs, our_counts, a, their_epochs, their_counts, b);
         epochs[k] = next.epoch;
         counts[k] = next.count;
@@ -247,7 +237,7 @@ pub fn union_into(
         b = next.j;
         k += 1;
     }
-    k
+    copy_run(their_epochs, their_counts, b, their_end, epochs, counts, k)
 }
 
 // Drops the record at a place of the first n: those behind it move down, and from the last place on all stays as it was.
