@@ -1,5 +1,6 @@
 pub mod Parsing
 pub mod Turns
+pub mod Taking
 pub mod Readings
 pub mod Copying
 pub mod Fills

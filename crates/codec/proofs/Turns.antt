@@ -6,11 +6,13 @@ use mathlib.Core.Option.{Option, none, some}
 use mathlib.Core.List.{List}
 use borrow.Author.Tests.{ne-eqb}
 use lib.ListN.{length, drop}
-use Rattle.records.specs.Tables.{At}
+use Rattle.records.specs.Tables.{At, _⦂_}
 use Rattle.records.specs.declared.refusal.Refusal.{Refusal}
 use Rattle.records.specs.declared.refusal.Refusal.the-variants.{WrongSize}
 use Rattle.codec.specs.Reading.{Next, bad, good, next, Fault, Parsed}
 use Rattle.codec.specs.Calls.{stepOf, scanOf}
+use Rattle.codec.specs.Blocks.{gotOf}
+use Rattle.codec.specs.declared.record.Got.the-variants.{Bad as NotGot, Good as Got}
 use Rattle.codec.specs.declared.judging.Step.the-variants.{Bad, Good}
 use Rattle.codec.specs.declared.judging.Scan.the-variants.{Faulty, Records}
 use Rattle.codec.proofs.Parsing.{rest, rest-bad, rest-good}
@@ -22,6 +24,25 @@ step-bad at (good a u) r e = cc
 step-good : (at : ℕ) (n : Next) (e j : ℕ) → stepOf at n ≡ Good e j → (a : At) × (u : ℕ) × (n ≡ good a u) × (a .epoch ≡ e) × (j ≡ at + u)
 step-good at (bad s) e j q = let z : _≡_ {A = ℕ} 0 1 = cc in absurd (omega arith)
 step-good at (good a u) e j q = (a, u, refl, cc, cc)
+
+-- the same of a record that was read
+pub got-bad : (at : ℕ) (n : Next) (r : Refusal) → gotOf at n ≡ NotGot r → n ≡ bad r
+got-bad at (bad s) r e = cc
+got-bad at (good a u) r e = cc
+
+pub got-good : (at : ℕ) (n : Next) (e k j : ℕ) → gotOf at n ≡ Got e k j → (u : ℕ) × (n ≡ good (e ⦂ k) u) × (j ≡ at + u)
+got-good at (bad s) e k j q = let z : _≡_ {A = ℕ} 0 1 = cc in absurd (omega arith)
+got-good at (good a u) e k j q =
+    let p : a .epoch ≡ e = cc in
+    let c : a .bytes ≡ k = cc in
+    (u, (λ i. good (p i ⦂ c i) u), cc)
+
+-- what was read, without the count, is what judging says
+pub got-bad-step : (at : ℕ) (n : Next) (r : Refusal) → gotOf at n ≡ NotGot r → Bad r ≡ stepOf at n
+got-bad-step at n r e = sym (ap (stepOf at) (got-bad at n r e))
+
+pub got-good-step : (at : ℕ) (n : Next) (e k j : ℕ) → gotOf at n ≡ Got e k j → Good e j ≡ stepOf at n
+got-good-step at n e k j q = let g = got-good at n e k j q in ap (Good e) (g .2) ∙ sym (ap (stepOf at) (g .1))
 
 module _ (d : List ℕ) (at prev : ℕ) (inside : at < length d) where
   -- the first fault

@@ -7,7 +7,8 @@ ghost use Rattle.records.specs.Flags.{multi, agrees, idOf, headFor};
 ghost use Rattle.codec.specs.Bytes.{headSize};
 ghost use Rattle.codec.specs.Reading.{next, parse, noFlags, refusedAt, baseIn, ownerIn, readAs, read};
 ghost use Rattle.codec.specs.Calls.{scanOf, stepOf, judgement};
-use fields::Judged;
+use crate::record::Got;
+use crate::record::read_record;
 use records::Head;
 use records::Kind;
 use records::KindByte;
@@ -44,19 +45,9 @@ fn judge_record(src: &[u8], at: usize, prev: u16) -> Step
     requires { ⌜ at ≤ length (now src) ⌝ }
     ensures { λ r. ⌜ r ≡ stepOf at (next prev (drop at (now (src .entry)))) ⌝ }
 {
-    if src.len() - at < 2 {
-        return Step::Bad(Refusal::WrongSize);
-    }
-    let epoch = fields::be16_at(src, at);
-    match fields::judge_varint(src, at + 2) {
-        Judged::Incomplete(_) => Step::Bad(Refusal::WrongSize),
-        Judged::NotCanonical(_) => Step::Bad(Refusal::NonCanonical),
-        Judged::Ends(next) => {
-            if epoch <= prev {
-                return Step::Bad(Refusal::NonCanonical);
-            }
-            Step::Good { epoch, next }
-        }
+    match read_record(src, at, prev) {
+        Got::Bad(refusal) => Step::Bad(refusal),
+        Got::Good { epoch, next, .. } => Step::Good { epoch, next },
     }
 }
 

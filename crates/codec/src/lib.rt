@@ -1,6 +1,8 @@
 // Flag bytes: reading, writing, and their sizes.
+mod blocks;
 mod judging;
 mod reading;
+mod record;
 mod sizes;
 mod writing;
 

@@ -5,5 +5,6 @@ pub mod Varints
 pub mod Parts
 pub mod Putting
 pub mod Places
+pub mod Endings
 pub mod Told
 pub mod RoundTrip

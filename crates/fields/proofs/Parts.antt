@@ -7,7 +7,7 @@ use native.Mathlib.Nat.{add-zero}
 use native.Mathlib.Numerals.{add-one}
 use native.Mathlib.Omega.{arith}
 use lib.ListN.{length, set, length-set, length-append}
-use lib.Seq.{sets, length-sets}
+use lib.Seq.{set-comm, sets, length-sets}
 use Rattle.fields.specs.Writing.{Put}
 
 pub sets-append : (xs ys l : List ℕ) (i : ℕ) → sets l i (xs ++ ys) ≡ sets (sets l i xs) (i + length xs) ys
@@ -15,6 +15,17 @@ sets-append [] ys l i = rw (add-zero i)
 sets-append (x ∷ xs) ys l i =
     let e : suc i + length xs ≡ i + suc (length xs) = omega arith in
     rw (← e) (sets-append xs ys (set l i x) (suc i))
+
+-- a part may be written after the one behind it
+set-before : (ys l : List ℕ) (i j x : ℕ) → i < j → set (sets l j ys) i x ≡ sets (set l i x) j ys
+set-before [] l i j x h = refl
+set-before (y ∷ ys) l i j x h =
+    set-before ys (set l j y) i (suc j) x (omega arith) ∙ ap (λ (m : List ℕ). sets m (suc j) ys) (set-comm l j i y x (λ e. omega arith))
+
+pub sets-before : (xs ys l : List ℕ) (i j : ℕ) → i + length xs ≤ j → sets (sets l j ys) i xs ≡ sets (sets l i xs) j ys
+sets-before [] ys l i j h = refl
+sets-before (x ∷ xs) ys l i j h =
+    ap (λ (m : List ℕ). sets m (suc i) xs) (set-before ys l i j x (omega arith)) ∙ sets-before xs ys (set l i x) (suc i) j (omega arith)
 
 -- of all bytes at the place at of old these are left to write, from the place i of new on
 pub record Parts (all : List ℕ) (at : ℕ) (old left : List ℕ) (i : ℕ) (new : List ℕ) : Type 0 where

@@ -4,7 +4,7 @@ use Prim.Native.Nat.{ℕ, _+_}
 use Rattle.fields.specs.Varint.{Found, incomplete, notCanonical, whole, judgedAt, readAt}
 use Rattle.fields.specs.declared.varint.Judged.the-variants.{Incomplete, NotCanonical, Ends}
 use Rattle.fields.specs.declared.varint.Varint.{Varint}
-use Rattle.fields.specs.declared.varint.Reading.the-variants.{Whole}
+use Rattle.fields.specs.declared.varint.Reading.the-variants.{Incomplete as NoVarint, NotCanonical as OtherVarint, Whole}
 
 -- found incomplete
 pub told-incomplete : (at place : ℕ) (f : Found) → judgedAt at f ≡ Incomplete place → (f ≡ incomplete) × (at ≡ place)
@@ -30,6 +30,16 @@ told-ends at next notCanonical e = record { count = 0; used = 0; is-whole = cc; 
 told-ends at next (whole v u) e = record { count = v; used = u; is-whole = refl; is-behind = cc }
 
 -- the same of what was read
+pub read-incomplete : (at place : ℕ) (f : Found) → readAt at f ≡ NoVarint place → f ≡ incomplete
+read-incomplete at place incomplete e = refl
+read-incomplete at place notCanonical e = cc
+read-incomplete at place (whole v u) e = cc
+
+pub read-strange : (at place : ℕ) (f : Found) → readAt at f ≡ OtherVarint place → f ≡ notCanonical
+read-strange at place incomplete e = cc
+read-strange at place notCanonical e = refl
+read-strange at place (whole v u) e = cc
+
 pub told-read : (at count next : ℕ) (f : Found) → Whole (record { count = count; next = next }) ≡ readAt at f → (used : ℕ) × (f ≡ whole count used) × (next ≡ at + used)
 told-read at count next incomplete e = (0, cc, cc)
 told-read at count next notCanonical e = (0, cc, cc)

@@ -1,7 +1,8 @@
 // Varints: minimal ones of counts up to 32 bits.
 ghost use mathlib.Core.Path.{_≡_};
-ghost use mathlib.Core.Bool.{true};
-ghost use Prim.Native.Nat.{_+_, _≤_};
+ghost use mathlib.Core.Bool.{true, _&&_};
+ghost use Prim.Native.Nat.{_+_, _*_, _≤_, _<_};
+ghost use lib.Dec.{ltb};
 ghost use lib.ListN.{length, take, drop};
 ghost use Rattle.fields.specs.Varint.{varint, value, found, isWhole, judgedAt, readAt, Passed, Ending};
 ghost use Rattle.fields.specs.Writing.{Put};
@@ -211,8 +212,8 @@ pub fn varint_at(src: &[u8], at: usize) -> Varint
     varint_third(src, at, two)
 }
 
-// Reads the varint at `at`.
-pub fn read_varint(src: &[u8], at: usize) -> Reading
+// Reads the varint at `at` byte by byte, as judging found it: where the bytes end soon, and where it is refused.
+fn read_judged(src: &[u8], at: usize) -> Reading
     ensures { λ r. ⌜ r ≡ readAt at (found (drop at (now (src .entry)))) ⌝ }
 {
     match judge_varint(src, at) {
@@ -220,4 +221,117 @@ pub fn read_varint(src: &[u8], at: usize) -> Reading
         Judged::NotCanonical(place) => Reading::NotCanonical(place),
         Judged::Ends(_) => Reading::Whole(varint_at(src, at)),
     }
+}
+
+// Whether both bytes have the top bit set: one test, so that nothing is guessed of the first alone.
+fn both_high(x: u8, y: u8) -> bool
+    ensures { λ r. ⌜ r ≡ ltb 127 x && ltb 127 y ⌝ }
+{
+    (127 < x) & (127 < y)
+}
+
+// The last byte of three or four: the third, where that has no top bit. This and the next two are chosen without a jump, since of mixed
+// counts it cannot be guessed which it is.
+fn last_of(third: u8, fourth: u8) -> u8
+    ensures { λ r. ⌜ (127 < third → r ≡ fourth) × (third ≤ 127 → r ≡ third) ⌝ }
+{
+    if 127 < third {
+        return fourth;
+    }
+    third
+}
+
+// What the fourth byte adds, where it belongs to the varint and is its last.
+fn fourth_part(third: u8, fourth: u8) -> u32
+    ensures { λ r. ⌜ (127 < third → r ≡ fourth * 2097152) × (third ≤ 127 → r ≡ 0) × (r ≤ 534773760) ⌝ }
+{
+    if 127 < third {
+        return wide(fourth) * 2097152;
+    }
+    0
+}
+
+// The place behind three or four bytes.
+fn behind(third: u8, at: usize) -> usize
+    requires { ⌜ at + 4 < 18446744073709551616 ⌝ }
+    ensures { λ r. ⌜ (127 < third → r ≡ at + 4) × (third ≤ 127 → r ≡ at + 3) ⌝ }
+{
+    if 127 < third {
+        return at + 4;
+    }
+    at + 3
+}
+
+// Reads the varint at `at`, of which four bytes are passed, that say `four`.
+fn read_fifth(src: &[u8], at: usize, four: u32) -> Reading
+    requires { ⌜ at + 4 < length (now src) ⌝ }
+    requires { ⌜ Passed (now src) at 4 × (four ≡ value (take 4 (drop at (now src)))) ⌝ }
+    ensures { λ r. ⌜ r ≡ readAt at (found (drop at (now (src .entry)))) ⌝ }
+{
+    let fifth = src[at + 4];
+    if 15 < fifth {
+        return read_judged(src, at);
+    }
+    if fifth == 0 {
+        return Reading::NotCanonical(at);
+    }
+    Reading::Whole(Varint {
+        count: four + wide(fifth) * 268435456,
+        next: at + 5,
+    })
+}
+
+// Reads the varint at `at`, of which two bytes are passed, that say `two`.
+fn read_third(src: &[u8], at: usize, two: u32) -> Reading
+    requires { ⌜ at + 2 ≤ length (now src) ⌝ }
+    requires { ⌜ Passed (now src) at 2 × (two ≡ value (take 2 (drop at (now src)))) ⌝ }
+    ensures { λ r. ⌜ r ≡ readAt at (found (drop at (now (src .entry)))) ⌝ }
+{
+    if src.len() - at < 5 {
+        return read_judged(src, at);
+    }
+    let third = src[at + 2];
+    let fourth = src[at + 3];
+    let three = two + wide(third % 128) * 16384;
+    if both_high(third, fourth) {
+        return read_fifth(src, at, three + wide(fourth % 128) * 2097152);
+    }
+    if last_of(third, fourth) == 0 {
+        return Reading::NotCanonical(at);
+    }
+    Reading::Whole(Varint {
+        count: three + fourth_part(third, fourth),
+        next: behind(third, at),
+    })
+}
+
+// Reads the varint at `at`. One and two bytes are the most frequent, and have tests of their own.
+pub fn read_varint(src: &[u8], at: usize) -> Reading
+    ensures { λ r. ⌜ r ≡ readAt at (found (drop at (now (src .entry)))) ⌝ }
+{
+    if src.len() <= at {
+        return Reading::Incomplete(at);
+    }
+    let first = src[at];
+    if first < 128 {
+        return Reading::Whole(Varint {
+            count: wide(first),
+            next: at + 1,
+        });
+    }
+    if src.len() - at < 2 {
+        return Reading::Incomplete(at);
+    }
+    let second = src[at + 1];
+    let two = wide(first % 128) + wide(second % 128) * 128;
+    if 127 < second {
+        return read_third(src, at, two);
+    }
+    if second == 0 {
+        return Reading::NotCanonical(at);
+    }
+    Reading::Whole(Varint {
+        count: two,
+        next: at + 2,
+    })
 }

@@ -1,39 +1,81 @@
--- `fields::varint::read_varint` meets its contract: what judging found decides, and a whole varint is then read. Assumes nothing.
-use mathlib.Core.Path.{sym, ap, _∙_}
-use Rattle.fields.specs.Varint.{found, readAt, isWhole}
-use lib.ListN.{drop}
-use Rattle.fields.specs.declared.varint.Reading.the-variants.{Incomplete, NotCanonical}
-use Rattle.fields.proofs.Told.{told-incomplete, told-strange, told-ends}
+-- `fields::varint::read_varint` meets its contract: the bytes end, the first byte is the last, or the second, or two are passed.
+-- Assumes nothing.
+use mathlib.Core.Path.{_≡_, refl, sym, ap, ap₂, _∙_}
+use Prim.Native.Nat.{ℕ, _+_, _*_, _%_, _<_}
+use native.Mathlib.Nat.{add-zero}
+use native.Mathlib.Omega.{arith}
+use lib.ListN.{length, getD, take, drop}
+use Rattle.fields.specs.Varint.{value, readAt, Passed}
+use Rattle.fields.specs.declared.varint.Reading.the-variants.{Whole}
+use Rattle.fields.proofs.Places.{value-on, first-more, first-value, first-whole, passed-none, passed-more, passed-small}
+use Rattle.fields.proofs.Endings.{read-cut, read-zero, read-ended}
 use borrow.Author.Needs.{needs}
 use Rattle.fields.proofs.varint.read_varint.Statement.{statement}
 use Rattle.fields.proofs.varint.read_varint.Tie as tie
 
-varint-at-requires : tie.Need-varint-at-requires
-varint-at-requires c κs =
-    let a = c .before .before .before .before .args in
-    ap isWhole (told-ends (a .at) _ (found (drop (a .at) (a .src .now))) (sym (c .before .before .judge-varint .ensures) ∙ c .enum-told .given .1) .is-whole)
-
 returns : tie.Need-returns
 returns c =
-    let a = c .before .before .before .before .before .args in
-    let t = told-incomplete (a .at) (c .before .place .given .0 .0) (found (drop (a .at) (a .src .now))) (sym (c .before .before .before .judge-varint .ensures) ∙ c .before .place .given .1) in
-    ap Incomplete (sym (t .1)) ∙ ap (readAt (a .at)) (sym (t .0))
+    let a = c .before .before .args in
+    read-cut (a .src .now) (a .at) 0 (passed-none (a .src .now) (a .at)) (omega arith)
 
 returns-2 : tie.Need-returns-2
 returns-2 c =
     let a = c .before .before .before .before .before .args in
-    let t = told-strange (a .at) (c .before .place2 .given .0 .0) (found (drop (a .at) (a .src .now))) (sym (c .before .before .before .judge-varint .ensures) ∙ c .before .place2 .given .1) in
-    ap NotCanonical (sym (t .1)) ∙ ap (readAt (a .at)) (sym (t .0))
+    (λ i. Whole (record { count = c .wide .ensures i; next = a .at + 1 }))
+    ∙ ap (readAt (a .at)) (sym (first-whole (a .src .now) (a .at) (c .before .before .before .if1 .left) (c .before .if2 .taken)))
+
+-- the first byte is passed
+passed : (c : tie.Else2) → let a = c .before .before .before .before .args in Passed (a .src .now) (a .at) 1
+passed c = let a = c .before .before .before .before .args in first-more (a .src .now) (a .at) (c .before .before .if1 .left) (c .if2 .left)
+
+returns-3 : tie.Need-returns-3
+returns-3 c =
+    let a = c .before .before .before .before .before .args in
+    read-cut (a .src .now) (a .at) 1 (passed (c .before)) (omega arith)
+
+-- what two bytes say
+two : (c : tie.After-wide3) → let a = c .before .before .before .before .before .before .before .before .args in c .before .wide2 .result + c .wide3 .result * 128 ≡ value (take 2 (drop (a .at) (a .src .now)))
+two c =
+    let a = c .before .before .before .before .before .before .before .before .args in
+    let d = a .src .now in
+    ap₂ (λ (x y : ℕ). x + y * 128) (c .before .wide2 .ensures) (c .wide3 .ensures)
+    ∙ value-on d (a .at) 1 (getD d (a .at) 0 % 128) (omega arith) (first-value d (a .at) (c .before .before .before .before .before .before .if1 .left))
+
+read-third-requires : tie.Need-read-third-requires
+read-third-requires c κs =
+    let a = c .before .before .before .before .before .before .before .before .before .args in
+    (omega arith, (passed-more (a .src .now) (a .at) 1 (passed (c .before .before .before .before .before)) (omega arith) 2 refl (omega arith), two (c .before)))
+
+returns-5 : tie.Need-returns-5
+returns-5 c =
+    let a = c .before .before .before .before .before .before .before .before .before .before .args in
+    read-zero (a .src .now) (a .at) 1 (passed (c .before .before .before .before .before .before)) (omega arith) (omega arith) (omega arith) (omega arith) (c .if5 .taken)
+
+returns-6 : tie.Need-returns-6
+returns-6 c =
+    let a = c .before .before .before .before .before .before .before .before .before .before .args in
+    let p = passed (c .before .before .before .before .before .before) in
+    read-ended (a .src .now) (a .at) 1 p (omega arith) (omega arith) (omega arith) _ (a .at + 2) (omega (arith, c .if5 .left)) (passed-small (a .src .now) (a .at) 1 p (omega arith)) (two (c .before .before)) refl
 
 pub read-varint-spec : {M : Type 1} → statement M
 read-varint-spec =
     tie.close
     (tie.spec
+    returns
+    (λ c. search needs)
+    (λ c κs. search needs)
+    (λ c. search needs)
+    returns-2
+    (λ c. search needs)
+    returns-3
+    (λ c. search needs)
+    (λ c. search needs)
+    (λ c κs. search needs)
     (λ c κs. search needs)
     (λ c. search needs)
     (λ c. search needs)
+    read-third-requires
     (λ c. search needs)
-    varint-at-requires
-    returns
-    returns-2
-    (λ c. search needs))
+    returns-5
+    (λ c. search needs)
+    returns-6)

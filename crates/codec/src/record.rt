@@ -1,0 +1,39 @@
+// One record of flag bytes.
+ghost use mathlib.Core.Path.{_≡_};
+ghost use Prim.Native.Nat.{_≤_};
+ghost use lib.ListN.{length, drop};
+ghost use Rattle.codec.specs.Reading.{next};
+ghost use Rattle.codec.specs.Blocks.{gotOf};
+use fields::Reading;
+use records::Refusal;
+
+// What reading a record finds: why it is refused, or its epoch, its count and the place behind it.
+pub enum Got {
+    Bad(Refusal),
+    Good { epoch: u16, count: u32, next: usize },
+}
+
+// Reads the record at `at`, whose epoch has to be above `prev`.
+pub fn read_record(src: &[u8], at: usize, prev: u16) -> Got
+    requires { ⌜ at ≤ length (now src) ⌝ }
+    ensures { λ r. ⌜ r ≡ gotOf at (next prev (drop at (now (src .entry)))) ⌝ }
+{
+    if src.len() - at < 2 {
+        return Got::Bad(Refusal::WrongSize);
+    }
+    let epoch = fields::be16_at(src, at);
+    match fields::read_varint(src, at + 2) {
+        Reading::Incomplete(_) => Got::Bad(Refusal::WrongSize),
+        Reading::NotCanonical(_) => Got::Bad(Refusal::NonCanonical),
+        Reading::Whole(varint) => {
+            if epoch <= prev {
+                return Got::Bad(Refusal::NonCanonical);
+            }
+            Got::Good {
+                epoch,
+                count: varint.count,
+                next: varint.next,
+            }
+        }
+    }
+}
