@@ -1,3 +1,4 @@
 pub mod Big
 pub mod Varint
 pub mod Writing
+pub mod Selects

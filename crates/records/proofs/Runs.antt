@@ -14,7 +14,7 @@ use Rattle.records.specs.Tables.{At, recordsOf, epochsOf, rising, placeO
 use Rattle.records.specs.Runs.{run, lead}
 use Rattle.records.proofs.Tables.{length-recordsOf, length-epochsOf}
 use Rattle.records.proofs.Rising.{asc-cons, rising-drop, drop-next, place-within}
-use Rattle.records.proofs.Unions.{union-none, next-ours, epochs-from}
+use Rattle.records.proofs.Unions.{union-none, next-ours, epochs-from, table-end, table-all}
 use Rattle.records.proofs.Merged.{union-theirs}
 
 -- ---- the lead of ours
@@ -83,15 +83,9 @@ module _ {oe oc te tc : List ℕ} (ours : Table oe oc) (theirs : Table te tc) wh
   -- theirs are passed: what is left is a run of ours, and none behind it
   pub left-ours : (a b : ℕ) → length te ≤ b → union (drop a (recordsOf oe oc)) (drop b (recordsOf te tc)) ≡ run a (length oe) (recordsOf oe oc) ++ []
   left-ours a b p =
-      let m = length-recordsOf oe oc (ours .even) in
-      let n = length-recordsOf te tc (theirs .even) in
-      rw (drop-of-length-le (recordsOf te tc) {i = b} (omega arith), take-all (length oe) (recordsOf oe oc) (omega arith))
-      (union-none (drop a (recordsOf oe oc)) ∙ sym (append-nil (drop a (recordsOf oe oc))))
+      rw (table-end theirs b p, table-all ours (length oe) (omega arith), append-nil) (union-none (drop a (recordsOf oe oc)))
 
   -- ours are passed: a run of theirs
   pub left-theirs : (a b : ℕ) → length oe ≤ a → union (drop a (recordsOf oe oc)) (drop b (recordsOf te tc)) ≡ run b (length te) (recordsOf te tc) ++ []
   left-theirs a b p =
-      let m = length-recordsOf oe oc (ours .even) in
-      let n = length-recordsOf te tc (theirs .even) in
-      rw (drop-of-length-le (recordsOf oe oc) {i = a} (omega arith), take-all (length te) (recordsOf te tc) (omega arith))
-      (union-theirs (drop b (recordsOf te tc)) (theirs-rise b) ∙ sym (append-nil (drop b (recordsOf te tc))))
+      rw (table-end ours a p, table-all theirs (length te) (omega arith), append-nil) (union-theirs (drop b (recordsOf te tc)) (theirs-rise b))

@@ -7,11 +7,12 @@ use mathlib.Core.Bool.{Bool, true, false}
 use Prim.Native.Nat.{ℕ, _+_, _≤_, _<_}
 use native.Mathlib.Omega.{arith}
 use lib.Dec.{ltb, eqb}
-use lib.ListN.{length, drop, getD, length-drop, drop-of-length-le}
+use lib.ListN.{length, take, drop, getD, length-drop, drop-of-length-le}
+use lib.Seq.{take-all}
 use borrow.Author.Tests.{ltb-true, ltb-false, lt-ltb, le-ltb, eqb-true, eqb-false, eq-eqb, ne-eqb}
+use Rattle.fields.specs.Selects.{Selected}
 use Rattle.records.specs.Tables.{At, _⦂_, recordsOf, epochsOf, ascending, put, union, Table, Above}
 use Rattle.records.specs.Unions.{Within, Stepped}
-use Rattle.records.specs.Runs.{Selected}
 use Rattle.records.specs.declared.table.Next.{Next}
 use Rattle.records.proofs.Tables.{length-recordsOf, epochs-records, drop-records, records-on}
 use Rattle.records.proofs.Rising.{Side, side, lower, equal, higher, asc-none, asc-head, asc-tail, asc-cons, asc-lower, asc-rises, asc-behind, asc-from}
@@ -108,6 +109,13 @@ module _ {es cs : List ℕ} (t : Table es cs) (k : ℕ) where
 
   pub record-on : k < length es → drop k (recordsOf es cs) ≡ getD es k 0 ⦂ getD cs k 0 ∷ drop (k + 1) (recordsOf es cs)
   record-on p = simp drop-records (records-on es cs k p (rw (← t .even) p))
+
+  -- none are behind the end, and all are before it
+  pub table-end : length es ≤ k → drop k (recordsOf es cs) ≡ []
+  table-end p = drop-of-length-le (recordsOf es cs) {i = k} (omega (arith, length-recordsOf es cs (t .even)))
+
+  pub table-all : length es ≤ k → take k (recordsOf es cs) ≡ recordsOf es cs
+  table-all p = take-all k (recordsOf es cs) (omega (arith, length-recordsOf es cs (t .even)))
 
 pub above-table : {e : ℕ} {es cs : List ℕ} → Above e es cs → Table es cs
 above-table {e} {es} {cs} a = record { even = a .even; rises = asc-rises e es (a .ascends) }

@@ -1,7 +1,6 @@
--- What a union is joined from: runs of records, those of ours that stand before all of theirs, and what a select answers.
+-- What a union is joined from: runs of records, and those of ours that stand before all of theirs.
 -- Assumes nothing.
-use Prim.Native.Nat.{ℕ, _+_, _≤_, _<_}
-use mathlib.Core.Path.{_≡_}
+use Prim.Native.Nat.{ℕ, _+_, _≤_}
 use mathlib.Core.List.{List, [], _∷_}
 use lib.ListN.{length, take, drop}
 use Rattle.records.specs.Tables.{At, placeOf}
@@ -14,11 +13,6 @@ run i end rs = drop i (take end rs)
 unfoldable pub lead : List ℕ → List ℕ → ℕ
 lead ours [] = length ours
 lead ours (t ∷ theirs) = placeOf t ours
-
--- r is c where x is below y, and else d
-pub record Selected (x y c d r : ℕ) : Type 0 where
-  pub below : x < y → r ≡ c
-  pub from : y ≤ x → r ≡ d
 
 -- two tables have room for records from the place at on
 pub record Room (rs : List At) (at : ℕ) (es cs : List ℕ) : Type 0 where

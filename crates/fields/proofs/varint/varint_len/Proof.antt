@@ -1,7 +1,7 @@
 -- `fields::varint::varint_len` meets its contract. A count of m significant bits lies between 2 ^ m / 2 and 2 ^ m - 1. The table's rule, computed once
 -- over its 33 entries, says that the varints of both ends have the entry's length, and a larger number has no shorter varint.
 -- Assumes nothing.
-use mathlib.Core.Path.{_≡_, ap, _∙_}
+use mathlib.Core.Path.{_≡_, sym, ap, _∙_}
 use mathlib.Core.List.{List, [], _∷_}
 use mathlib.Core.Bool.{Bool}
 use Prim.Native.Nat.{ℕ, _+_, _-_, _*_, _/_, _^_, _≤_, _<_}
@@ -11,7 +11,7 @@ use lib.ListN.{length, getD}
 use lib.Count.{leadingZeros, leading-le, leading-length}
 use borrow.Author.Needs.{needs}
 use Rattle.fields.specs.Varint.{varint, groups}
-use Rattle.fields.proofs.Varints.{length-mono}
+use Rattle.fields.proofs.Varints.{length-between}
 use Rattle.fields.proofs.Table.{at, both, both-left, both-right}
 use Rattle.fields.proofs.varint.varint_len.Statement.{statement}
 use Rattle.fields.proofs.varint.varint_len.Tie as tie
@@ -38,7 +38,7 @@ entry k x h hi lo =
     let q : Bool = eqb v (length (varint (2 ^ k - 1))) in
     let a = eqb→eq v (length (varint (2 ^ k / 2))) (both-left p q t) in
     let b = eqb→eq v (length (varint (2 ^ k - 1))) (both-right p q t) in
-    omega (arith, length-mono (2 ^ k / 2) x (omega arith), length-mono x (2 ^ k - 1) (omega arith))
+    sym (length-between (2 ^ k / 2) (2 ^ k - 1) x (omega arith) (omega arith) (sym a) (sym b))
 
 sub-bits : tie.Need-sub-bits
 sub-bits c = leading-le 32 (c .args .count)
