@@ -25,19 +25,38 @@ use Rattle.codec.specs.Sizes.{countsSize}
 
 -- ---- records
 
-pub counts-on : (cs : List ℕ) (k : ℕ) → k < length cs → countsSize (drop k cs) ≡ 2 + length (varint (getD cs k 0)) + countsSize (drop (k + 1) cs)
-unfolding countsSize
-counts-on cs k h = rw (add-one, drop-cons cs k 0)
-
-pub counts-end : (cs : List ℕ) (k : ℕ) → length cs ≤ k → countsSize (drop k cs) ≡ 0
-unfolding countsSize
-counts-end cs k h = rw (drop-of-length-le cs {i = k} h)
-
 -- a count of 32 bits takes five bytes at most, so a record takes seven
 pub counts-most : (cs : List ℕ) → ((i : ℕ) → getD cs i 0 ≤ largest) → countsSize cs ≤ 7 * length cs
 unfolding countsSize
 counts-most [] f = omega arith
 counts-most (c ∷ cs) f = omega (arith, length-five c (f 0), counts-most cs (λ i. f (suc i)))
+
+-- the sum of the first k, with what the others add, is that of all, and none adds more than seven
+pub record Summing (cs : List ℕ) (size k : ℕ) : Type 0 where
+  pub within : k ≤ length cs
+  pub most : size ≤ 7 * k
+  pub whole : size + countsSize (drop k cs) ≡ countsSize cs
+
+pub summing-start : (cs : List ℕ) → Summing cs 0 0
+summing-start cs = record { within = omega arith; most = omega arith; whole = omega arith }
+
+module _ {cs : List ℕ} {size k : ℕ} (s : Summing cs size k) where
+  -- one more, whichever way its length is found
+  pub summing-step : (n : ℕ) → k < length cs → n ≡ length (varint (getD cs k 0)) → getD cs k 0 ≤ largest → Summing cs (size + (2 + n)) (k + 1)
+  unfolding countsSize
+  summing-step n h e f =
+      let on : countsSize (drop k cs) ≡ 2 + length (varint (getD cs k 0)) + countsSize (drop (k + 1) cs) = rw (add-one, drop-cons cs k 0) in
+      record {
+        within = omega arith;
+        most = omega (arith, s .most, length-five (getD cs k 0) f);
+        whole = omega (arith, s .whole);
+      }
+
+  pub summing-done : length cs ≤ k → (size ≡ countsSize cs) × (size ≤ 7 * length cs)
+  unfolding countsSize
+  summing-done h =
+      let none : countsSize (drop k cs) ≡ 0 = rw (drop-of-length-le cs {i = k} h) in
+      (omega (arith, s .whole), omega (arith, s .within, s .most))
 
 pub length-record : (r : At) → length (recordBytes r) ≡ 2 + length (varint (r .bytes))
 length-record r = omega (arith, length-append (big 2 (r .epoch)) (varint (r .bytes)), length-big 2 (r .epoch))

@@ -22,13 +22,13 @@ returns-2 c =
     let m = counts-most (a .counts .now) (λ i. omega (arith, c .before .before .shared-slice-known .given i)) in
     sym (le-leb (a .size + countsSize (a .counts .now)) (a .room) (omega arith))
 
-records-size-requires : tie.Need-records-size-requires
-records-size-requires c κs = search needs
+size-by-limits-requires : tie.Need-size-by-limits-requires
+size-by-limits-requires c κs = search needs
 
 returns-3 : tie.Need-returns-3
 returns-3 c =
     let a = c .before .before .before .before .args in
-    ap (λ (n : ℕ). leb n (a .room - a .size)) (c .records-size .ensures .0) ∙ leb-left (a .size) (countsSize (a .counts .now)) (a .room) (c .before .before .if1 .left)
+    ap (λ (n : ℕ). leb n (a .room - a .size)) (c .size-by-limits .ensures .0) ∙ leb-left (a .size) (countsSize (a .counts .now)) (a .room) (c .before .before .if1 .left)
 
 pub fit-spec : {M : Type 1} → statement M
-fit-spec = tie.close (tie.spec returns mul-if2 returns-2 records-size-requires returns-3)
+fit-spec = tie.close (tie.spec returns mul-if2 returns-2 size-by-limits-requires returns-3)

@@ -1,48 +1,23 @@
--- `codec::sizes::records_size` meets its contract. The loop's invariant: the sum so far and what the counts from k on add make the whole,
--- and no record adds more than seven. Assumes nothing.
-use mathlib.Core.Path.{_≡_}
-use Prim.Native.Nat.{ℕ, _+_, _-_, _*_, _≤_}
+-- `codec::sizes::records_size` meets its contract: the sum so far and what the counts from k on add make the whole; a length is that of the table.
+-- Assumes nothing.
+use Prim.Native.Nat.{_-_}
 use native.Mathlib.Omega.{arith}
 use borrow.Author.Needs.{needs}
-use lib.ListN.{length, getD, drop}
-use Rattle.fields.proofs.Varints.{length-five}
-use Rattle.codec.specs.Sizes.{countsSize}
-use Rattle.codec.proofs.Sizing.{counts-on, counts-end}
+use lib.ListN.{length}
+use Rattle.codec.proofs.Sizing.{Summing, summing-start, summing-step, summing-done}
 use Rattle.codec.proofs.sizes.records_size.Statement.{statement}
 use Rattle.codec.proofs.sizes.records_size.Tie as tie
 
 abbrev Inv-loop : tie.InvT-loop
-Inv-loop counts size₀ k₀ size k = (k ≤ length counts) × (size ≤ 7 * k) × (size + countsSize (drop k counts) ≡ countsSize counts)
+Inv-loop counts size₀ k₀ size k = Summing counts size k
 
 abbrev μ-loop : tie.MeasureT-loop
 μ-loop counts size₀ k₀ size k = length counts - k
 
-loop-holds : tie.Need-loop-holds Inv-loop μ-loop
-loop-holds c = (omega arith, omega arith, omega arith)
-
--- five bytes at most
-short : (c : tie.After-varint-len Inv-loop μ-loop) → c .varint-len .result ≤ 5
-short c =
-    let n : ℕ = getD (c .before .before .before .before .before .args .counts .now) (c .before .before .before .loop .k) 0 in
-    omega (arith, c .varint-len .ensures, length-five n (omega (arith, c .before .shared-slice-known2 .given (c .before .before .before .loop .k))))
-
-add-size : tie.Need-add-size Inv-loop μ-loop
-add-size c = omega (arith, short c)
-
-add-size-2 : tie.Need-add-size-2 Inv-loop μ-loop
-add-size-2 c = omega (arith, short c)
-
 loop-again : tie.Need-loop-again Inv-loop μ-loop
 loop-again c =
-    let a = c .before .before .before .before .before .args in
     let l = c .before .before .before .loop in
-    (omega arith, omega (arith, short c), omega (arith, c .varint-len .ensures, counts-on (a .counts .now) (l .k) (c .before .before .loop-test .taken)))
-
-returns : tie.Need-returns Inv-loop μ-loop
-returns c =
-    let a = c .before .before .before .args in
-    let l = c .before .loop in
-    (omega (arith, counts-end (a .counts .now) (l .k) (c .loop-test .left)), omega arith)
+    summing-step (l .inv) (c .varint-len .result) (c .before .before .loop-test .taken) (c .varint-len .ensures) (omega (arith, c .before .shared-slice-known2 .given (l .k)))
 
 pub records-size-spec : {M : Type 1} → statement M
 records-size-spec =
@@ -50,13 +25,13 @@ records-size-spec =
     (tie.spec
     Inv-loop
     μ-loop
-    loop-holds
+    (λ c. summing-start _)
     (λ c. search needs)
     (λ c. search needs)
     (λ c κs. search needs)
-    add-size
-    add-size-2
+    (λ c. omega (arith, loop-again c))
+    (λ c. omega (arith, loop-again c))
     (λ c. search needs)
     (λ c. search needs)
     loop-again
-    returns)
+    (λ c. summing-done (c .before .loop .inv) (c .loop-test .left)))
