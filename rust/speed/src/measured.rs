@@ -1,0 +1,54 @@
+//! What was measured.
+use crate::program::{CONTESTANTS, LEAN, OURS};
+use crate::row::Row;
+use benchmark::rounds::Times;
+
+/// What was measured in a row.
+pub struct Measured {
+    pub row: Row,
+    /// The times of the rounds, for each contestant.
+    pub times: [Times; CONTESTANTS],
+    /// How many records, and how many members of the pool, are gone over in a round.
+    pub records: usize,
+    pub members: usize,
+    /// Instructions a record, for each contestant, where they were counted.
+    pub instructions: Option<[f64; CONTESTANTS]>,
+}
+
+impl Measured {
+    /// Nanoseconds a record, in the shortest round.
+    pub fn least(&self, contestant: usize) -> f64 {
+        self.times[contestant].least() / self.records as f64
+    }
+
+    /// Nanoseconds a record, in the middle one.
+    pub fn median(&self, contestant: usize) -> f64 {
+        self.times[contestant].median() / self.records as f64
+    }
+
+    /// One contestant's time as a multiple of another's, by their shortest rounds.
+    pub fn ratio(&self, of: usize, to: usize) -> f64 {
+        self.times[of].least() / self.times[to].least()
+    }
+
+    /// The middle one of the rounds' ratios.
+    pub fn median_ratio(&self, of: usize, to: usize) -> f64 {
+        self.times[of].median_ratio(&self.times[to])
+    }
+
+    /// What is promised of every row: ours as a multiple of the lean program.
+    pub fn promised(&self) -> f64 {
+        self.ratio(OURS, LEAN)
+    }
+
+    /// Seconds that a million members of the pool take.
+    pub fn million(&self, contestant: usize) -> f64 {
+        self.times[contestant].least() / self.members as f64 / 1_000.0
+    }
+}
+
+/// The one of some rows at which a number is largest.
+pub fn largest<'a>(rows: impl IntoIterator<Item = &'a Measured>, number: impl Fn(&Measured) -> f64) -> &'a Measured {
+    let rows = rows.into_iter();
+    rows.max_by(|one, other| number(one).total_cmp(&number(other))).expect("there are rows")
+}

@@ -1,0 +1,63 @@
+//! The report, in Markdown.
+mod summary;
+mod tables;
+
+use crate::inputs::SEED;
+use crate::measured::Measured;
+use crate::row::Call;
+use std::fs;
+
+/// How the run was made.
+pub struct Run {
+    pub rounds: usize,
+    pub seconds: u64,
+}
+
+/// The whole report.
+pub fn whole(run: &Run, rows: &[Measured]) -> String {
+    let mut parts = vec![head(run), include_str!("contestants.md").trim_end().into(), summary::lines(rows)];
+    parts.extend(tables::ratios(rows));
+    parts.extend(tables::scaling(rows));
+    parts.extend(tables::passes(rows));
+    parts.extend(tables::nanoseconds(rows));
+    parts.extend(tables::instructions(rows));
+    parts.push(last(rows));
+    parts.join("\n\n") + "\n"
+}
+
+/// What was measured, where, and how.
+fn head(run: &Run) -> String {
+    format!(
+        "# Speed: reading, merging and writing\n\n    tools/speed [--rounds N] [FOLDER]\n\nOn {} ({}), in a release build of {}, for any x86-64 as \
+         the static library is. {} rounds of all contestants in turn, every other one backwards; seed {SEED}; {} minutes. Ratios are of the \
+         shortest rounds; `median` is the middle one of the rounds' ratios. A record of a merge or a pass is one of ours or of theirs.",
+        processor(),
+        std::env::consts::ARCH,
+        env!("SPEED_RUSTC"),
+        run.rounds,
+        run.seconds.div_ceil(60),
+    )
+}
+
+/// The processor, as the machine names it.
+fn processor() -> String {
+    let told = fs::read_to_string("/proc/cpuinfo").unwrap_or_default();
+    let named = told.lines().find_map(|line| line.strip_prefix("model name")?.split_once(": "));
+    named.map_or("a processor without a name".into(), |(_, name)| name.trim().into())
+}
+
+/// The line that judges: all rows, and the worst of them.
+pub fn last(rows: &[Measured]) -> String {
+    let worst = crate::measured::largest(rows, Measured::promised);
+    format!("speed: {} rows, worst ours / lean {:.2} ({})", rows.len(), worst.promised(), worst.row.name())
+}
+
+/// A call's name at the head of a table.
+fn title(call: Call) -> &'static str {
+    match call {
+        Call::Reading => "Reading",
+        Call::Merging => "Merging",
+        Call::Writing => "Writing",
+        Call::Pass => "The nightly pass",
+    }
+}
