@@ -1,6 +1,6 @@
 //! What was measured.
 use crate::program::{CONTESTANTS, LEAN, OURS};
-use crate::row::Row;
+use crate::row::{self, Call, Row, SIZE};
 use benchmark::rounds::Times;
 
 /// What was measured in a row.
@@ -45,6 +45,17 @@ impl Measured {
     pub fn million(&self, contestant: usize) -> f64 {
         self.times[contestant].least() / self.members as f64 / 1_000.0
     }
+}
+
+/// The rows of a call at the size at which all inputs are measured.
+pub fn at_size(rows: &[Measured], call: Call) -> impl Iterator<Item = &Measured> {
+    rows.iter().filter(move |measured| measured.row.call == call && measured.row.records == SIZE)
+}
+
+/// The rows of a call over which the size grows.
+pub fn by_size(rows: &[Measured], call: Call) -> impl Iterator<Item = &Measured> {
+    let sizes = row::scaling().into_iter().filter(move |row| row.call == call);
+    sizes.filter_map(|row| rows.iter().find(|measured| measured.row == row))
 }
 
 /// The one of some rows at which a number is largest.

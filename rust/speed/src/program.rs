@@ -5,12 +5,21 @@ use crate::plain::tuned::{merging::tuned_merge, reading::tuned_read, writing::tu
 use petasunok::lent::{self, Flags, Head};
 use petasunok::{MergingOwnersStrategy, StorageFlagsError};
 
+/// Reads bytes into tables of epochs and counts.
+pub type Read = fn(&[u8], &mut [u16], &mut [u32]) -> Result<Option<Head>, StorageFlagsError>;
+
+/// Merges ours and theirs, with an amount, into tables of epochs and counts.
+pub type Merge = fn(Flags, Flags, u32, MergingOwnersStrategy, &mut [u16], &mut [u32]) -> Result<Head, StorageFlagsError>;
+
+/// Writes flags into bytes, and gives how many.
+pub type Write = fn(Flags, &mut [u8]) -> Result<usize, StorageFlagsError>;
+
 /// The three calls of a contestant that works on lent tables.
 pub struct Program {
     pub name: &'static str,
-    pub read: fn(&[u8], &mut [u16], &mut [u32]) -> Result<Option<Head>, StorageFlagsError>,
-    pub merge: fn(Flags, Flags, u32, MergingOwnersStrategy, &mut [u16], &mut [u32]) -> Result<Head, StorageFlagsError>,
-    pub write: fn(Flags, &mut [u8]) -> Result<usize, StorageFlagsError>,
+    pub read: Read,
+    pub merge: Merge,
+    pub write: Write,
 }
 
 /// How many contestants there are: the programs on tables, then the original.

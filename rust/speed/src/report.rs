@@ -52,8 +52,16 @@ pub fn last(rows: &[Measured]) -> String {
     format!("speed: {} rows, worst ours / lean {:.2} ({})", rows.len(), worst.promised(), worst.row.name())
 }
 
-/// A call's name at the head of a table.
-fn title(call: Call) -> &'static str {
+/// A number with its thousands apart.
+pub fn grouped(number: usize) -> String {
+    if number < 1_000 {
+        return number.to_string();
+    }
+    format!("{},{:03}", number / 1_000, number % 1_000)
+}
+
+/// A call's name as a heading.
+pub fn title(call: Call) -> &'static str {
     match call {
         Call::Reading => "Reading",
         Call::Merging => "Merging",

@@ -22,7 +22,7 @@ macro_rules! named {
 }
 
 named! {
-    /// What is measured. The nightly pass reads both, merges, and writes.
+    /// What is measured; a pass is the nightly one, which reads both, merges, and writes.
     Call { Reading "reading", Merging "merging", Writing "writing", Pass "pass" }
 }
 
@@ -45,6 +45,9 @@ named! {
     /// How the epochs of two flags lie: none in common and interleaved at random, about half in common, or all of theirs above all of ours.
     Epochs { Disjoint "disjoint", Overlapping "overlapping", Apart "apart" }
 }
+
+/// The calls that are measured one by one.
+pub const CALLS: [Call; 3] = [Call::Reading, Call::Merging, Call::Writing];
 
 /// One row. Reading and writing have no bases and epochs; they are at their first there.
 #[derive(Clone, Copy, Debug, PartialEq, Eq)]
@@ -77,13 +80,18 @@ impl Row {
         matches!(self.call, Call::Merging | Call::Pass)
     }
 
-    /// The name, by which `speed once` knows the row too.
-    pub fn name(&self) -> String {
-        let mut words = vec![self.call.name(), self.counts.name(), self.room.name()];
+    /// What tells its inputs from those of other rows of the call at the same size.
+    pub fn inputs(&self) -> Vec<&'static str> {
+        let mut words = vec![self.counts.name(), self.room.name()];
         if self.merges() {
             words.extend([self.bases.name(), self.epochs.name()]);
         }
-        format!("{}/{}", words.join("/").replace(' ', "-"), self.records)
+        words
+    }
+
+    /// The name, by which `speed once` knows the row too.
+    pub fn name(&self) -> String {
+        format!("{}/{}/{}", self.call.name(), self.inputs().join("/").replace(' ', "-"), self.records)
     }
 }
 
@@ -108,8 +116,7 @@ pub fn at_size() -> Vec<Row> {
 
 /// The rows over which the size grows.
 pub fn scaling() -> Vec<Row> {
-    let calls = [Call::Reading, Call::Merging, Call::Writing];
-    calls.into_iter().flat_map(|call| SIZES.map(|records| Row::usual(call, records))).collect()
+    CALLS.into_iter().flat_map(|call| SIZES.map(|records| Row::usual(call, records))).collect()
 }
 
 /// The rows of the nightly pass: mixed counts at every size, the others at the largest.

@@ -1,5 +1,6 @@
 //! A run: all rows measured, the report and the plots written.
 use crate::measure::measure;
+use crate::plot;
 use crate::report;
 use crate::row;
 use std::fs;
@@ -18,6 +19,8 @@ pub fn run(rounds: usize, count: bool, folder: &Path) -> Result<(), String> {
     }
     let run = report::Run { rounds, seconds: start.elapsed().as_secs() };
     write(folder, "report.md", &report::whole(&run, &measured))?;
+    write(folder, "ratios.svg", &plot::ratios::plot(&measured))?;
+    write(folder, "scaling.svg", &plot::scaling::plot(&measured))?;
     println!("{}", report::last(&measured));
     Ok(())
 }

@@ -68,7 +68,7 @@ fn lent_places(room: Room, needed: usize, ample: usize) -> usize {
 }
 
 /// Flags as the calls take them.
-fn given(flags: &Flags) -> lent::Flags<'_> {
+pub fn given(flags: &Flags) -> lent::Flags<'_> {
     lent::Flags { head: flags.head, epochs: &flags.tables.epochs, counts: &flags.tables.counts }
 }
 

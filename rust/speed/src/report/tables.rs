@@ -1,11 +1,8 @@
 //! The tables.
-use super::title;
-use crate::measured::Measured;
+use super::{grouped, title};
+use crate::measured::{at_size, by_size, Measured};
 use crate::program::{CAREFUL, CONTESTANTS, LEAN, NAMES, ORIGINAL, OURS, TUNED};
-use crate::row::{Call, Row, SIZE};
-
-/// The calls that have rows of their own.
-const CALLS: [Call; 3] = [Call::Reading, Call::Merging, Call::Writing];
+use crate::row::{Call, CALLS, SIZE};
 
 /// A table: its columns, and the cells of each row.
 fn table(columns: &[String], rows: impl Iterator<Item = Vec<String>>) -> String {
@@ -22,10 +19,10 @@ fn cells<const N: usize>(words: [&str; N]) -> Vec<String> {
 
 /// The contestants' names as columns.
 fn names() -> Vec<String> {
-    cells(NAMES.map(|name| name)).iter().map(|name| name[..1].to_uppercase() + &name[1..]).collect()
+    NAMES.iter().map(|name| name[..1].to_uppercase() + &name[1..]).collect()
 }
 
-/// What tells a row from others at its size, as columns and as cells.
+/// The columns of the inputs of a call's rows.
 fn inputs(call: Call) -> Vec<String> {
     match call {
         Call::Merging => cells(["Counts", "Room", "Bases", "Epochs"]),
@@ -33,25 +30,13 @@ fn inputs(call: Call) -> Vec<String> {
     }
 }
 
-fn input_cells(row: &Row) -> Vec<String> {
-    let mut all = cells([row.counts.name(), row.room.name()]);
-    if row.merges() {
-        all.extend(cells([row.bases.name(), row.epochs.name()]));
-    }
-    all
-}
-
-/// The rows of a call at the size at which all are measured.
-fn at_size(rows: &[Measured], call: Call) -> impl Iterator<Item = &Measured> {
-    rows.iter().filter(move |measured| measured.row.call == call && measured.row.records == SIZE)
-}
-
 /// One table for each call, under a heading, with such cells behind those that name the inputs.
 fn by_call(rows: &[Measured], heading: &str, columns: Vec<String>, values: impl Fn(&Measured) -> Vec<String>) -> Vec<String> {
     let mut parts = vec![format!("## {heading}")];
     for call in CALLS {
-        parts.push(format!("### {}, {SIZE} records", title(call)));
-        let lines = at_size(rows, call).map(|measured| [input_cells(&measured.row), values(measured)].concat());
+        parts.push(format!("### {}, {} records", title(call), grouped(SIZE)));
+        let lines =
+            at_size(rows, call).map(|measured| [measured.row.inputs().into_iter().map(String::from).collect(), values(measured)].concat());
         parts.push(table(&[inputs(call), columns.clone()].concat(), lines));
     }
     parts
@@ -94,8 +79,7 @@ pub fn scaling(rows: &[Measured]) -> Vec<String> {
     let mut parts = vec!["## Scaling: nanoseconds a record, mixed counts, ample room; merging at a higher base, overlapping".to_string()];
     let columns = [cells(["Records"]), names(), cells(["Ours / lean", "Ours, to the size before"])].concat();
     for call in CALLS {
-        let sizes = crate::row::scaling().into_iter().filter(|row| row.call == call);
-        let measured: Vec<_> = sizes.filter_map(|row| rows.iter().find(|measured| measured.row == row)).collect();
+        let measured: Vec<&Measured> = by_size(rows, call).collect();
         let lines = (0..measured.len()).map(|place| {
             let here = measured[place];
             let before = place.checked_sub(1).map(|before| here.least(OURS) / measured[before].least(OURS));
@@ -117,18 +101,12 @@ pub fn passes(rows: &[Measured]) -> Vec<String> {
         let row = &measured.row;
         let mut line = vec![grouped(row.records), row.counts.name().into(), row.bases.name().into()];
         line.extend(each(|contestant| format!("{:.3}", measured.million(contestant))));
-        line.extend([measured.promised(), measured.median_ratio(OURS, LEAN), measured.ratio(OURS, CAREFUL)].map(|ratio| format!("{ratio:.2}")));
+        line.extend(
+            [measured.promised(), measured.median_ratio(OURS, LEAN), measured.ratio(OURS, CAREFUL)].map(|ratio| format!("{ratio:.2}")),
+        );
         line.push(format!("{:.1}", measured.ratio(ORIGINAL, OURS)));
         line
     });
     let heading = "## The nightly pass: both read, merged and written; seconds a million flags, overlapping epochs, ample room";
     vec![heading.into(), table(&columns, lines)]
-}
-
-/// A number with its thousands apart.
-fn grouped(number: usize) -> String {
-    if number < 1_000 {
-        return number.to_string();
-    }
-    format!("{},{:03}", number / 1_000, number % 1_000)
 }

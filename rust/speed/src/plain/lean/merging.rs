@@ -58,13 +58,7 @@ pub fn union(ours: Records, theirs: Records, epochs: &mut [u16], counts: &mut [u
 
 /// Copies the records from a place on behind those that were made; gives how many they are then.
 #[inline]
-pub fn copy_tail(
-    from: Records,
-    place: usize,
-    made: usize,
-    epochs: &mut [u16],
-    counts: &mut [u32],
-) -> Result<usize, StorageFlagsError> {
+pub fn copy_tail(from: Records, place: usize, made: usize, epochs: &mut [u16], counts: &mut [u32]) -> Result<usize, StorageFlagsError> {
     let end = made + from.epochs.len() - place;
     let (Some(epochs), Some(counts)) = (epochs.get_mut(made..end), counts.get_mut(made..end)) else { return Err(NoRoom) };
     epochs.copy_from_slice(&from.epochs[place..]);

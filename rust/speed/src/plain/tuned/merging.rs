@@ -31,13 +31,7 @@ pub fn tuned_merge(
 
 /// Copies our records below an epoch and puts the amount there; gives how many of ours are done with, and how many were made.
 #[inline]
-fn add(
-    ours: Records,
-    epoch: u16,
-    amount: u32,
-    epochs: &mut [u16],
-    counts: &mut [u32],
-) -> Result<(usize, usize), StorageFlagsError> {
+fn add(ours: Records, epoch: u16, amount: u32, epochs: &mut [u16], counts: &mut [u32]) -> Result<(usize, usize), StorageFlagsError> {
     let below = ours.epochs.partition_point(|our| *our < epoch);
     if below >= epochs.len() {
         return Err(NoRoom);
