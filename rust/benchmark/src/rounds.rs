@@ -41,12 +41,14 @@ fn middle(mut numbers: Vec<f64>) -> f64 {
     numbers[numbers.len() / 2]
 }
 
-/// Runs each contestant once in every round, after a round that is not counted. Every other round begins with the last one.
+/// Runs each contestant once in every round, after a round that is not counted. Every other round goes backwards, and every two begin with
+/// another contestant, so that each comes behind each other one, and finds in the processor's caches what that one left.
 pub fn interleaved<const N: usize>(rounds: usize, contestants: [&mut dyn Contestant; N]) -> [Times; N] {
     let mut times = [(); N].map(|()| Times(Vec::with_capacity(rounds)));
     for round in 0..=rounds {
         for turn in 0..N {
-            let place = if round % 2 == 0 { turn } else { N - 1 - turn };
+            let turned = (turn + round / 2) % N;
+            let place = if round % 2 == 0 { turned } else { N - 1 - turned };
             contestants[place].prepare();
             let start = Instant::now();
             contestants[place].work();

@@ -29,7 +29,7 @@ pub fn whole(run: &Run, rows: &[Measured]) -> String {
 fn head(run: &Run) -> String {
     format!(
         "# Speed: reading, merging and writing\n\n    tools/speed [--rounds N] [FOLDER]\n\nOn {} ({}), in a release build of {}, for any x86-64 as \
-         the static library is. {} rounds of all contestants in turn, every other one backwards; seed {SEED}; {} minutes. Ratios are of the \
+         the static library is. {} rounds of all contestants in turn, in changing order; seed {SEED}; {} minutes. Ratios are of the \
          shortest rounds; `median` is the middle one of the rounds' ratios. A record of a merge or a pass is one of ours or of theirs.",
         processor(),
         std::env::consts::ARCH,

@@ -1,6 +1,6 @@
 //! Writing in one pass.
 use crate::plain::fields::{length, put};
-use crate::plain::flags::{proper, put_start, start_length};
+use crate::plain::flags::{proper, put_start, start_length, Records};
 use petasunok::lent::Flags;
 use petasunok::StorageFlagsError::{self, *};
 
@@ -12,7 +12,13 @@ pub fn lean_write(flags: Flags, out: &mut [u8]) -> Result<usize, StorageFlagsErr
     if out.len() < start_length(&flags.head) {
         return Err(NoRoom);
     }
-    let mut at = put_start(&flags.head, out);
+    let at = put_start(&flags.head, out);
+    put_records(records, out, at)
+}
+
+/// Writes records from a place on, and gives the place behind them. Refusal 10.
+#[inline]
+pub fn put_records(records: Records, out: &mut [u8], mut at: usize) -> Result<usize, StorageFlagsError> {
     for (epoch, count) in records.iter() {
         if out.len() - at < 2 + length(count) {
             return Err(NoRoom);

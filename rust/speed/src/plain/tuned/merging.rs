@@ -44,7 +44,8 @@ fn add(ours: Records, epoch: u16, amount: u32, epochs: &mut [u16], counts: &mut 
     Ok((below + usize::from(held), below + 1))
 }
 
-/// The union of ours from a place on and theirs, behind what was made; gives how many records there are then.
+/// The union of ours from a place on and theirs, behind what was made; gives how many records there are then. Where all of theirs are later
+/// there is nothing to compare.
 #[inline]
 fn join(
     ours: Records,
@@ -54,6 +55,10 @@ fn join(
     epochs: &mut [u16],
     counts: &mut [u32],
 ) -> Result<usize, StorageFlagsError> {
+    if ours.epochs[our..].last() < theirs.epochs.first() {
+        let made = copy_tail(ours, our, made, epochs, counts)?;
+        return copy_tail(theirs, 0, made, epochs, counts);
+    }
     let mut their = 0;
     while our < ours.epochs.len() && their < theirs.epochs.len() {
         if made >= epochs.len() {

@@ -1,13 +1,14 @@
-//! Writing in one pass, without a loop over a count's bytes.
+//! Writing in one pass, with a record put down as eight bytes at once.
 use super::proper;
 use crate::plain::fields::length;
-use crate::plain::flags::{put_start, start_length};
-use crate::plain::lean::writing::put_record;
+use crate::plain::flags::{put_start, start_length, Records};
+use crate::plain::lean::writing::put_records;
 use petasunok::lent::Flags;
 use petasunok::StorageFlagsError::{self, *};
 
-/// The longest record.
-const MOST: usize = 7;
+/// Eight bytes hold any record, and up to five more, which two records behind it cover.
+const WHOLE: usize = 8;
+const COVER: usize = 2;
 
 /// Writes flags. Refusals 11, and 10 where the next record has no room.
 #[no_mangle]
@@ -18,30 +19,31 @@ pub fn tuned_write(flags: Flags, out: &mut [u8]) -> Result<usize, StorageFlagsEr
         return Err(NoRoom);
     }
     let mut at = put_start(&flags.head, out);
-    for (epoch, count) in records.iter() {
-        if let Some(room) = out[at..].first_chunk_mut::<MOST>() {
-            at += put_whole(epoch, count, room);
-        } else if out.len() - at < 2 + length(count) {
-            return Err(NoRoom);
-        } else {
-            at = put_record(epoch, count, out, at);
-        }
+    let covered = records.epochs.len().saturating_sub(COVER);
+    let mut put = 0;
+    while put < covered {
+        let Some(room) = out.get_mut(at..at + WHOLE) else { break };
+        let (word, length) = record(records.epochs[put], records.counts[put]);
+        room.copy_from_slice(&word.to_le_bytes());
+        at += length;
+        put += 1;
     }
-    Ok(at)
+    put_records(Records { epochs: &records.epochs[put..], counts: &records.counts[put..] }, out, at)
 }
 
-/// Writes a record at the start of room for the longest one, and gives its length.
-#[inline]
-fn put_whole(epoch: u16, count: u32, room: &mut [u8; MOST]) -> usize {
-    room[..2].copy_from_slice(&epoch.to_be_bytes());
-    if count < 128 {
-        room[2] = count as u8;
-        return 3;
+/// A record as the first bytes of eight, and how many they are. One byte and five are told by themselves, the lengths between without a branch.
+#[inline(always)]
+fn record(epoch: u16, count: u32) -> (u64, usize) {
+    let start = u64::from(epoch.swap_bytes());
+    let count = u64::from(count);
+    if count < 1 << 7 {
+        return (start | count << 16, 3);
     }
-    let length = length(count);
-    for (place, byte) in room[2..2 + length].iter_mut().enumerate() {
-        *byte = (count >> (7 * place)) as u8 | 128;
+    let groups = (count & 0x7f) | (count & 0x3f80) << 1 | (count & 0x1f_c000) << 2 | (count & 0xfe0_0000) << 3;
+    if count >= 1 << 28 {
+        return (start | (groups | (count >> 28) << 32 | 0x8080_8080) << 16, 7);
     }
-    room[1 + length] &= 127;
-    2 + length
+    let length = length(count as u32);
+    let tops = 0x80_8080 & ((1 << (8 * (length - 1))) - 1);
+    (start | (groups | tops) << 16, 2 + length)
 }
