@@ -1,4 +1,6 @@
-//! Flags to measure with. They are random, and a seed decides them.
+//! Flags to measure with.
+//!
+#![doc = include_str!("inputs.md")]
 use crate::row::{Bases, Counts, Epochs};
 use differential::random::Random;
 use differential::values::{Flags, Id};

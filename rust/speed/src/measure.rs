@@ -55,13 +55,12 @@ fn pool<T: Task>(row: &Row, members: usize) -> Vec<T> {
 
 /// How many members go over about so many records.
 fn members(row: &Row, records: usize, least: usize, most: usize) -> usize {
-    let each = if row.merges() { 2 * row.records } else { row.records };
-    (records / each).clamp(least, most)
+    (records / row.each()).clamp(least, most)
 }
 
-/// How many records all members of a pool have.
-fn records<T: Task>(pool: &[T]) -> usize {
-    pool.iter().map(T::records).sum()
+/// How many members are gone over where instructions are counted.
+fn counted(row: &Row) -> usize {
+    members(row, COUNTED, COUNTED_LEAST, COUNTED_MOST)
 }
 
 /// Compares all answers with the right ones.
@@ -116,23 +115,22 @@ fn timed<T: Task>(row: &Row, rounds: usize) -> Result<Measured, String> {
     let mut original = Original { pool: &pool, operands: Vec::new() };
     let [ours, lean, careful, tuned] = &mut programs;
     let times = interleaved(rounds, [ours, lean, careful, tuned, &mut original]);
-    Ok(Measured { row: *row, times, records: records(&pool), members: pool.len(), instructions: None })
+    Ok(Measured { row: *row, times, members: pool.len(), instructions: None })
 }
 
 /// Each contestant's work on some members, once.
 fn run_once<T: Task>(row: &Row) -> Result<usize, String> {
-    let pool: Vec<T> = pool(row, members(row, COUNTED, COUNTED_LEAST, COUNTED_MOST));
+    let pool: Vec<T> = pool(row, counted(row));
     let mut lent = Lent::new(row.records);
     compare(row, &pool, &mut lent)?;
     let mut original = Original { pool: &pool, operands: Vec::new() };
     original.prepare();
     original.work();
-    Ok(records(&pool))
+    Ok(row.each() * pool.len())
 }
 
 /// Instructions a record, for each contestant.
 fn instructions(row: &Row) -> Result<[f64; CONTESTANTS], String> {
-    let records = members(row, COUNTED, COUNTED_LEAST, COUNTED_MOST) * if row.merges() { 2 * row.records } else { row.records };
     let name = row.name();
     let arguments = ["once", name.as_str()];
     let counts = match row.call {
@@ -141,7 +139,8 @@ fn instructions(row: &Row) -> Result<[f64; CONTESTANTS], String> {
         Call::Writing => callgrind::instructions(&arguments, WRITING)?,
         Call::Pass => of_pass(&arguments)?,
     };
-    Ok(counts.map(|count| count as f64 / records as f64))
+    let records = (row.each() * counted(row)) as f64;
+    Ok(counts.map(|count| count as f64 / records))
 }
 
 /// Instructions of the nightly pass: the programs' three calls together, and the original's one function.

@@ -8,22 +8,26 @@ pub struct Measured {
     pub row: Row,
     /// The times of the rounds, for each contestant.
     pub times: [Times; CONTESTANTS],
-    /// How many records, and how many members of the pool, are gone over in a round.
-    pub records: usize,
+    /// How many members of the pool are gone over in a round.
     pub members: usize,
     /// Instructions a record, for each contestant, where they were counted.
     pub instructions: Option<[f64; CONTESTANTS]>,
 }
 
 impl Measured {
+    /// How many records are gone over in a round.
+    fn records(&self) -> f64 {
+        (self.members * self.row.each()) as f64
+    }
+
     /// Nanoseconds a record, in the shortest round.
     pub fn least(&self, contestant: usize) -> f64 {
-        self.times[contestant].least() / self.records as f64
+        self.times[contestant].least() / self.records()
     }
 
     /// Nanoseconds a record, in the middle one.
     pub fn median(&self, contestant: usize) -> f64 {
-        self.times[contestant].median() / self.records as f64
+        self.times[contestant].median() / self.records()
     }
 
     /// One contestant's time as a multiple of another's, by their shortest rounds.
@@ -41,7 +45,7 @@ impl Measured {
         self.ratio(OURS, LEAN)
     }
 
-    /// Seconds that a million members of the pool take.
+    /// Seconds that a million members of the pool take, by the shortest round.
     pub fn million(&self, contestant: usize) -> f64 {
         self.times[contestant].least() / self.members as f64 / 1_000.0
     }

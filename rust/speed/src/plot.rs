@@ -10,7 +10,7 @@ use svg::{Mark, Point, Svg};
 const LOOKS: [(&str, Mark); CONTESTANTS] =
     [("#1a5fb4", Mark::Disc), ("#222222", Mark::Square), ("#c2600c", Mark::Triangle), ("#7a3fa8", Mark::Diamond), ("#b3262e", Mark::Cross)];
 
-/// The colours of words, of lines that help, and of bars.
+/// The colours of words, and of lines that only help.
 const WORDS: &str = "#222222";
 const HELP: &str = "#cccccc";
 

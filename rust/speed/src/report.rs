@@ -15,7 +15,9 @@ pub struct Run {
 
 /// The whole report.
 pub fn whole(run: &Run, rows: &[Measured]) -> String {
-    let mut parts = vec![head(run), include_str!("contestants.md").trim_end().into(), summary::lines(rows)];
+    let mut parts = vec![head(run), summary::lines(rows)];
+    parts.extend(["## Contestants", include_str!("contestants.md").trim_end()].map(String::from));
+    parts.extend(["## Inputs", include_str!("inputs.md").trim_end()].map(String::from));
     parts.extend(tables::ratios(rows));
     parts.extend(tables::scaling(rows));
     parts.extend(tables::passes(rows));
@@ -27,16 +29,17 @@ pub fn whole(run: &Run, rows: &[Measured]) -> String {
 
 /// What was measured, where, and how.
 fn head(run: &Run) -> String {
-    format!(
-        "# Speed: reading, merging and writing\n\n    tools/speed [--rounds N] [FOLDER]\n\nOn {} ({}), in a release build of {}, for any x86-64 as \
-         the static library is. {} rounds of all contestants in turn, in changing order; seed {SEED}; {} minutes. Ratios are of the \
-         shortest rounds; `median` is the middle one of the rounds' ratios. A record of a merge or a pass is one of ours or of theirs.",
-        processor(),
-        std::env::consts::ARCH,
-        env!("SPEED_RUSTC"),
-        run.rounds,
-        run.seconds.div_ceil(60),
-    )
+    let (rounds, seconds) = (run.rounds, run.seconds);
+    let lines = [
+        "# Speed: reading, merging and writing\n",
+        "    tools/speed [--rounds N] [FOLDER]\n",
+        &format!("Measured on {} in {seconds} s, {rounds} rounds of all contestants in turn and in changing order, seed {SEED}.", processor()),
+        &format!("A release build of {}; it and the static library are built for any x86-64.", env!("SPEED_RUSTC")),
+        "Ratios are those of the shortest rounds; `median` is the middle one of the rounds' ratios. In merging and in the nightly pass a record",
+        "is one of ours or of theirs. Instructions are those of the calls, for ours of the C functions. Before a row is measured all answers in",
+        "it are compared.",
+    ];
+    lines.join("\n")
 }
 
 /// The processor, as the machine names it.

@@ -80,6 +80,15 @@ impl Row {
         matches!(self.call, Call::Merging | Call::Pass)
     }
 
+    /// How many records a member of its pool has: those of both flags where two are merged.
+    pub fn each(&self) -> usize {
+        if self.merges() {
+            2 * self.records
+        } else {
+            self.records
+        }
+    }
+
     /// What tells its inputs from those of other rows of the call at the same size.
     pub fn inputs(&self) -> Vec<&'static str> {
         let mut words = vec![self.counts.name(), self.room.name()];

@@ -17,8 +17,6 @@ pub trait Task: Sized {
 
     /// The member at a place of the row's pool.
     fn make(row: &Row, random: &mut Random, place: usize) -> Self;
-    /// How many records it goes over.
-    fn records(&self) -> usize;
     /// Done by a program, whose answer is left in what is lent.
     fn by_tables(&self, program: &Program, room: Room, lent: &mut Lent) -> Result<(), StorageFlagsError>;
     /// Whether what is lent holds the right answer.

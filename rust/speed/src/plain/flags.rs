@@ -57,16 +57,19 @@ pub fn start_length(head: &Head) -> usize {
     }
 }
 
-/// Writes what stands before the records, where there is room for it, and gives the place behind it.
+/// Writes what stands before the records, and gives the place behind it. Refusal 10.
 #[inline]
-pub fn put_start(head: &Head, out: &mut [u8]) -> usize {
+pub fn put_start(head: &Head, out: &mut [u8]) -> Result<usize, StorageFlagsError> {
     let length = start_length(head);
+    if out.len() < length {
+        return Err(NoRoom);
+    }
     out[0] = head.kind;
     if is_owned(head.kind) {
         out[1..33].copy_from_slice(&head.owner);
     }
     out[length - 2..length].copy_from_slice(&head.base.to_be_bytes());
-    length
+    Ok(length)
 }
 
 /// The records of flags whose kind exists and has records just if there are any, in tables that hold them; else refusal 11. Whether the

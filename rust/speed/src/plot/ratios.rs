@@ -13,6 +13,9 @@ const RIGHT: f64 = 840.0;
 const TOP: f64 = 110.0;
 const STEP: f64 = 17.0;
 
+/// The colour of the bars.
+const BAR: &str = "#a9c8ee";
+
 /// What the lines across stand for.
 const LIMITS: [(f64, &str, &str); 3] = [(1.0, "1.0 lean", ""), (1.3, "1.3 aim", "5 4"), (2.0, "2.0 promise", "")];
 
@@ -75,7 +78,7 @@ fn axes(svg: &mut Svg, scale: &Scale, bottom: f64) {
 fn one(svg: &mut Svg, scale: &Scale, measured: &Measured, y: f64) {
     svg.words_at((LEFT - 10.0, y), Side::Left, &measured.row.inputs().join(", "));
     let (ours, middle) = (measured.promised(), y - 4.0);
-    svg.bar((scale.x(0.0), middle - 4.0), scale.x(ours) - scale.x(0.0), 8.0, "#a9c8ee");
+    svg.bar((scale.x(0.0), middle - 4.0), scale.x(ours) - scale.x(0.0), 8.0, BAR);
     for contestant in [CAREFUL, TUNED, OURS] {
         let (colour, mark) = LOOKS[contestant];
         svg.mark((scale.x(measured.ratio(contestant, LEAN)), middle), mark, colour);

@@ -1,4 +1,5 @@
 //! The summary: what is promised, what is aimed at, and which rows miss it.
+use super::grouped;
 use crate::measured::{largest, Measured};
 use crate::program::{ORIGINAL, OURS};
 use crate::row::{Call, SIZE};
@@ -15,13 +16,13 @@ pub fn lines(rows: &[Measured]) -> String {
     let (at_size, others): (Vec<&Measured>, Vec<&Measured>) =
         rows.iter().partition(|measured| measured.row.call != Call::Pass && measured.row.records == SIZE);
     let mut lines = vec!["## Summary".to_string(), String::new()];
-    lines.push(compared(&format!("{SIZE} records"), &at_size));
+    lines.push(compared(&format!("{} records", grouped(SIZE)), &at_size));
     lines.push(compared("Other sizes and the nightly pass", &others));
     for call in [Call::Reading, Call::Merging] {
         let of_call: Vec<&Measured> = at_size.iter().copied().filter(|measured| measured.row.call == call).collect();
         let least = largest(of_call, |measured| -measured.ratio(ORIGINAL, OURS));
         let (times, name) = (least.ratio(ORIGINAL, OURS), least.row.name());
-        lines.push(format!("- {SIZE} records, {}: at least {times:.1} times as fast as the original ({name}).", call.name()));
+        lines.push(format!("- {} records, {}: at least {times:.1} times as fast as the original ({name}).", grouped(SIZE), call.name()));
     }
     lines.push(format!("- Above {AIM}, the aim: {}.", listed(rows, |measured| measured.promised() > AIM)));
     lines.push(format!(

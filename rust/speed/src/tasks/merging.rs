@@ -29,12 +29,9 @@ impl Task for Merging {
         Merging { pair, originals, merged }
     }
 
-    fn records(&self) -> usize {
-        self.pair.ours.head.records + self.pair.theirs.head.records
-    }
-
     fn by_tables(&self, program: &Program, room: Room, lent: &mut Lent) -> Result<(), StorageFlagsError> {
-        let places = lent_places(room, self.merged.head.records, self.records() + 1);
+        let both = self.pair.ours.head.records + self.pair.theirs.head.records;
+        let places = lent_places(room, self.merged.head.records, both + 1);
         let (ours, theirs) = black_box((given(&self.pair.ours), given(&self.pair.theirs)));
         let (epochs, counts) = (&mut lent.merged.epochs[..places], &mut lent.merged.counts[..places]);
         lent.answer = (program.merge)(ours, theirs, self.pair.added_bytes, MergingOwnersStrategy::RaiseIssue, epochs, counts)?;

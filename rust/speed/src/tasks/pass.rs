@@ -11,12 +11,11 @@ use petasunok::lent::Flags;
 use petasunok::{MergingOwnersStrategy, StorageFlagsError};
 use std::hint::black_box;
 
-/// The bytes of two flags, how many records they have together, and the bytes of what the original makes of them.
+/// The bytes of two flags, the amount, and the bytes of what the original makes of them.
 pub struct Pass {
     ours: Vec<u8>,
     theirs: Vec<u8>,
     added_bytes: u32,
-    records: usize,
     merged: Vec<u8>,
 }
 
@@ -27,12 +26,7 @@ impl Task for Pass {
         let pair = inputs::pair(random, row.counts, row.bases, row.epochs, row.records, place);
         let (ours, theirs) = (convert::flags(&pair.ours).serialize(), convert::flags(&pair.theirs).serialize());
         let merged = original::merge(original::read(&ours), original::read(&theirs), pair.added_bytes).serialize();
-        let records = pair.ours.head.records + pair.theirs.head.records;
-        Pass { ours, theirs, added_bytes: pair.added_bytes, records, merged }
-    }
-
-    fn records(&self) -> usize {
-        self.records
+        Pass { ours, theirs, added_bytes: pair.added_bytes, merged }
     }
 
     fn by_tables(&self, program: &Program, _: Room, lent: &mut Lent) -> Result<(), StorageFlagsError> {

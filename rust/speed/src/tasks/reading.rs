@@ -24,12 +24,8 @@ impl Task for Reading {
         Reading { bytes: convert::flags(&flags).serialize(), flags }
     }
 
-    fn records(&self) -> usize {
-        self.flags.head.records
-    }
-
     fn by_tables(&self, program: &Program, room: Room, lent: &mut Lent) -> Result<(), StorageFlagsError> {
-        let places = lent_places(room, self.records(), lent.ours.room());
+        let places = lent_places(room, self.flags.head.records, lent.ours.room());
         let head = (program.read)(black_box(&self.bytes), &mut lent.ours.epochs[..places], &mut lent.ours.counts[..places])?;
         lent.answer = head.unwrap_or_default();
         Ok(())

@@ -27,12 +27,8 @@ impl Task for Writing {
         Writing { flags, bytes: original.serialize(), original }
     }
 
-    fn records(&self) -> usize {
-        self.flags.head.records
-    }
-
     fn by_tables(&self, program: &Program, room: Room, lent: &mut Lent) -> Result<(), StorageFlagsError> {
-        let places = lent_places(room, self.bytes.len(), 35 + 7 * self.records());
+        let places = lent_places(room, self.bytes.len(), 35 + 7 * self.flags.head.records);
         lent.length = (program.write)(black_box(given(&self.flags)), &mut lent.out[..places])?;
         Ok(())
     }

@@ -5,6 +5,7 @@ mod merging;
 mod reading;
 mod writing;
 
+use differential::random::Random;
 use differential::values::Tables;
 use petasunok::StorageFlagsError;
 use speed::program::{Program, CAREFUL, OURS, PROGRAMS};
@@ -13,17 +14,19 @@ use std::fmt::Debug;
 /// How many random questions each call is asked.
 const QUESTIONS: usize = 20_000;
 
-/// How often each refusal was met; 0 stands for an answer.
-#[derive(Default)]
-struct Seen([usize; 12]);
+/// How often each of the refusals that a call has is met at the least.
+const OFTEN: usize = 100;
 
-impl Seen {
-    /// All of these were met often, and no other.
-    fn are(&self, numbers: &[u32], often: usize) {
-        for (number, times) in self.0.iter().enumerate() {
-            let expected = numbers.contains(&(number as u32));
-            assert!(if expected { *times >= often } else { *times == 0 }, "{number} was met {times} times: {:?}", self.0);
-        }
+/// Asks random questions; such refusals are met often, 0 for an answer, and no other.
+fn ask_at_random(seed: u64, numbers: &[u32], mut question: impl FnMut(&mut Random) -> u32) {
+    let mut random = Random::new(seed);
+    let mut met = [0; 12];
+    for _ in 0..QUESTIONS {
+        met[question(&mut random) as usize] += 1;
+    }
+    for (number, times) in met.into_iter().enumerate() {
+        let expected = numbers.contains(&(number as u32));
+        assert!(if expected { times >= OFTEN } else { times == 0 }, "{number} was met {times} times");
     }
 }
 

@@ -1,6 +1,5 @@
-use super::{ask, short, tables, Seen, QUESTIONS};
+use super::{ask, ask_at_random, short, tables};
 use differential::generate::{encodings, lent};
-use differential::random::Random;
 use differential::values::Tables;
 
 /// Refusals that one pass may meet only behind a record that has no room.
@@ -95,13 +94,9 @@ fn varints() {
 
 #[test]
 fn random_bytes() {
-    let mut random = Random::new(1);
-    let mut seen = Seen::default();
-    for _ in 0..QUESTIONS {
-        let bytes = encodings::any(&mut random, 8);
+    ask_at_random(1, &[0, 1, 2, 3, 10], |random| {
+        let bytes = encodings::any(random, 8);
         // about as many records as the bytes have
-        let tables = lent::tables(&mut random, bytes.len() / 5);
-        seen.0[read(&bytes, &tables) as usize] += 1;
-    }
-    seen.are(&[0, 1, 2, 3, 10], 100);
+        read(&bytes, &lent::tables(random, bytes.len() / 5))
+    });
 }

@@ -1,7 +1,6 @@
-use super::{ask, Seen, QUESTIONS};
+use super::{ask, ask_at_random};
 use differential::convert;
 use differential::generate::{flags, lent};
-use differential::random::Random;
 use differential::values::Flags;
 use speed::tasks::given;
 
@@ -24,14 +23,9 @@ fn every_room() {
 
 #[test]
 fn random_flags() {
-    let mut random = Random::new(3);
-    let mut seen = Seen::default();
-    for _ in 0..QUESTIONS {
-        let flags = flags::proper(&mut random, 24);
-        let size = convert::flags(&flags).serialize().len();
-        let out = lent::bytes(&mut random, size);
-        let flags = flags::changed(&mut random, flags);
-        seen.0[write(&flags, &out) as usize] += 1;
-    }
-    seen.are(&[0, 10, 11], 100);
+    ask_at_random(3, &[0, 10, 11], |random| {
+        let flags = flags::proper(random, 24);
+        let out = lent::bytes(random, convert::flags(&flags).serialize().len());
+        write(&flags::changed(random, flags), &out)
+    });
 }

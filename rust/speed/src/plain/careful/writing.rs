@@ -12,7 +12,7 @@ pub fn careful_write(flags: Flags, out: &mut [u8]) -> Result<usize, StorageFlags
     let records = proper(&flags)?;
     let size = start_length(&flags.head) + records.counts.iter().map(|count| 2 + length(*count)).sum::<usize>();
     let Some(out) = out.get_mut(..size) else { return Err(NoRoom) };
-    let mut at = put_start(&flags.head, out);
+    let mut at = put_start(&flags.head, out)?;
     for (epoch, count) in records.iter() {
         at = put_record(epoch, count, out, at);
     }

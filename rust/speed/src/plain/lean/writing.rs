@@ -1,6 +1,6 @@
 //! Writing in one pass.
 use crate::plain::fields::{length, put};
-use crate::plain::flags::{proper, put_start, start_length, Records};
+use crate::plain::flags::{proper, put_start, Records};
 use petasunok::lent::Flags;
 use petasunok::StorageFlagsError::{self, *};
 
@@ -9,10 +9,7 @@ use petasunok::StorageFlagsError::{self, *};
 #[inline(never)]
 pub fn lean_write(flags: Flags, out: &mut [u8]) -> Result<usize, StorageFlagsError> {
     let records = proper(&flags)?;
-    if out.len() < start_length(&flags.head) {
-        return Err(NoRoom);
-    }
-    let at = put_start(&flags.head, out);
+    let at = put_start(&flags.head, out)?;
     put_records(records, out, at)
 }
 

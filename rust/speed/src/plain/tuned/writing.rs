@@ -1,10 +1,10 @@
 //! Writing in one pass, with a record put down as eight bytes at once.
 use super::proper;
 use crate::plain::fields::length;
-use crate::plain::flags::{put_start, start_length, Records};
+use crate::plain::flags::{put_start, Records};
 use crate::plain::lean::writing::put_records;
 use petasunok::lent::Flags;
-use petasunok::StorageFlagsError::{self, *};
+use petasunok::StorageFlagsError;
 
 /// Eight bytes hold any record, and up to five more, which two records behind it cover.
 const WHOLE: usize = 8;
@@ -15,10 +15,7 @@ const COVER: usize = 2;
 #[inline(never)]
 pub fn tuned_write(flags: Flags, out: &mut [u8]) -> Result<usize, StorageFlagsError> {
     let records = proper(&flags)?;
-    if out.len() < start_length(&flags.head) {
-        return Err(NoRoom);
-    }
-    let mut at = put_start(&flags.head, out);
+    let mut at = put_start(&flags.head, out)?;
     let covered = records.epochs.len().saturating_sub(COVER);
     let mut put = 0;
     while put < covered {
