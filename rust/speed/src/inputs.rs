@@ -107,6 +107,14 @@ fn places(random: &mut Random, bases: Bases, epochs: Epochs, records: usize) -> 
     (places, Some(below))
 }
 
+/// Lowers the count at an epoch, if there is one, so that an amount can be added.
+pub fn make_fit(flags: &mut Flags, epoch: u16, amount: u32) {
+    if let Ok(place) = flags.tables.epochs.binary_search(&epoch) {
+        let count = &mut flags.tables.counts[place];
+        *count = (*count).min(u32::MAX - amount);
+    }
+}
+
 /// Two flags of so many records each. Of four pairs in a pool one has no owner, one ours, one theirs, and one the same twice.
 pub fn pair(random: &mut Random, counts: Counts, bases: Bases, epochs: Epochs, records: usize, place: usize) -> Pair {
     let base = random.below(MOST_BASE);
@@ -121,10 +129,6 @@ pub fn pair(random: &mut Random, counts: Counts, bases: Bases, epochs: Epochs, r
     let mut ours = flags(random, counts, base as u16, (place & 1 == 1).then_some(owner), of(|whose| whose.ours));
     let their_base = incoming.map_or(base as u16, |place| epochs[place]);
     let theirs = flags(random, counts, their_base, (place & 2 == 2).then_some(owner), of(|whose| whose.theirs));
-    // the amount has to fit, where it meets a record
-    if let Ok(place) = ours.tables.epochs.binary_search(&their_base) {
-        let held = &mut ours.tables.counts[place];
-        *held = (*held).min(u32::MAX - added_bytes);
-    }
+    make_fit(&mut ours, their_base, added_bytes);
     Pair { ours, theirs, added_bytes }
 }

@@ -37,7 +37,7 @@ fn head(run: &Run) -> String {
         &format!("A release build of {}; it and the static library are built for any x86-64.", env!("SPEED_RUSTC")),
         "Ratios are those of the shortest rounds; `median` is the middle one of the rounds' ratios. In merging and in the nightly pass a record",
         "is one of ours or of theirs. Instructions are those of the calls, for ours of the C functions. Before a row is measured all answers in",
-        "it are compared.",
+        "it are compared. Where the linker puts a function moves its time too, by a tenth and more from one build to another.",
     ];
     lines.join("\n")
 }

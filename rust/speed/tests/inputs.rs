@@ -1,7 +1,7 @@
 //! The inputs are what the report says of them.
 use differential::random::Random;
 use differential::values::Flags;
-use speed::inputs::{pair, single, Pair};
+use speed::inputs::{make_fit, pair, single, Pair};
 use speed::plain::fields::length;
 use speed::row::{Bases, Counts, Epochs};
 use std::collections::BTreeSet;
@@ -79,11 +79,17 @@ fn bases_stand_among_our_epochs() {
         let below = epochs(&pair.ours).range(..pair.theirs.head.base).count();
         assert!((6..=32).contains(&below));
     }
-    // the amount fits where we have a record at the incoming base, which is so about every other time
+    // we have a record there about every other time
     let held = |pair: &&Pair| pair.ours.records().any(|record| record.0 == pair.theirs.head.base);
-    let fits = |pair: &Pair| {
-        pair.ours.records().all(|record| record.0 != pair.theirs.head.base || record.1.checked_add(pair.added_bytes).is_some())
-    };
     assert!((16..=48).contains(&higher.iter().filter(held).count()));
-    assert!(higher.iter().all(fits));
+}
+
+#[test]
+fn the_amount_fits() {
+    let records = [(6, u32::MAX), (7, u32::MAX), (8, 5)];
+    let mut flags = Flags::new(1, 5, [0; 32], &records);
+    for (epoch, amount) in [(7, 9), (8, 9), (9, 9)] {
+        make_fit(&mut flags, epoch, amount);
+    }
+    assert_eq!(flags.tables.counts, [u32::MAX, u32::MAX - 9, 5]);
 }
