@@ -27,7 +27,7 @@ pub trait Task: Sized {
     fn by_original(&self, operands: Self::Operands);
 }
 
-/// Memory that is lent to the programs, and the heads and the length of what they answered.
+/// Memory that is lent to the programs, and the head or the length that they answered.
 pub struct Lent {
     pub ours: Tables,
     pub theirs: Tables,

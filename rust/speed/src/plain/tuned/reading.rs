@@ -4,6 +4,9 @@ use crate::plain::lean::reading::record;
 use petasunok::lent::Head;
 use petasunok::StorageFlagsError::{self, *};
 
+/// The top bits of four bytes.
+const TOPS: u64 = 0x8080_8080;
+
 /// Reads flags. Refusals 1, 2, 3, and 10 where the next record has no room.
 #[no_mangle]
 #[inline(never)]
@@ -32,7 +35,8 @@ pub fn tuned_read(src: &[u8], epochs: &mut [u16], counts: &mut [u32]) -> Result<
     Ok(Some(head))
 }
 
-/// The good record at the start of eight bytes or more, and how many bytes it has.
+/// The good record at the start of eight bytes or more, and how many bytes it has. One byte and five are told by themselves, the lengths
+/// between without a branch; that is what random counts would have a processor guess wrong.
 #[inline(always)]
 fn whole(bytes: &[u8], before: u16) -> Option<(u16, u32, usize)> {
     let word = u64::from_le_bytes(*bytes.first_chunk()?);
@@ -41,12 +45,13 @@ fn whole(bytes: &[u8], before: u16) -> Option<(u16, u32, usize)> {
     if groups & 0x80 == 0 {
         return (epoch > before).then_some((epoch, groups as u32 & 0x7f, 3));
     }
-    if groups & 0x8080_8080 == 0x8080_8080 {
+    if groups & TOPS == TOPS {
         let last = (groups >> 32) as u8;
         let good = (last.wrapping_sub(1) < 15) & (epoch > before);
         return good.then_some((epoch, joined(groups) | u32::from(last) << 28, 7));
     }
-    let ends = !groups & 0x8080_8080;
+    // the first top bit that is not set stands on the last byte, whose other seven bits are below it
+    let ends = !groups & TOPS;
     let last = ends & ends.wrapping_neg();
     let groups = groups & (last - 1);
     let minimal = groups & (last - (last >> 7)) != 0;

@@ -28,7 +28,8 @@ pub fn tuned_write(flags: Flags, out: &mut [u8]) -> Result<usize, StorageFlagsEr
     put_records(Records { epochs: &records.epochs[put..], counts: &records.counts[put..] }, out, at)
 }
 
-/// A record as the first bytes of eight, and how many they are. One byte and five are told by themselves, the lengths between without a branch.
+/// A record as the first bytes of eight, and how many they are. One byte and five are told by themselves, the lengths between without a
+/// branch, as in reading.
 #[inline(always)]
 fn record(epoch: u16, count: u32) -> (u64, usize) {
     let start = u64::from(epoch.swap_bytes());
@@ -41,6 +42,7 @@ fn record(epoch: u16, count: u32) -> (u64, usize) {
         return (start | (groups | (count >> 28) << 32 | 0x8080_8080) << 16, 7);
     }
     let length = length(count as u32);
+    // the top bit of every byte but the last
     let tops = 0x80_8080 & ((1 << (8 * (length - 1))) - 1);
     (start | (groups | tops) << 16, 2 + length)
 }
