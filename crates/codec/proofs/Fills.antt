@@ -16,10 +16,8 @@ use Rattle.fields.specs.declared.varint.Reading.the-variants.{Whole}
 use Rattle.fields.proofs.Told.{told-read}
 use Rattle.records.specs.Tables.{At, _⦂_, Placed}
 use Rattle.records.proofs.Tables.{Filling, filling-start, filling-reached, filling-step, filling-done}
-use Rattle.records.specs.declared.head.Kind.{Kind}
-use Rattle.codec.specs.Bytes.{headSize}
-use Rattle.codec.specs.Reading.{Next, bad, good, next, Parsed, baseIn, recordsIn}
-use Rattle.codec.specs.Calls.{Complete}
+use Rattle.codec.specs.Reading.{Next, bad, good, next, Parsed}
+use Rattle.codec.specs.Blocks.{Sound}
 use Rattle.codec.proofs.Parsing.{Good, next-good, rest, rest-end, rest-bad, Turn, rest-good}
 
 -- the record that is ahead where some are left without a fault
@@ -65,31 +63,26 @@ module _ (d : List ℕ) (at prev : ℕ) (a : Ahead d at prev) where
       ((λ i. x i ⦂ c i), omega (arith, t .2, u, ahead-good .size))
 
 -- the place reached in the bytes and in the tables
-pub record Going (all : List At) (d : List ℕ) (es₀ cs₀ es cs : List ℕ) (at k : ℕ) : Type 0 where
+pub record Going (all : List At) (d : List ℕ) (k : ℕ) (es₀ cs₀ es cs : List ℕ) (at i : ℕ) : Type 0 where
   pub prev : ℕ
   pub no-fault : rest d at prev .fault ≡ none
-  pub filling : Filling all (rest d at prev .records) 0 k es₀ cs₀ es cs
+  pub filling : Filling all (rest d at prev .records) k i es₀ cs₀ es cs
 
-pub going-start : (k : Kind) (d es cs : List ℕ) (n at : ℕ) → at ≡ headSize k → Complete k d n → Going (recordsIn k d .records) d es cs es cs at 0
-going-start k d es cs n at e h =
-    let p : recordsIn k d ≡ rest d at (baseIn k d) = ap (λ (i : ℕ). rest d i (baseIn k d)) (sym e) in
-    record {
-      prev = baseIn k d;
-      no-fault = sym (ap (λ (p : Parsed). p .fault) p) ∙ h .no-fault;
-      filling = rw p (filling-start (rest d at (baseIn k d) .records) 0 es cs);
-    }
+pub going-start : (d es cs : List ℕ) (at n k : ℕ) (s : Sound d at n) → Going (rest d at (s .before) .records) d k es cs es cs at k
+going-start d es cs at n k s =
+    record { prev = s .before; no-fault = s .no-fault; filling = filling-start (rest d at (s .before) .records) k es cs }
 
-module _ {all : List At} {d es₀ cs₀ es cs : List ℕ} {at k : ℕ} (g : Going all d es₀ cs₀ es cs at k) where
-  pub going-ahead : k < length all → Ahead d at (g .prev)
+module _ {all : List At} {d es₀ cs₀ es cs : List ℕ} {k at i : ℕ} (g : Going all d k es₀ cs₀ es cs at i) where
+  pub going-ahead : i < k + length all → Ahead d at (g .prev)
   going-ahead h = ahead d at (g .prev) (g .no-fault) (omega (arith, filling-reached (g .filling)))
 
-  pub going-room : k < length all → length all ≤ length es₀ → length all ≤ length cs₀ → (k < length es) × (k < length cs)
+  pub going-room : i < k + length all → k + length all ≤ length es₀ → k + length all ≤ length cs₀ → (i < length es) × (i < length cs)
   going-room h p q =
       let f = g .filling in
       (omega (arith, f .epochs .long), omega (arith, f .counts .long))
 
-  pub going-more : (h : k < length all) (e : ℕ) (v : Varint) → e ≡ said (take 2 (drop at d)) → Whole v ≡ readAt (at + 2) (found (drop (at + 2) d))
-      → Going all d es₀ cs₀ (set es k e) (set cs k (v .count)) (v .next) (k + 1)
+  pub going-more : (h : i < k + length all) (e : ℕ) (v : Varint) → e ≡ said (take 2 (drop at d)) → Whole v ≡ readAt (at + 2) (found (drop (at + 2) d))
+      → Going all d k es₀ cs₀ (set es i e) (set cs i (v .count)) (v .next) (i + 1)
   going-more h e v ee ev =
       let a = going-ahead h in
       let r = ahead-read d at (g .prev) a e v ee ev in
@@ -103,7 +96,7 @@ module _ {all : List At} {d es₀ cs₀ es cs : List ℕ} {at k : ℕ} (g : Goin
         filling = filling-step (g .filling) left;
       }
 
-  pub going-done : length all ≤ k → Placed all 0 k es₀ cs₀ es cs
+  pub going-done : k + length all ≤ i → Placed all k i es₀ cs₀ es cs
   going-done h = filling-done (g .filling) (nil (rest d at (g .prev) .records) (omega (arith, filling-reached (g .filling))))
     where
       nil : (rs : List At) → length rs ≡ 0 → rs ≡ []

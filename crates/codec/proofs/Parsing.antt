@@ -155,3 +155,23 @@ rest-good d at prev r u h q =
           parse-good at prev (drop at d) r u (omega arith) (omega (arith, g .size)) q
           ∙ ap (λ (xs : List ℕ). before r (parse (at + u) 0 (r .epoch) xs)) (drop-drop u at d);
     }
+
+-- each record has a byte or more; f bytes are left at most
+rest-bytes : (f : ℕ) (d : List ℕ) (at prev : ℕ) → at ≤ length d → length d ≤ at + f → at + length (rest d at prev .records) ≤ length d
+rest-bytes zero d at prev h g = omega (arith, ap (λ (p : Parsed). length (p .records)) (rest-end d at prev (omega arith)))
+rest-bytes (suc f) d at prev h g =
+    elim (decLt at (length d)) [
+      | yes i ↦ by i (next prev (drop at d)) refl (λ j e. rest-bytes f d j e)
+      | no i ↦ omega (arith, ap (λ (p : Parsed). length (p .records)) (rest-end d at prev (omega arith)))
+    ]
+  where
+    by : at < length d → (x : Next) → next prev (drop at d) ≡ x
+        → ((j e : ℕ) → j ≤ length d → length d ≤ j + f → j + length (rest d j e .records) ≤ length d)
+        → at + length (rest d at prev .records) ≤ length d
+    by i (bad r) q ih = omega (arith, ap (λ (p : Parsed). length (p .records)) (rest-bad d at prev r i q))
+    by i (good r u) q ih =
+        let t = rest-good d at prev r u i q in
+        omega (arith, t .some-bytes, ap (λ (p : Parsed). length (p .records)) (t .step), ih (at + u) (r .epoch) (t .inside) (omega (arith, t .some-bytes)))
+
+pub rest-long : (d : List ℕ) (at prev : ℕ) → at ≤ length d → at + length (rest d at prev .records) ≤ length d
+rest-long d at prev h = rest-bytes (length d) d at prev h (omega arith)

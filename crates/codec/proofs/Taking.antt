@@ -11,8 +11,9 @@ use Rattle.records.specs.Tables.{At, _⦂_, epochsOf, countsOf, Placed}
 use Rattle.records.specs.declared.refusal.Refusal.{Refusal}
 use Rattle.records.proofs.Tables.{filling-start, filling-done, placed-one, placed-then}
 use Rattle.codec.specs.Reading.{Next, good, next, Parsed}
-use Rattle.codec.specs.Blocks.{gotOf, Taken}
+use Rattle.codec.specs.Blocks.{gotOf, Taken, Blocked}
 use Rattle.codec.specs.declared.record.Got.the-variants.{Bad, Good}
+use Rattle.codec.specs.declared.blocks.Block.the-variants.{Faulty, Read}
 use Rattle.codec.proofs.Parsing.{rest, rest-bad, rest-good}
 use Rattle.codec.proofs.Turns.{got-bad, got-good}
 
@@ -60,3 +61,28 @@ module _ {d : List ℕ} {at prev n j e : ℕ} {es₀ cs₀ es cs : List ℕ} (t 
           fault-on = t .fault-on ∙ ap (λ (p : Parsed). p .fault) (u .step) ∙ ap (λ (p : Parsed). p .fault) on;
           records-on = sym (drop-drop 1 n all) ∙ ap (λ (l : List At). drop 1 l) left;
         }
+
+-- ---- a block, as the code tells it
+
+pub blocked-faulty : (d : List ℕ) (at prev : ℕ) (es cs es′ cs′ : List ℕ) (r : Refusal) (place : ℕ) → rest d at prev .fault ≡ some (record { refusal = r; place = place })
+    → Blocked d at prev (Faulty r place) es cs es′ cs′
+blocked-faulty d at prev es cs es′ cs′ r place h =
+    record {
+      at-fault = λ s p e.
+          let a : r ≡ s = cc in
+          let b : place ≡ p = cc in
+          h ∙ (λ i. some (record { refusal = a i; place = b i }));
+      taken = λ n j e q. let z : _≡_ {A = ℕ} 0 1 = cc in absurd (omega arith);
+    }
+
+pub blocked-taken : {d : List ℕ} {at prev n j e : ℕ} {es cs es′ cs′ : List ℕ} → Taken d at prev n j e es cs es′ cs′ → (j < length d → 1 ≤ n) → n ≤ 64
+    → Blocked d at prev (Read n j e) es cs es′ cs′
+blocked-taken {d} {at} {prev} {n} {j} {e} {es} {cs} {es′} {cs′} t here few =
+    record {
+      at-fault = λ r p q. let z : _≡_ {A = ℕ} 0 1 = cc in absurd (omega arith);
+      taken = λ m i x q.
+          let a : n ≡ m = cc in
+          let b : j ≡ i = cc in
+          let f : e ≡ x = cc in
+          (rw (a, b, f) at t, rw (a, b) at here, rw a at few);
+    }

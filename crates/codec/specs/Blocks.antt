@@ -9,6 +9,7 @@ use lib.ListN.{length, take, drop}
 use lib.Seq.{sets}
 use Rattle.records.specs.Tables.{At, epochsOf, countsOf, Placed}
 use Rattle.records.specs.Answers.{roomFor}
+use Rattle.records.specs.declared.refusal.Refusal.{Refusal}
 use Rattle.records.specs.declared.refusal.Refusal.the-variants.{NoRoom}
 use Rattle.codec.specs.Reading.{Next, bad, good, Fault, parse}
 use Rattle.codec.specs.declared.record.Got.{Got}
@@ -33,10 +34,16 @@ pub record Taken (src : List ℕ) (at prev n next last : ℕ) (es cs es′ cs′
   pub fault-on : parse at 0 prev (drop at src) .fault ≡ parse next 0 last (drop next src) .fault
   pub records-on : drop n (parse at 0 prev (drop at src) .records) ≡ parse next 0 last (drop next src) .records
 
--- a block that was read: its first fault, or its records, of which there are some where bytes are left behind them
-abbrev pub Blocked : List ℕ → ℕ → ℕ → Block → List ℕ → List ℕ → List ℕ → List ℕ → Type 0
-Blocked src at prev (BadBlock r place) es cs es′ cs′ = parse at 0 prev (drop at src) .fault ≡ some (record { refusal = r; place = place })
-Blocked src at prev (Read n next last) es cs es′ cs′ = Taken src at prev n next last es cs es′ cs′ × (next < length src → 1 ≤ n)
+-- n records stand from the place at on, without a fault after one at the epoch before
+pub record Sound (src : List ℕ) (at n : ℕ) : Type 0 where
+  pub before : ℕ
+  pub no-fault : parse at 0 before (drop at src) .fault ≡ none
+  pub all-there : length (parse at 0 before (drop at src) .records) ≡ n
+
+-- a block that was read: its first fault, or its records, at most 64 and not none where bytes are left behind them
+pub record Blocked (src : List ℕ) (at prev : ℕ) (b : Block) (es cs es′ cs′ : List ℕ) : Type 0 where
+  pub at-fault : (r : Refusal) (place : ℕ) → b ≡ BadBlock r place → parse at 0 prev (drop at src) .fault ≡ some (record { refusal = r; place = place })
+  pub taken : (n next last : ℕ) → b ≡ Read n next last → Taken src at prev n next last es cs es′ cs′ × (next < length src → 1 ≤ n) × (n ≤ 64)
 
 -- all that reading records leaves: what it found, and the lent tables
 pub record Filled : Type 0 where
@@ -44,10 +51,14 @@ pub record Filled : Type 0 where
   pub epochs : List ℕ
   pub counts : List ℕ
 
+-- what the code found and left
+abbrev pub filled : Scan → List ℕ → List ℕ → Filled
+filled s es cs = record { scan = s; epochs = es; counts = cs }
+
 -- records go to the tables from the place k on, where nothing is at fault and they have room there; the bytes end at end
 abbrev pub filledFrom : ℕ → ℕ → Option Fault → List At → List ℕ → List ℕ → Filled
-filledFrom end k (some f) rs es cs = record { scan = Faulty (f .refusal) (f .place); epochs = es; counts = cs }
+filledFrom end k (some f) rs es cs = filled (Faulty (f .refusal) (f .place)) es cs
 filledFrom end k none rs es cs =
     cond (roomFor (k + length rs) (length es) (length cs))
-    (record { scan = Records (k + length rs); epochs = sets es k (epochsOf rs); counts = sets cs k (countsOf rs) })
-    (record { scan = Faulty NoRoom end; epochs = es; counts = cs })
+    (filled (Records (k + length rs)) (sets es k (epochsOf rs)) (sets cs k (countsOf rs)))
+    (filled (Faulty NoRoom end) es cs)

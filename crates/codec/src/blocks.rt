@@ -1,13 +1,16 @@
 // Reading records in one pass. A block of records is read into tables of its own, then all that stands behind it, and only where that
 // is right and has room does the block go to the lent tables. So a refusal writes nothing, and no byte is read twice.
 ghost use mathlib.Core.Path.{_≡_};
-ghost use Prim.Native.Nat.{_+_, _≤_};
-ghost use lib.ListN.{length, drop};
+ghost use mathlib.Core.Option.{none};
+ghost use Prim.Native.Nat.{_+_, _≤_, _<_};
+ghost use lib.ListN.{length, take, drop};
+ghost use Rattle.records.specs.Tables.{recordsOf};
 ghost use Rattle.codec.specs.Reading.{parse};
-ghost use Rattle.codec.specs.Blocks.{Blocked, filledFrom};
+ghost use Rattle.codec.specs.Blocks.{Blocked, filled, filledFrom};
 use crate::judging::Scan;
 use crate::record::Got;
 use crate::record::read_record;
+use crate::two_passes::read_twice;
 use records::Refusal;
 
 // What reading a block finds: the first fault and its place; or how many records there are, the place behind them, and the epoch of the
@@ -18,13 +21,7 @@ pub enum Block {
 }
 
 // Reads records from `start` on, at most 64, and puts them at the start of the two tables.
-fn read_block(
-    src: &[u8],
-    start: usize,
-    base: u16,
-    epochs: &mut [u16],
-    counts: &mut [u32],
-) -> Block
+fn read_block(src: &[u8], start: usize, base: u16, epochs: &mut [u16], counts: &mut [u32]) -> Block
     requires { ⌜ start ≤ length (now src) ⌝ }
     requires { ⌜ (64 ≤ length (now epochs)) × (64 ≤ length (now counts)) ⌝ }
     ensures { λ r. ⌜ Blocked (now (src .entry)) start base r (now (epochs .entry)) (now (counts .entry)) (now (epochs .exit)) (now (counts .exit)) ⌝ }
@@ -57,5 +54,68 @@ fn read_block(
         n,
         next: at,
         last: prev,
+    }
+}
+
+// Puts the n records of the last block into the lent tables from the place k on, where all have room; the bytes end at `end`.
+fn place_last(
+    block_epochs: &[u16],
+    block_counts: &[u32],
+    n: usize,
+    end: usize,
+    epochs: &mut [u16],
+    counts: &mut [u32],
+    k: usize,
+) -> Scan
+    requires { ⌜ (n ≤ length (now «block_epochs»)) × (n ≤ length (now «block_counts»)) ⌝ }
+    requires { ⌜ k + n < 18446744073709551616 ⌝ }
+    ensures { λ r. ⌜ filled r (now (epochs .exit)) (now (counts .exit)) ≡ filledFrom end k none (take n (recordsOf (now («block_epochs» .entry)) (now («block_counts» .entry)))) (now (epochs .entry)) (now (counts .entry)) ⌝ }
+{
+    if records::fit(k + n, epochs.len(), counts.len()) {
+        return Scan::Records(records::copy_run(
+            block_epochs,
+            block_counts,
+            0,
+            n,
+            epochs,
+            counts,
+            k,
+        ));
+    }
+    Scan::Faulty(Refusal::NoRoom, end)
+}
+
+// Reads the records from `at` on, after one at the epoch `prev`, and puts them into the lent tables from the place k on. Each block waits
+// for those behind it in the machine's stack, so only the first 8,192 records are read in this way.
+pub fn read_blocks(
+    src: &[u8],
+    at: usize,
+    prev: u16,
+    k: usize,
+    epochs: &mut [u16],
+    counts: &mut [u32],
+) -> Scan
+    requires { ⌜ (k ≤ at) × (at ≤ length (now src)) × (1 ≤ k → at < length (now src)) ⌝ }
+    ensures { λ r. ⌜ filled r (now (epochs .exit)) (now (counts .exit)) ≡ filledFrom (length (now (src .entry))) k (parse at 0 prev (drop at (now (src .entry))) .fault) (parse at 0 prev (drop at (now (src .entry))) .records) (now (epochs .entry)) (now (counts .entry)) ⌝ }
+{
+    if 8192 <= k {
+        return read_twice(src, at, prev, k, epochs, counts);
+    }
+    let mut block_epochs = [0u16; 64];
+    let mut block_counts = [0u32; 64];
+    match read_block(src, at, prev, &mut block_epochs, &mut block_counts) {
+        Block::Faulty(refusal, place) => Scan::Faulty(refusal, place),
+        Block::Read { n, next, last } => {
+            if src.len() <= next {
+                return place_last(&block_epochs, &block_counts, n, next, epochs, counts, k);
+            }
+            match read_blocks(src, next, last, k + n, epochs, counts) {
+                Scan::Faulty(refusal, place) => Scan::Faulty(refusal, place),
+                Scan::Records(all) => {
+                    records::copy_run(&block_epochs, &block_counts, 0, n, epochs, counts, k);
+                    Scan::Records(all)
+                }
+            }
+        }
     }
 }

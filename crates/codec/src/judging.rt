@@ -52,7 +52,7 @@ fn judge_record(src: &[u8], at: usize, prev: u16) -> Step
 }
 
 // Judges all records from `start` to the end.
-fn judge_records(src: &[u8], start: usize, base: u16) -> Scan
+pub fn judge_records(src: &[u8], start: usize, base: u16) -> Scan
     requires { ⌜ start ≤ length (now src) ⌝ }
     ensures { λ r. ⌜ r ≡ scanOf (length (now (src .entry))) (parse start 0 base (drop start (now (src .entry))) .fault) (length (parse start 0 base (drop start (now (src .entry))) .records)) ⌝ }
 {
@@ -88,7 +88,7 @@ pub fn head_size(kind: Kind) -> usize
 }
 
 // The base epoch of flags of a kind.
-fn base_in(kind: Kind, src: &[u8]) -> u16
+pub fn base_in(kind: Kind, src: &[u8]) -> u16
     requires { ⌜ headSize kind ≤ length (now src) ⌝ }
     ensures { λ r. ⌜ r ≡ baseIn kind (now (src .entry)) ⌝ }
 {
@@ -145,22 +145,32 @@ fn refused_at(refusal: Refusal, place: usize) -> Judgement
     }
 }
 
+// The head of flags of a kind with a number of records that goes with it.
+pub fn head_in(kind: Kind, src: &[u8], records: usize) -> Head
+    requires { ⌜ headSize kind ≤ length (now src) ⌝ }
+    requires { ⌜ agrees kind records ≡ true ⌝ }
+    ensures { λ r. ⌜ r ≡ headFor (baseIn kind (now (src .entry))) (ownerIn kind (now (src .entry))) records ⌝ }
+{
+    let base = base_in(kind, src);
+    let owner = owner_in(kind, src);
+    Head {
+        kind,
+        base,
+        owner,
+        records,
+    }
+}
+
 // Flags of a kind with a number of records that goes with it.
 fn present(kind: Kind, src: &[u8], records: usize) -> Judgement
     requires { ⌜ headSize kind ≤ length (now src) ⌝ }
     requires { ⌜ agrees kind records ≡ true ⌝ }
     ensures { λ r. ⌜ r ≡ record { verdict = Verdict.Present; head = headFor (baseIn kind (now (src .entry))) (ownerIn kind (now (src .entry))) records } ⌝ }
 {
-    let base = base_in(kind, src);
-    let owner = owner_in(kind, src);
+    let head = head_in(kind, src, records);
     Judgement {
         verdict: Verdict::Present,
-        head: Head {
-            kind,
-            base,
-            owner,
-            records,
-        },
+        head,
     }
 }
 

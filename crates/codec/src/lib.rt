@@ -4,6 +4,7 @@ mod judging;
 mod reading;
 mod record;
 mod sizes;
+mod two_passes;
 mod writing;
 
 pub use judging::Judgement;

@@ -1,72 +1,64 @@
-// The second pass of reading: it fills the two lent tables, once it is known that the flags are right and have room.
+// Reading flag bytes: the head, and the records by way of blocks.
 ghost use mathlib.Core.Path.{_≡_};
-ghost use Prim.Native.Nat.{_≤_};
-ghost use lib.ListN.{length};
-ghost use Rattle.records.specs.Tables.{Placed};
-ghost use Rattle.records.specs.Flags.{headOf};
+ghost use mathlib.Core.Bool.{true, false};
+ghost use mathlib.Core.List.{List};
+ghost use Prim.Native.Nat.{ℕ};
+ghost use Rattle.records.specs.Flags.{multi};
 ghost use Rattle.records.specs.Answers.{shown};
 ghost use Rattle.records.specs.declared.head.Kind.the-variants.{SingleEpoch, MultiEpoch, SingleEpochOwned, MultiEpochOwned};
-ghost use Rattle.codec.specs.Reading.{recordsIn, flagsIn, readAs, someFlags};
-ghost use Rattle.codec.specs.Calls.{Complete, deserializedAs, deserialized};
-use crate::judging::Verdict;
+ghost use Rattle.codec.specs.Calls.{deserializedAs, deserialized};
+use crate::blocks::read_blocks;
+use crate::judging::Scan;
+use crate::judging::base_in;
+use crate::judging::head_in;
 use crate::judging::head_size;
-use crate::judging::judge_as;
 use records::Answered;
-use records::Head;
 use records::Kind;
 use records::KindByte;
 use records::Refusal;
 
-// Puts the n records of judged flags at the start of the two tables; answers the place behind them.
-fn fill_records(kind: Kind, src: &[u8], n: usize, epochs: &mut [u16], counts: &mut [u32]) -> usize
-    requires { ⌜ Complete kind (now src) n ⌝ }
-    requires { ⌜ (n ≤ length (now epochs)) × (n ≤ length (now counts)) ⌝ }
-    ensures { λ r. ⌜ Placed (recordsIn kind (now (src .entry)) .records) 0 r (now (epochs .entry)) (now (counts .entry)) (now (epochs .exit)) (now (counts .exit)) ⌝ }
-{
-    let mut at = head_size(kind);
-    let mut k: usize = 0;
-    while k < n {
-        let epoch = fields::be16_at(src, at);
-        let varint = fields::varint_at(src, at + 2);
-        epochs[k] = epoch;
-        counts[k] = varint.count;
-        at = varint.next;
-        k += 1;
-    }
-    k
-}
-
-// Flags that were judged go to the tables, if these have room.
-fn settle(kind: Kind, src: &[u8], head: Head, epochs: &mut [u16], counts: &mut [u32]) -> Answered
-    requires { ⌜ readAs kind (now src) ≡ someFlags (flagsIn kind (now src)) ⌝ }
-    requires { ⌜ head ≡ headOf (flagsIn kind (now src)) ⌝ }
+// Reads flags of kind 1 or 3.
+fn read_multi(kind: Kind, src: &[u8], epochs: &mut [u16], counts: &mut [u32]) -> Answered
+    requires { ⌜ multi kind ≡ true ⌝ }
     ensures { λ r. ⌜ shown r (now (epochs .exit)) (now (counts .exit)) ≡ deserializedAs kind (now (src .entry)) (now (epochs .entry)) (now (counts .entry)) ⌝ }
 {
-    let n = head.records;
-    if epochs.len() < n {
-        return records::refused(Refusal::NoRoom);
+    let size = head_size(kind);
+    if src.len() < size {
+        return records::refused(Refusal::WrongSize);
     }
-    if counts.len() < n {
-        return records::refused(Refusal::NoRoom);
+    let base = base_in(kind, src);
+    match read_blocks(src, size, base, 0, epochs, counts) {
+        Scan::Faulty(refusal, _) => records::refused(refusal),
+        Scan::Records(n) => {
+            if n == 0 {
+                return records::refused(Refusal::WrongSize);
+            }
+            let head = head_in(kind, src, n);
+            records::present(head)
+        }
     }
-    fill_records(kind, src, n, epochs, counts);
-    records::present(head)
+}
+
+// Reads flags of kind 0 or 2, which have no records: whatever tables are lent, they stay as they are.
+fn read_single(kind: Kind, src: &[u8]) -> Answered
+    requires { ⌜ multi kind ≡ false ⌝ }
+    ensures { λ r. ⌜ ((es cs : List ℕ) → shown r es cs ≡ deserializedAs kind (now (src .entry)) es cs) ⌝ }
+{
+    if src.len() == head_size(kind) {
+        let head = head_in(kind, src, 0);
+        return records::present(head);
+    }
+    records::refused(Refusal::WrongSize)
 }
 
 // Reads flags of a kind, without a look at byte 0.
 fn read_as(kind: Kind, src: &[u8], epochs: &mut [u16], counts: &mut [u32]) -> Answered
     ensures { λ r. ⌜ shown r (now (epochs .exit)) (now (counts .exit)) ≡ deserializedAs kind (now (src .entry)) (now (epochs .entry)) (now (counts .entry)) ⌝ }
 {
-    let judgement = judge_as(kind, src);
-    let verdict = judgement.verdict;
-    match verdict {
-        Verdict::Absent => records::absent(),
-        Verdict::Refused(refusal, _) => records::refused(refusal),
-        Verdict::Present => {
-            let head = judgement.head;
-            settle(kind, src, head, epochs, counts)
-        }
+    if kind.is_multi() {
+        return read_multi(kind, src, epochs, counts);
     }
+    read_single(kind, src)
 }
 
 // Reads flags of kind 0, whatever byte 0 says.

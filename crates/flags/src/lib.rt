@@ -13,6 +13,5 @@ pub use owners::choose_owner;
 pub use owners::choose_owner_id;
 pub use owners::combine_owner_id;
 pub use owners::combine_owners;
-pub use placing::fit;
 pub use placing::hand_on;
 pub use placing::place_union;

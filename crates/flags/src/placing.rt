@@ -14,16 +14,7 @@ use records::Head;
 use records::MaybeOwner;
 use records::Refusal;
 use records::Spot;
-
-// Whether n records have room in both tables.
-pub fn fit(n: usize, epochs_len: usize, counts_len: usize) -> bool
-    ensures { λ r. ⌜ r ≡ roomFor n «epochs_len» «counts_len» ⌝ }
-{
-    if epochs_len < n {
-        return false;
-    }
-    n <= counts_len
-}
+use records::fit;
 
 // Whether `before` records and the union of what stands from i on in ours with theirs have room. They are counted only where
 // the room is not surely enough.

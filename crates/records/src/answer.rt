@@ -1,6 +1,7 @@
 // What calls answer. An enum cannot hold a head, whose owner is an array, so the head stands beside the outcome.
 ghost use mathlib.Core.Path.{_≡_};
 ghost use Rattle.records.specs.Flags.{noHead};
+ghost use Rattle.records.specs.Answers.{roomFor};
 use crate::head::Head;
 use crate::head::Kind;
 use crate::refusal::Refusal;
@@ -66,4 +67,14 @@ pub fn present(head: Head) -> Answered
         outcome: Outcome::Present,
         head,
     }
+}
+
+// Whether n records have room in both tables.
+pub fn fit(n: usize, epochs_len: usize, counts_len: usize) -> bool
+    ensures { λ r. ⌜ r ≡ roomFor n «epochs_len» «counts_len» ⌝ }
+{
+    if epochs_len < n {
+        return false;
+    }
+    n <= counts_len
 }

@@ -60,7 +60,7 @@ fn remaining_fits(
     ensures { λ r. ⌜ r ≡ roomFor (length (minus (union (recordsOf (now («our_epochs» .entry)) (now («our_counts» .entry))) (recordsOf (now («their_epochs» .entry)) (now («their_counts» .entry)))) (recordsOf (now («removed_epochs» .entry)) (now («removed_bytes» .entry))))) «epochs_len» «counts_len» ⌝ }
 {
     let most = our_epochs.len() + their_epochs.len();
-    if flags::fit(most, epochs_len, counts_len) {
+    if records::fit(most, epochs_len, counts_len) {
         return true;
     }
     let n = remaining_len(
@@ -71,7 +71,7 @@ fn remaining_fits(
         removed_epochs,
         removed_bytes,
     );
-    flags::fit(n, epochs_len, counts_len)
+    records::fit(n, epochs_len, counts_len)
 }
 
 // Puts what remains into the two tables lent for it; answers the place behind it.

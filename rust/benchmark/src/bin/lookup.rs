@@ -100,7 +100,7 @@ fn measure(records: usize, order: Order, rounds: usize) -> Result<String, String
             black_box(find(&epochs, epoch));
         }
     };
-    let [walked, halved] = interleaved(rounds, [&|| ask(walk), &|| ask(halves)]);
+    let [walked, halved] = interleaved(rounds, [&mut || ask(walk), &mut || ask(halves)]);
     let arguments = ["once", &records.to_string(), order.name()];
     let counts = callgrind::instructions(&arguments, ["lookup_walk", "lookup_halves"])?;
     let [walk_count, halves_count] = counts.map(|count| count as f64 / asked as f64);

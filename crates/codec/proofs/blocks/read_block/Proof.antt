@@ -5,7 +5,7 @@ use native.Mathlib.Omega.{arith}
 use borrow.Author.Needs.{needs}
 use lib.ListN.{length}
 use Rattle.codec.specs.Blocks.{Taken}
-use Rattle.codec.proofs.Taking.{taken-start, taken-epochs, taken-counts, taken-bad, taken-more}
+use Rattle.codec.proofs.Taking.{taken-start, taken-epochs, taken-counts, taken-bad, taken-more, blocked-faulty, blocked-taken}
 use Rattle.codec.proofs.blocks.read_block.Statement.{statement}
 use Rattle.codec.proofs.blocks.read_block.Tie as tie
 
@@ -21,15 +21,17 @@ loop-holds c =
     (omega arith, taken-start (s .args .src .now) (s .args .start) (s .args .base) (s .args .epochs .now) (s .args .counts .now) (s .pre .0))
 
 returns : tie.Need-returns Inv-loop μ-loop
-returns c = (c .before .before .loop .inv .1, λ h. absurd (omega (arith, c .if1 .taken)))
+returns c = blocked-taken (c .before .before .loop .inv .1) (λ h. absurd (omega (arith, c .if1 .taken))) (c .before .before .loop .inv .0)
 
 read-record-requires : tie.Need-read-record-requires Inv-loop μ-loop
 read-record-requires c κs = c .before .before .loop .inv .1 .within
 
 returns-2 : tie.Need-returns-2 Inv-loop μ-loop
 returns-2 c =
+    let a = c .before .before .before .before .before .before .before .before .before .before .args in
     let g = c .before .refusal .given in
-    taken-bad (c .before .before .before .before .before .before .loop .inv .1) (c .before .before .before .before .if1 .left) (g .0 .0) (sym (c .before .before .before .read-record .ensures) ∙ g .1)
+    blocked-faulty (a .src .now) (a .start) (a .base) (a .epochs .now) (a .counts .now) _ _ (g .0 .0) _
+    (taken-bad (c .before .before .before .before .before .before .loop .inv .1) (c .before .before .before .before .if1 .left) (g .0 .0) (sym (c .before .before .before .read-record .ensures) ∙ g .1))
 
 -- one place more in both tables
 room : (c : tie.After-known-told2 Inv-loop μ-loop) → let l = c .before .before .before .before .before .before .loop in (l .n < length (l .epochs)) × (l .n < length (l .counts))
@@ -46,7 +48,7 @@ loop-again c =
     (omega arith, taken-more (l .inv .1) (c .before .before .before .before .if1 .left) _ _ _ (sym (c .before .before .before .read-record .ensures) ∙ g .1))
 
 returns-3 : tie.Need-returns-3 Inv-loop μ-loop
-returns-3 c = (c .before .loop .inv .1, λ h. omega (arith, c .loop-test .left))
+returns-3 c = blocked-taken (c .before .loop .inv .1) (λ h. omega (arith, c .loop-test .left)) (c .before .loop .inv .0)
 
 pub read-block-spec : {M : Type 1} → statement M
 read-block-spec =

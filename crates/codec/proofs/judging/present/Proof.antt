@@ -1,22 +1,14 @@
--- `codec::judging::present` meets its contract: the kind is the one that its owner and its records tell. Assumes nothing.
-use mathlib.Core.Path.{sym}
-use lib.ListN.{take, drop}
-use Rattle.records.proofs.Proper.{kind-agrees}
+-- `codec::judging::present` meets its contract: the head is the one that was made. Assumes nothing.
+use mathlib.Core.Path.{ap}
+use Rattle.records.specs.declared.head.Head.{Head}
 use Rattle.codec.specs.declared.judging.Verdict.the-variants.{Present}
+use Rattle.codec.specs.declared.judging.Judgement.{Judgement}
+use borrow.Author.Needs.{needs}
 use Rattle.codec.proofs.judging.present.Statement.{statement}
 use Rattle.codec.proofs.judging.present.Tie as tie
 
-base-in-requires : tie.Need-base-in-requires
-base-in-requires c κs = c .before .pre .0
-
-owner-in-requires : tie.Need-owner-in-requires
-owner-in-requires c κs = c .before .before .pre .0
-
 returns : tie.Need-returns
-returns c =
-    let a = c .before .before .before .args in
-    let k = kind-agrees (record { kind = a .kind; base = 0; owner = take 32 (drop 1 (a .src .now)); records = a .records }) (c .before .before .before .pre .1) in
-    λ i. record { verdict = Present; head = record { kind = sym k i; base = c .before .base-in .ensures i; owner = c .owner-in .ensures i; records = a .records } }
+returns c = ap {B = Judgement} (λ (h : Head). record { verdict = Present; head = h }) (c .head-in .ensures)
 
 pub present-spec : {M : Type 1} → statement M
-present-spec = tie.close (tie.spec base-in-requires owner-in-requires returns)
+present-spec = tie.close (tie.spec (λ c κs. search needs) returns)

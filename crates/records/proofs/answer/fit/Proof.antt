@@ -1,7 +1,7 @@
--- `flags::placing::fit` meets its contract: its tests are those of `roomFor`. Assumes nothing.
+-- `records::answer::fit` meets its contract: its tests are those of `roomFor`. Assumes nothing.
 use borrow.Author.Tests.{le-leb, lt-leb}
-use Rattle.flags.proofs.placing.fit.Statement.{statement}
-use Rattle.flags.proofs.placing.fit.Tie as tie
+use Rattle.records.proofs.answer.fit.Statement.{statement}
+use Rattle.records.proofs.answer.fit.Tie as tie
 
 returns : tie.Need-returns
 returns c = rw (lt-leb _ _ (c .if1 .taken))

@@ -1,0 +1,60 @@
+// Reading records in two passes: all are judged, and then read once more into the lent tables. It needs no room of its own.
+ghost use mathlib.Core.Path.{_≡_};
+ghost use Prim.Native.Nat.{_+_, _≤_, _<_};
+ghost use lib.ListN.{length, drop};
+ghost use Rattle.records.specs.Tables.{Placed};
+ghost use Rattle.codec.specs.Reading.{parse};
+ghost use Rattle.codec.specs.Blocks.{Sound, filled, filledFrom};
+use crate::judging::Scan;
+use crate::judging::judge_records;
+use records::Refusal;
+
+// Puts the n records from `start` on into the two tables from the place k on; answers the place behind them.
+fn fill_records(
+    src: &[u8],
+    start: usize,
+    n: usize,
+    epochs: &mut [u16],
+    counts: &mut [u32],
+    k: usize,
+) -> usize
+    requires { ⌜ Sound (now src) start n ⌝ }
+    requires { ⌜ (k + n ≤ length (now epochs)) × (k + n ≤ length (now counts)) ⌝ }
+    ensures { λ r. ⌜ ((s : Sound (now (src .entry)) start n) → Placed (parse start 0 (s .before) (drop start (now (src .entry))) .records) k r (now (epochs .entry)) (now (counts .entry)) (now (epochs .exit)) (now (counts .exit))) ⌝ }
+{
+    let end = k + n;
+    let mut at = start;
+    let mut i = k;
+    while i < end {
+        let epoch = fields::be16_at(src, at);
+        let varint = fields::varint_at(src, at + 2);
+        epochs[i] = epoch;
+        counts[i] = varint.count;
+        at = varint.next;
+        i += 1;
+    }
+    i
+}
+
+// Reads the records from `at` on, after one at the epoch `prev`, and puts them into the lent tables from the place k on.
+pub fn read_twice(
+    src: &[u8],
+    at: usize,
+    prev: u16,
+    k: usize,
+    epochs: &mut [u16],
+    counts: &mut [u32],
+) -> Scan
+    requires { ⌜ (k ≤ at) × (at < length (now src)) ⌝ }
+    ensures { λ r. ⌜ filled r (now (epochs .exit)) (now (counts .exit)) ≡ filledFrom (length (now (src .entry))) k (parse at 0 prev (drop at (now (src .entry))) .fault) (parse at 0 prev (drop at (now (src .entry))) .records) (now (epochs .entry)) (now (counts .entry)) ⌝ }
+{
+    match judge_records(src, at, prev) {
+        Scan::Faulty(refusal, place) => Scan::Faulty(refusal, place),
+        Scan::Records(n) => {
+            if records::fit(k + n, epochs.len(), counts.len()) {
+                return Scan::Records(fill_records(src, at, n, epochs, counts, k));
+            }
+            Scan::Faulty(Refusal::NoRoom, src.len())
+        }
+    }
+}
