@@ -14,18 +14,11 @@ use Rattle.records.specs.declared.head.Kind.{Kind}
 use Rattle.records.specs.declared.head.Head.{Head}
 use Rattle.records.specs.declared.refusal.Refusal.the-variants.{WrongSize}
 use Rattle.codec.specs.Bytes.{bytesOf, headSize}
-use Rattle.codec.specs.Reading.{Next, bad, good, Fault, Read, noFlags, someFlags, refusedAt, recordsIn, readAs, read}
-use Rattle.codec.specs.declared.judging.Step.{Step}
-use Rattle.codec.specs.declared.judging.Step.the-variants.{Bad, Good}
+use Rattle.codec.specs.Reading.{Fault, Read, noFlags, someFlags, refusedAt, recordsIn, readAs, read}
 use Rattle.codec.specs.declared.judging.Scan.{Scan}
 use Rattle.codec.specs.declared.judging.Scan.the-variants.{Faulty, Records}
 use Rattle.codec.specs.declared.judging.Verdict.the-variants.{Absent, Present, Refused}
 use Rattle.codec.specs.declared.judging.Judgement.{Judgement}
-
--- the judgement of a record at a place
-abbrev pub stepOf : ℕ → Next → Step
-stepOf at (bad r) = Bad r
-stepOf at (good r used) = Good (r .epoch) (at + used)
 
 -- the judgement of records whose bytes end at end
 abbrev pub scanOf : ℕ → Option Fault → ℕ → Scan

@@ -21,7 +21,13 @@ pub enum Block {
 }
 
 // Reads records from `start` on, at most 64, and puts them at the start of the two tables.
-fn read_block(src: &[u8], start: usize, base: u16, epochs: &mut [u16], counts: &mut [u32]) -> Block
+pub fn read_block(
+    src: &[u8],
+    start: usize,
+    base: u16,
+    epochs: &mut [u16],
+    counts: &mut [u32],
+) -> Block
     requires { ⌜ start ≤ length (now src) ⌝ }
     requires { ⌜ (64 ≤ length (now epochs)) × (64 ≤ length (now counts)) ⌝ }
     ensures { λ r. ⌜ Blocked (now (src .entry)) start base r (now (epochs .entry)) (now (counts .entry)) (now (epochs .exit)) (now (counts .exit)) ⌝ }
@@ -86,7 +92,7 @@ fn place_last(
 }
 
 // Reads the records from `at` on, after one at the epoch `prev`, and puts them into the lent tables from the place k on. Each block waits
-// for those behind it in the machine's stack, so only the first 8,192 records are read in this way.
+// for those behind it in the machine's stack, so only the first 16,384 records are read in this way.
 pub fn read_blocks(
     src: &[u8],
     at: usize,
@@ -98,11 +104,20 @@ pub fn read_blocks(
     requires { ⌜ (k ≤ at) × (at ≤ length (now src)) × (1 ≤ k → at < length (now src)) ⌝ }
     ensures { λ r. ⌜ filled r (now (epochs .exit)) (now (counts .exit)) ≡ filledFrom (length (now (src .entry))) k (parse at 0 prev (drop at (now (src .entry))) .fault) (parse at 0 prev (drop at (now (src .entry))) .records) (now (epochs .entry)) (now (counts .entry)) ⌝ }
 {
-    if 8192 <= k {
-        return read_twice(src, at, prev, k, epochs, counts);
-    }
     let mut block_epochs = [0u16; 64];
     let mut block_counts = [0u32; 64];
+    if 16384 <= k {
+        return read_twice(
+            src,
+            at,
+            prev,
+            k,
+            epochs,
+            counts,
+            &mut block_epochs,
+            &mut block_counts,
+        );
+    }
     match read_block(src, at, prev, &mut block_epochs, &mut block_counts) {
         Block::Faulty(refusal, place) => Scan::Faulty(refusal, place),
         Block::Read { n, next, last } => {

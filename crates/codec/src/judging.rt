@@ -5,21 +5,15 @@ ghost use Prim.Native.Nat.{_+_, _≤_};
 ghost use lib.ListN.{length, take, drop};
 ghost use Rattle.records.specs.Flags.{multi, agrees, idOf, headFor};
 ghost use Rattle.codec.specs.Bytes.{headSize};
-ghost use Rattle.codec.specs.Reading.{next, parse, noFlags, refusedAt, baseIn, ownerIn, readAs, read};
-ghost use Rattle.codec.specs.Calls.{scanOf, stepOf, judgement};
-use crate::record::Got;
-use crate::record::read_record;
+ghost use Rattle.codec.specs.Reading.{parse, noFlags, refusedAt, baseIn, ownerIn, readAs, read};
+ghost use Rattle.codec.specs.Calls.{scanOf, judgement};
+use crate::blocks::Block;
+use crate::blocks::read_block;
 use records::Head;
 use records::Kind;
 use records::KindByte;
 use records::OwnerId;
 use records::Refusal;
-
-// What judging a record finds: why it is refused, or its epoch and the place behind it.
-pub enum Step {
-    Bad(Refusal),
-    Good { epoch: u16, next: usize },
-}
 
 // What judging records finds: the first fault and its place, or how many they are.
 pub enum Scan {
@@ -40,34 +34,34 @@ pub struct Judgement {
     pub head: Head,
 }
 
-// Judges the record at `at`, whose epoch has to be above `prev`.
-fn judge_record(src: &[u8], at: usize, prev: u16) -> Step
-    requires { ⌜ at ≤ length (now src) ⌝ }
-    ensures { λ r. ⌜ r ≡ stepOf at (next prev (drop at (now (src .entry)))) ⌝ }
-{
-    match read_record(src, at, prev) {
-        Got::Bad(refusal) => Step::Bad(refusal),
-        Got::Good { epoch, next, .. } => Step::Good { epoch, next },
-    }
-}
-
-// Judges all records from `start` to the end.
-pub fn judge_records(src: &[u8], start: usize, base: u16) -> Scan
+// Judges all records from `start` to the end, block by block. The two tables are room for a block; what they are left with says nothing.
+pub fn judge_records(
+    src: &[u8],
+    start: usize,
+    base: u16,
+    epochs: &mut [u16],
+    counts: &mut [u32],
+) -> Scan
     requires { ⌜ start ≤ length (now src) ⌝ }
+    requires { ⌜ (64 ≤ length (now epochs)) × (64 ≤ length (now counts)) ⌝ }
     ensures { λ r. ⌜ r ≡ scanOf (length (now (src .entry))) (parse start 0 base (drop start (now (src .entry))) .fault) (length (parse start 0 base (drop start (now (src .entry))) .records)) ⌝ }
 {
     let mut at = start;
     let mut prev = base;
     let mut n: usize = 0;
     while at < src.len() {
-        match judge_record(src, at, prev) {
-            Step::Bad(refusal) => {
-                return Scan::Faulty(refusal, at);
+        match read_block(src, at, prev, epochs, counts) {
+            Block::Faulty(refusal, place) => {
+                return Scan::Faulty(refusal, place);
             }
-            Step::Good { epoch, next } => {
+            Block::Read {
+                n: more,
+                next,
+                last,
+            } => {
                 at = next;
-                prev = epoch;
-                n += 1;
+                prev = last;
+                n += more;
             }
         }
     }
@@ -184,7 +178,9 @@ fn judge_multi(kind: Kind, src: &[u8]) -> Judgement
         return refused_at(Refusal::WrongSize, src.len());
     }
     let base = base_in(kind, src);
-    match judge_records(src, size, base) {
+    let mut epochs = [0u16; 64];
+    let mut counts = [0u32; 64];
+    match judge_records(src, size, base, &mut epochs, &mut counts) {
         Scan::Faulty(refusal, place) => refused_at(refusal, place),
         Scan::Records(n) => present(kind, src, n),
     }

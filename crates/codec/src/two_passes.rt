@@ -1,4 +1,4 @@
-// Reading records in two passes: all are judged, and then read once more into the lent tables. It needs no room of its own.
+// Reading records in two passes: all are judged, and then read once more into the lent tables.
 ghost use mathlib.Core.Path.{_≡_};
 ghost use Prim.Native.Nat.{_+_, _≤_, _<_};
 ghost use lib.ListN.{length, drop};
@@ -36,7 +36,8 @@ fn fill_records(
     i
 }
 
-// Reads the records from `at` on, after one at the epoch `prev`, and puts them into the lent tables from the place k on.
+// Reads the records from `at` on, after one at the epoch `prev`, and puts them into the lent tables from the place k on. The last two
+// tables are room for a block.
 pub fn read_twice(
     src: &[u8],
     at: usize,
@@ -44,11 +45,14 @@ pub fn read_twice(
     k: usize,
     epochs: &mut [u16],
     counts: &mut [u32],
+    block_epochs: &mut [u16],
+    block_counts: &mut [u32],
 ) -> Scan
     requires { ⌜ (k ≤ at) × (at < length (now src)) ⌝ }
+    requires { ⌜ (64 ≤ length (now «block_epochs»)) × (64 ≤ length (now «block_counts»)) ⌝ }
     ensures { λ r. ⌜ filled r (now (epochs .exit)) (now (counts .exit)) ≡ filledFrom (length (now (src .entry))) k (parse at 0 prev (drop at (now (src .entry))) .fault) (parse at 0 prev (drop at (now (src .entry))) .records) (now (epochs .entry)) (now (counts .entry)) ⌝ }
 {
-    match judge_records(src, at, prev) {
+    match judge_records(src, at, prev, block_epochs, block_counts) {
         Scan::Faulty(refusal, place) => Scan::Faulty(refusal, place),
         Scan::Records(n) => {
             if records::fit(k + n, epochs.len(), counts.len()) {

@@ -71,13 +71,13 @@ module _ (d : List ℕ) (at two : ℕ) (p : Passed d at 2) (e : two ≡ value (t
           ]
 
       pub chosen-read : (part next : ℕ) → (127 < getD d (at + 2) 0 → part ≡ getD d (at + 3) 0 * 2097152) × (getD d (at + 2) 0 ≤ 127 → part ≡ 0)
-          → (127 < getD d (at + 2) 0 → next ≡ at + 4) × (getD d (at + 2) 0 ≤ 127 → next ≡ at + 3) → (last ≡ 0 → ⊥)
+          → (127 < getD d (at + 2) 0 → next ≡ at + 3 + 1) × (getD d (at + 2) 0 ≤ 127 → next ≡ at + 3) → (last ≡ 0 → ⊥)
           → Whole (record { count = two + getD d (at + 2) 0 % 128 * 16384 + part; next = next }) ≡ readAt at (found (drop at d))
       chosen-read part next q n pos =
           elim (decLt 127 (getD d (at + 2) 0)) [
             | yes h ↦
                 let f = fourth-low h in
-                read-ended d at 3 (third-passed h) (omega arith) f (omega arith) _ next (omega (arith, l .0 h)) (passed-small d at 3 (third-passed h) (omega arith)) (omega (arith, four-say, q .0 h)) (n .0 h)
+                read-ended d at 3 (third-passed h) (omega arith) f (omega arith) _ next (omega (arith, l .0 h)) (passed-small d at 3 (third-passed h) (omega arith)) (omega (arith, four-say, q .0 h)) (omega (arith, n .0 h))
             | no h ↦
                 let i : getD d (at + 2) 0 ≤ 127 = omega arith in
                 read-ended d at 2 p (omega arith) (omega arith) (omega arith) _ next (omega (arith, l .1 i)) (passed-small d at 2 p (omega arith)) (omega (arith, three-say, q .1 i)) (n .1 i)

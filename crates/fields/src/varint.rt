@@ -251,15 +251,15 @@ fn fourth_part(third: u8, fourth: u8) -> u32
     0
 }
 
-// The place behind three or four bytes.
-fn behind(third: u8, at: usize) -> usize
-    requires { ⌜ at + 4 < 18446744073709551616 ⌝ }
-    ensures { λ r. ⌜ (127 < third → r ≡ at + 4) × (third ≤ 127 → r ≡ at + 3) ⌝ }
+// The place behind three or four bytes, of which the one behind three is `next`.
+fn behind(third: u8, next: usize) -> usize
+    requires { ⌜ next + 1 < 18446744073709551616 ⌝ }
+    ensures { λ r. ⌜ (127 < third → r ≡ next + 1) × (third ≤ 127 → r ≡ next) ⌝ }
 {
     if 127 < third {
-        return at + 4;
+        return next + 1;
     }
-    at + 3
+    next
 }
 
 // Reads the varint at `at`, of which four bytes are passed, that say `four`.
@@ -269,16 +269,16 @@ fn read_fifth(src: &[u8], at: usize, four: u32) -> Reading
     ensures { λ r. ⌜ r ≡ readAt at (found (drop at (now (src .entry)))) ⌝ }
 {
     let fifth = src[at + 4];
-    if 15 < fifth {
-        return read_judged(src, at);
+    if fifth < 16 {
+        if fifth == 0 {
+            return Reading::NotCanonical(at);
+        }
+        return Reading::Whole(Varint {
+            count: four + wide(fifth) * 268435456,
+            next: at + 5,
+        });
     }
-    if fifth == 0 {
-        return Reading::NotCanonical(at);
-    }
-    Reading::Whole(Varint {
-        count: four + wide(fifth) * 268435456,
-        next: at + 5,
-    })
+    read_judged(src, at)
 }
 
 // Reads the varint at `at`, of which two bytes are passed, that say `two`.
@@ -301,7 +301,7 @@ fn read_third(src: &[u8], at: usize, two: u32) -> Reading
     }
     Reading::Whole(Varint {
         count: three + fourth_part(third, fourth),
-        next: behind(third, at),
+        next: behind(third, at + 3),
     })
 }
 

@@ -19,26 +19,26 @@ returns c =
 
 present-requires : tie.Need-present-requires
 present-requires c κs =
-    let a = c .before .before .before .before .before .before .before .before .args in
+    let a = c .before .before .before .before .before .before .before .before .before .before .before .before .args in
     let g = c .before .n .given in
-    let s = scan-records (a .kind) (a .src .now) (c .before .before .before .before .before .before .head-size .result) (c .before .before .before .before .base-in .result) (c .before .before .before .judge-records .result) (c .before .before .before .before .before .before .head-size .ensures) (c .before .before .before .before .base-in .ensures) (c .before .before .before .judge-records .ensures) (c .before .before .before .before .before .before .before .before .pre) (c .before .before .before .before .before .if1 .left) (g .0 .0) (g .1) in
-    (omega (arith, c .before .before .before .before .before .before .head-size .ensures), agrees-multi (a .kind) (g .0 .0) (c .before .before .before .before .before .before .before .before .pre) (s .some-records))
+    let s = scan-records (a .kind) (a .src .now) (c .before .before .before .before .before .before .before .before .before .before .head-size .result) (c .before .before .before .before .before .before .before .before .base-in .result) (c .before .before .before .before .before .judge-records .result) (c .before .before .before .before .before .before .before .before .before .before .head-size .ensures) (c .before .before .before .before .before .before .before .before .base-in .ensures) (c .before .before .before .before .before .judge-records .ensures) (c .before .before .before .before .before .before .before .before .before .before .before .before .pre) (c .before .before .before .before .before .before .before .before .before .if1 .left) (g .0 .0) (g .1) in
+    (omega (arith, c .before .before .before .before .before .before .before .before .before .before .head-size .ensures, c .before .before .before .before .before .before .before .before .before .if1 .left), agrees-multi (a .kind) (g .0 .0) (c .before .before .before .before .before .before .before .before .before .before .before .before .pre) (s .some-records))
 
 returns-2 : tie.Need-returns-2
 returns-2 c =
-    let a = c .before .before .before .before .before .before .before .before .before .args in
+    let a = c .before .before .before .before .before .before .before .before .before .before .before .before .before .args in
     let g = c .before .before .refusal .given in
     c .refused-at2 .ensures
-    ∙ ap judgement (sym (scan-faulty (a .kind) (a .src .now) (c .before .before .before .before .before .before .before .head-size .result) (c .before .before .before .before .before .base-in .result) (c .before .before .before .before .judge-records .result) (c .before .before .before .before .before .before .before .head-size .ensures) (c .before .before .before .before .before .base-in .ensures) (c .before .before .before .before .judge-records .ensures) (c .before .before .before .before .before .before .before .before .before .pre) (c .before .before .before .before .before .before .if1 .left) (g .0 .0) (g .0 .1 .0) (g .1)))
+    ∙ ap judgement (sym (scan-faulty (a .kind) (a .src .now) (c .before .before .before .before .before .before .before .before .before .before .before .head-size .result) (c .before .before .before .before .before .before .before .before .before .base-in .result) (c .before .before .before .before .before .before .judge-records .result) (c .before .before .before .before .before .before .before .before .before .before .before .head-size .ensures) (c .before .before .before .before .before .before .before .before .before .base-in .ensures) (c .before .before .before .before .before .before .judge-records .ensures) (c .before .before .before .before .before .before .before .before .before .before .before .before .before .pre) (c .before .before .before .before .before .before .before .before .before .before .if1 .left) (g .0 .0) (g .0 .1 .0) (g .1)))
 
 returns-3 : tie.Need-returns-3
 returns-3 c =
-    let a = c .before .before .before .before .before .before .before .before .before .args in
+    let a = c .before .before .before .before .before .before .before .before .before .before .before .before .before .args in
     let g = c .before .before .n .given in
-    let s = scan-records (a .kind) (a .src .now) (c .before .before .before .before .before .before .before .head-size .result) (c .before .before .before .before .before .base-in .result) (c .before .before .before .before .judge-records .result) (c .before .before .before .before .before .before .before .head-size .ensures) (c .before .before .before .before .before .base-in .ensures) (c .before .before .before .before .judge-records .ensures) (c .before .before .before .before .before .before .before .before .before .pre) (c .before .before .before .before .before .before .if1 .left) (g .0 .0) (g .1) in
+    let s = scan-records (a .kind) (a .src .now) (c .before .before .before .before .before .before .before .before .before .before .before .head-size .result) (c .before .before .before .before .before .before .before .before .before .base-in .result) (c .before .before .before .before .before .before .judge-records .result) (c .before .before .before .before .before .before .before .before .before .before .before .head-size .ensures) (c .before .before .before .before .before .before .before .before .before .base-in .ensures) (c .before .before .before .before .before .before .judge-records .ensures) (c .before .before .before .before .before .before .before .before .before .before .before .before .before .pre) (c .before .before .before .before .before .before .before .before .before .before .if1 .left) (g .0 .0) (g .1) in
     c .present .ensures
     ∙ ap (λ (n : ℕ). record { verdict = Present; head = headFor (baseIn (a .kind) (a .src .now)) (ownerIn (a .kind) (a .src .now)) n }) (s .count)
-    ∙ ap judgement (sym (scan-read (a .kind) (a .src .now) (c .before .before .before .before .before .before .before .head-size .result) (c .before .before .before .before .before .base-in .result) (c .before .before .before .before .judge-records .result) (c .before .before .before .before .before .before .before .head-size .ensures) (c .before .before .before .before .before .base-in .ensures) (c .before .before .before .before .judge-records .ensures) (c .before .before .before .before .before .before .before .before .before .pre) (c .before .before .before .before .before .before .if1 .left) (g .0 .0) (g .1)))
+    ∙ ap judgement (sym (scan-read (a .kind) (a .src .now) (c .before .before .before .before .before .before .before .before .before .before .before .head-size .result) (c .before .before .before .before .before .before .before .before .before .base-in .result) (c .before .before .before .before .before .before .judge-records .result) (c .before .before .before .before .before .before .before .before .before .before .before .head-size .ensures) (c .before .before .before .before .before .before .before .before .before .base-in .ensures) (c .before .before .before .before .before .before .judge-records .ensures) (c .before .before .before .before .before .before .before .before .before .before .before .before .before .pre) (c .before .before .before .before .before .before .before .before .before .before .if1 .left) (g .0 .0) (g .1)))
 
 pub judge-multi-spec : {M : Type 1} → statement M
 judge-multi-spec =
@@ -48,6 +48,8 @@ judge-multi-spec =
     (λ c κs. search needs)
     returns
     (λ c κs. search needs)
+    (λ c. search needs)
+    (λ c. search needs)
     (λ c κs. search needs)
     (λ c. search needs)
     (λ c κs. search needs)

@@ -11,21 +11,20 @@ use borrow.Author.Needs.{needs}
 use Rattle.fields.proofs.varint.read_fifth.Statement.{statement}
 use Rattle.fields.proofs.varint.read_fifth.Tie as tie
 
-returns-2 : tie.Need-returns-2
-returns-2 c =
+returns : tie.Need-returns
+returns c =
     let s = c .before .before .before .before in
     read-zero (s .args .src .now) (s .args .at) 4 (s .pre .1 .0) (s .pre .0) (omega arith) (omega arith) (omega arith) (c .if2 .taken)
 
-add-t11 : tie.Need-add-t11
-add-t11 c =
+add-t12 : tie.Need-add-t12
+add-t12 c =
     let s = c .before .before .before .before .before in
     omega (arith, c .wide .ensures, s .pre .1 .1, groups-below (s .args .src .now) (s .args .at) 4)
 
-returns-3 : tie.Need-returns-3
-returns-3 c =
+returns-2 : tie.Need-returns-2
+returns-2 c =
     let s = c .before .before .before .before .before in
     let d = s .args .src .now in
-    let b : ℕ = getD d (s .args .at + 4) 0 in
     let v = value-on d (s .args .at) 4 (s .args .four) (s .pre .0) (s .pre .1 .1) in
     read-ended d (s .args .at) 4 (s .pre .1 .0) (s .pre .0) (omega arith) (omega arith) _ _ (omega arith)
     (fifth-fits d (s .args .at) 4 refl (s .pre .1 .0) (s .pre .0) (omega arith)) (omega (arith, c .wide .ensures)) refl
@@ -36,11 +35,11 @@ read-fifth-spec =
     (tie.spec
     (λ c. search needs)
     (λ c. search needs)
+    returns
     (λ c κs. search needs)
+    (λ c. search needs)
+    add-t12
     (λ c. search needs)
     returns-2
     (λ c κs. search needs)
-    (λ c. search needs)
-    add-t11
-    (λ c. search needs)
-    returns-3)
+    (λ c. search needs))

@@ -84,5 +84,6 @@ read-third-spec =
     returns-3
     (λ c κs. search needs)
     add-t14
+    (λ c. search needs)
     (λ c κs. search needs)
     returns-4)
