@@ -1,6 +1,6 @@
 -- From records that were read to what a reader of kind 1 or 3 leaves: they stand in the lent tables, there are none, or they are refused.
 -- Assumes nothing.
-use Prim.Native.Nat.{ℕ, suc, _+_, _≤_}
+use Prim.Native.Nat.{ℕ, _+_, _≤_}
 use native.Mathlib.Nat.{zero-add}
 use native.Mathlib.Omega.{arith}
 use mathlib.Core.Path.{_≡_, refl, sym, ap, ap₂, _∙_}
@@ -20,7 +20,7 @@ use Rattle.records.specs.declared.answer.Answered.{Answered}
 use Rattle.records.specs.declared.answer.Outcome.the-variants.{Present, Refused}
 use Rattle.records.proofs.Answers.{room-both, after-short, refused-left, placed-left}
 use Rattle.codec.specs.Bytes.{headSize}
-use Rattle.codec.specs.Reading.{Fault, Parsed, Read, refusedAt, withRecords, baseIn, ownerIn, recordsIn, readAs}
+use Rattle.codec.specs.Reading.{Fault, Parsed, Read, refusedAt, withRecords, baseIn, ownerIn, recordsIn}
 use Rattle.codec.specs.Calls.{answer, deserializedAs}
 use Rattle.codec.specs.Blocks.{Filled, filled, filledFrom}
 use Rattle.codec.specs.declared.judging.Scan.{Scan}

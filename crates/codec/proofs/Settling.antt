@@ -1,6 +1,6 @@
--- From what was judged to what a reader leaves: flags that are there go to the lent tables where these have room.
+-- What a judgement says of the bytes, and what a reader leaves that has no flags or refuses them.
 -- Assumes nothing.
-use Prim.Native.Nat.{ℕ, _≤_, _<_}
+use Prim.Native.Nat.{ℕ, _≤_}
 use native.Mathlib.Decide.{decLt, ℕ-discrete}
 use native.Mathlib.Omega.{arith}
 use mathlib.Core.Path.{_≡_, refl, sym, ap, _∙_}
@@ -8,22 +8,20 @@ use mathlib.Core.Bool.{Bool, true, false}
 use mathlib.Core.Option.{Option, none, some}
 use mathlib.Core.List.{List, [], _∷_}
 use lib.ListN.{length, take, drop}
-use Rattle.records.specs.Tables.{At, Placed}
+use Rattle.records.specs.Tables.{At}
 use Rattle.records.specs.Refusals.{number}
 use Rattle.records.specs.Flags.{Flags, flags, owned, multi, kindOfByte, agrees, headOf, noHead}
-use Rattle.records.specs.Answers.{ok, shown, after}
+use Rattle.records.specs.Answers.{shown, after}
 use Rattle.records.specs.declared.refusal.Refusal.{Refusal}
-use Rattle.records.specs.declared.refusal.Refusal.the-variants.{NoRoom}
 use Rattle.records.specs.declared.head.Kind.{Kind}
 use Rattle.records.specs.declared.head.KindByte.{KindByte}
 use Rattle.records.specs.declared.head.KindByte.the-variants.{Known, Unknown}
-use Rattle.records.specs.declared.head.Head.{Head}
 use Rattle.records.specs.declared.answer.Answered.{Answered}
-use Rattle.records.specs.declared.answer.Outcome.the-variants.{Absent, Present, Refused}
-use Rattle.records.proofs.Answers.{after-refused, after-absent, after-no-epochs, after-no-counts, placed-left}
+use Rattle.records.specs.declared.answer.Outcome.the-variants.{Absent, Refused}
+use Rattle.records.proofs.Answers.{after-refused, after-absent}
 use Rattle.codec.specs.Bytes.{headSize}
 use Rattle.codec.specs.Reading.{Fault, Parsed, Read, noFlags, someFlags, refusedAt, withRecords, baseIn, ownerIn, recordsIn, flagsIn, readAs, readByte, read}
-use Rattle.codec.specs.Calls.{Complete, judgement, answer, deserializedAs}
+use Rattle.codec.specs.Calls.{Complete, judgement, answer}
 use Rattle.codec.specs.declared.judging.Verdict.the-variants.{Absent as IsAbsent, Present as IsPresent, Refused as IsRefused}
 use Rattle.codec.proofs.Parsing.{rest-end}
 use Rattle.codec.proofs.Readings.{owned-size, multi-short, multi-long, single-right, single-wrong, agrees-multi, agrees-single}
@@ -135,21 +133,3 @@ module _ (x : Read) (es cs : List ℕ) (a : Answered) where
   pub left-refused : (r : Refusal) (place : ℕ) → a ≡ record { outcome = Refused r; head = noHead } → x ≡ refusedAt r place → shown a es cs ≡ after (answer x) es cs
   left-refused r place ea e =
       ap (λ (b : Answered). shown b es cs) ea ∙ sym (ap (λ (y : Read). after (answer y) es cs) e ∙ after-refused (number r) es cs)
-
--- flags
-module _ (k : Kind) (src es cs : List ℕ) where
-  module _ (e : readAs k src ≡ someFlags (flagsIn k src)) (a : Answered) where
-    left-flags : deserializedAs k src es cs ≡ after (ok (some (flagsIn k src))) es cs
-    left-flags = ap (λ (x : Read). after (answer x) es cs) e
-
-    pub left-no-epochs : a ≡ record { outcome = Refused NoRoom; head = noHead } → length es < length (recordsIn k src .records) → shown a es cs ≡ deserializedAs k src es cs
-    left-no-epochs ea h = ap (λ (x : Answered). shown x es cs) ea ∙ sym (left-flags ∙ after-no-epochs (flagsIn k src) es cs h)
-
-    pub left-no-counts : a ≡ record { outcome = Refused NoRoom; head = noHead } → length cs < length (recordsIn k src .records) → shown a es cs ≡ deserializedAs k src es cs
-    left-no-counts ea h = ap (λ (x : Answered). shown x es cs) ea ∙ sym (left-flags ∙ after-no-counts (flagsIn k src) es cs h)
-
-    pub left-placed : (head : Head) (n : ℕ) (es′ cs′ : List ℕ) → a ≡ record { outcome = Present; head = head } → head ≡ headOf (flagsIn k src)
-        → Placed (recordsIn k src .records) 0 n es cs es′ cs′ → length (recordsIn k src .records) ≤ length es → length (recordsIn k src .records) ≤ length cs
-        → shown a es′ cs′ ≡ deserializedAs k src es cs
-    left-placed head n es′ cs′ ea eh p he hc =
-        placed-left a es′ cs′ (flagsIn k src) head n es cs ea eh p he hc ∙ sym left-flags

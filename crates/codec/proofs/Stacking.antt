@@ -1,14 +1,13 @@
 -- Blocks of records, each placed after those behind it: what the last block leaves, and what one leaves with the blocks behind it.
 -- Assumes nothing.
 use Prim.Native.Nat.{ℕ, _+_, _≤_, _<_}
-use native.Mathlib.Nat.{add-assoc}
 use native.Mathlib.Omega.{arith}
 use mathlib.Core.Path.{_≡_, refl, sym, ap, ap₂, _∙_}
 use mathlib.Core.Bool.{Bool, true, false}
 use mathlib.Core.Option.{Option, none, some, Option·some-ne-none}
-use mathlib.Core.List.{List, [], _++_, append-nil}
+use mathlib.Core.List.{List, _++_, append-nil}
 use lib.Dec.{eqb}
-use lib.ListN.{length, take, drop, length-append, length-take, take-append-drop}
+use lib.ListN.{length, take, drop, length-append, take-append-drop}
 use lib.Seq.{sets, length-take-le, length-sets}
 use Rattle.fields.proofs.Parts.{sets-append, sets-before}
 use Rattle.records.specs.Tables.{At, recordsOf, epochsOf, countsOf, Placed}

@@ -1,16 +1,16 @@
 -- Records read into a block, one after another: each is there whole, and goes to its place of the block's tables.
 -- Assumes nothing.
-use Prim.Native.Nat.{ℕ, suc, _+_, _-_, _≤_, _<_}
+use Prim.Native.Nat.{ℕ, _+_, _≤_, _<_}
 use native.Mathlib.Omega.{arith}
-use mathlib.Core.Path.{_≡_, refl, sym, ap, ap₂, _∙_}
+use mathlib.Core.Path.{_≡_, refl, sym, ap, _∙_}
 use mathlib.Core.Option.{some}
 use mathlib.Core.List.{List, [], _∷_, _++_}
 use lib.ListN.{length, take, drop, set, length-drop}
 use lib.Seq.{drop-drop, take-add, length-sets}
-use Rattle.records.specs.Tables.{At, _⦂_, epochsOf, countsOf, Placed}
+use Rattle.records.specs.Tables.{At, _⦂_, epochsOf, countsOf}
 use Rattle.records.specs.declared.refusal.Refusal.{Refusal}
 use Rattle.records.proofs.Tables.{filling-start, filling-done, placed-one, placed-then}
-use Rattle.codec.specs.Reading.{Next, good, next, Parsed}
+use Rattle.codec.specs.Reading.{next, Parsed}
 use Rattle.codec.specs.Blocks.{gotOf, Taken, Blocked}
 use Rattle.codec.specs.declared.record.Got.the-variants.{Bad, Good}
 use Rattle.codec.specs.declared.blocks.Block.the-variants.{Faulty, Read}

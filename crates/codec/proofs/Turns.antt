@@ -1,20 +1,17 @@
--- The judgement of a record and of all records, as the code tells it. Assumes nothing.
-use Prim.Native.Nat.{ℕ, suc, _+_, _≤_, _<_}
+-- A record that was read, and records that were scanned, as the code tells it. Assumes nothing.
+use Prim.Native.Nat.{ℕ, _+_}
 use native.Mathlib.Omega.{arith}
-use mathlib.Core.Path.{_≡_, refl, sym, ap, ap₂, _∙_}
-use mathlib.Core.Option.{Option, none, some}
-use mathlib.Core.List.{List}
+use mathlib.Core.Path.{_≡_, sym, ap₂, _∙_}
+use mathlib.Core.Option.{Option, none}
 use borrow.Author.Tests.{ne-eqb}
-use lib.ListN.{length, drop}
-use Rattle.records.specs.Tables.{At, _⦂_}
+use Rattle.records.specs.Tables.{_⦂_}
 use Rattle.records.specs.declared.refusal.Refusal.{Refusal}
 use Rattle.records.specs.declared.refusal.Refusal.the-variants.{WrongSize}
-use Rattle.codec.specs.Reading.{Next, bad, good, next, Fault, Parsed}
+use Rattle.codec.specs.Reading.{Next, bad, good, Fault}
 use Rattle.codec.specs.Calls.{scanOf}
 use Rattle.codec.specs.Blocks.{gotOf}
 use Rattle.codec.specs.declared.record.Got.the-variants.{Bad, Good}
 use Rattle.codec.specs.declared.judging.Scan.the-variants.{Faulty, Records}
-use Rattle.codec.proofs.Parsing.{rest, rest-bad, rest-good}
 
 -- a record that was read
 pub got-bad : (at : ℕ) (n : Next) (r : Refusal) → gotOf at n ≡ Bad r → n ≡ bad r

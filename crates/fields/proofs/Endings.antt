@@ -1,7 +1,7 @@
 -- The byte that ends a varint, as reading answers it: the bytes end first, the last byte is 0, or the varint is whole. Three and four bytes
 -- are one case: what is chosen by the third byte. By the laws of `Places`.
 -- Assumes nothing.
-use mathlib.Core.Path.{_≡_, refl, sym, ap, _∙_}
+use mathlib.Core.Path.{_≡_, refl, sym, ap}
 use mathlib.Core.Bool.{true, false, _&&_, and-eq-true-iff}
 use mathlib.Core.List.{List}
 use Prim.Native.Nat.{ℕ, suc, _+_, _*_, _%_, _^_, _≤_, _<_}

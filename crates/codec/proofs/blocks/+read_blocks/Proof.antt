@@ -1,7 +1,7 @@
 -- The proof of the cycle of calls {read_blocks}. The measure is the number of bytes that are left.
 -- Assumes nothing.
-use mathlib.Core.Path.{_≡_, refl, sym, ap, _∙_}
-use Prim.Native.Nat.{ℕ, _+_, _-_, _≤_, _<_}
+use mathlib.Core.Path.{sym, _∙_}
+use Prim.Native.Nat.{ℕ, _+_, _-_, _<_}
 use native.Mathlib.Omega.{arith}
 use borrow.Author.Needs.{needs}
 use lib.ListN.{length}
@@ -23,11 +23,11 @@ abbrev μ : Measures 3 kinds.ps ℕ
 μ κs a = length (a .0 .now) - a .1 .0
 
 -- what it is given at the measure t, and what a call of it asks below t
-abbrev at-t : ℕ → In 3 kinds.ps
-at-t t = and 3 kinds.ps (is 3 kinds.ps μ t) reads.Pre
+abbrev at-measure : ℕ → In 3 kinds.ps
+at-measure t = and 3 kinds.ps (is 3 kinds.ps μ t) reads.Pre
 
-abbrev below-t : ℕ → In 3 kinds.ps
-below-t t = and 3 kinds.ps (falls 3 kinds.ps _<_ μ t) reads.Pre
+abbrev below-measure : ℕ → In 3 kinds.ps
+below-measure t = and 3 kinds.ps (falls 3 kinds.ps _<_ μ t) reads.Pre
 
 pub +read-blocks-spec : {M : Type 1} → statement M
 +read-blocks-spec = close μ λ t. lts.spec (
@@ -37,12 +37,12 @@ pub +read-blocks-spec : {M : Type 1} → statement M
   read-block.Learnt,
   place-last.Asked,
   place-last.Learnt,
-  below-t t,
+  below-measure t,
   reads.Post,
   copy-run.Asked,
   copy-run.Learnt,
 )
-    (at-t t)
+    (at-measure t)
     reads.Post
     (λ c. search needs)
     (λ c. search needs)

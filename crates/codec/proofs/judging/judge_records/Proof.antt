@@ -9,7 +9,6 @@ use mathlib.Core.Option.{Option}
 use lib.ListN.{length}
 use Rattle.codec.specs.Reading.{Parsed, Fault}
 use Rattle.codec.specs.Calls.{scanOf}
-use Rattle.codec.specs.Blocks.{Taken}
 use Rattle.codec.proofs.Parsing.{rest, rest-end}
 use Rattle.codec.proofs.Turns.{scan-none, scan-some}
 use Rattle.codec.proofs.Taking.{taken-epochs, taken-counts}

@@ -1,6 +1,5 @@
 -- `codec::reading::read_multi` meets its contract: the size and what reading the records found lead to each case of `readAs`.
 -- Assumes nothing.
-use mathlib.Core.Path.{sym, ap, _∙_}
 use native.Mathlib.Omega.{arith}
 use borrow.Author.Needs.{needs}
 use lib.ListN.{length}

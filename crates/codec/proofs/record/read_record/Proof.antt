@@ -1,6 +1,6 @@
 -- `codec::record::read_record` meets its contract: the epoch's length, the varint and the order of epochs lead to each case of `next`.
 -- Assumes nothing.
-use mathlib.Core.Path.{_≡_, sym, ap, ap₂, _∙_}
+use mathlib.Core.Path.{_≡_, sym, ap, _∙_}
 use Prim.Native.Nat.{ℕ, _+_}
 use native.Mathlib.Omega.{arith}
 use lib.ListN.{drop, length-drop}

@@ -1,14 +1,12 @@
 -- `codec::two_passes::read_twice` meets its contract: what was judged decides, and then the room. Assumes nothing.
 use mathlib.Core.Path.{_≡_, sym, ap, _∙_}
-use mathlib.Core.Bool.{true}
 use mathlib.Core.Option.{none}
-use Prim.Native.Nat.{ℕ, _+_, _≤_}
+use Prim.Native.Nat.{ℕ, _+_}
 use native.Mathlib.Omega.{arith}
 use borrow.Author.Needs.{needs}
 use lib.ListN.{length}
 use Rattle.records.specs.Answers.{roomFor}
 use Rattle.records.proofs.Answers.{room-both}
-use Rattle.codec.specs.Blocks.{Sound}
 use Rattle.codec.proofs.Parsing.{rest, rest-long}
 use Rattle.codec.proofs.Stacking.{filled-short, filled-all, sound-some, judged-faulty, judged-sound}
 use Rattle.codec.proofs.two_passes.read_twice.Statement.{statement}

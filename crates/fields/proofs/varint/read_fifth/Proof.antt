@@ -1,10 +1,7 @@
 -- `fields::varint::read_fifth` meets its contract: the fifth byte is 0, is the last and fits, or the varint is refused as judging says.
 -- Assumes nothing.
-use mathlib.Core.Path.{_≡_, refl, ap, ap₂, _∙_}
-use Prim.Native.Nat.{ℕ, _+_, _*_, _%_}
+use mathlib.Core.Path.{refl}
 use native.Mathlib.Omega.{arith}
-use lib.ListN.{getD, take, drop}
-use Rattle.fields.specs.Varint.{value}
 use Rattle.fields.proofs.Places.{value-on, fifth-fits}
 use Rattle.fields.proofs.Endings.{groups-below, read-zero, read-ended}
 use borrow.Author.Needs.{needs}

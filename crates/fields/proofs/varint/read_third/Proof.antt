@@ -1,12 +1,9 @@
 -- `fields::varint::read_third` meets its contract: near the end of the bytes it is as judging says; else both bytes have the top bit set,
 -- or the varint ends with one of them. Assumes nothing.
-use mathlib.Core.Path.{_≡_, sym, ap, ap₂, _∙_}
-use mathlib.Core.Bool.{true, false, _&&_}
-use Prim.Native.Nat.{ℕ, _+_, _*_, _%_, _≤_, _<_}
+use mathlib.Core.Path.{sym, ap, ap₂, _∙_}
+use Prim.Native.Nat.{ℕ, _+_, _*_, _≤_, _<_}
 use native.Mathlib.Omega.{arith}
-use lib.Dec.{ltb}
-use lib.ListN.{length, getD, take, drop}
-use Rattle.fields.specs.Varint.{value, found, readAt}
+use lib.ListN.{length, getD}
 use Rattle.fields.specs.declared.varint.Reading.the-variants.{Whole}
 use Rattle.fields.proofs.Endings.{groups-below, both-true, four-say, fourth-passed, chosen-zero, chosen-read}
 use borrow.Author.Needs.{needs}

@@ -1,10 +1,9 @@
 -- `fields::varint::read_varint` meets its contract: the bytes end, the first byte is the last, or the second, or two are passed.
 -- Assumes nothing.
 use mathlib.Core.Path.{_≡_, refl, sym, ap, ap₂, _∙_}
-use Prim.Native.Nat.{ℕ, _+_, _*_, _%_, _<_}
-use native.Mathlib.Nat.{add-zero}
+use Prim.Native.Nat.{ℕ, _+_, _*_, _%_}
 use native.Mathlib.Omega.{arith}
-use lib.ListN.{length, getD, take, drop}
+use lib.ListN.{getD, take, drop}
 use Rattle.fields.specs.Varint.{value, readAt, Passed}
 use Rattle.fields.specs.declared.varint.Reading.the-variants.{Whole}
 use Rattle.fields.proofs.Places.{value-on, first-more, first-value, first-whole, passed-none, passed-more, passed-small}
