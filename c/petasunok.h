@@ -6,7 +6,8 @@
  *
  * What a caller owes: a pointer and its length (in elements) name memory that may be read, and where the pointer is not const, written;
  * a pointer may be null where its length is 0. What is written overlaps nothing else that the same call is given. Pointers are aligned
- * as C asks. Nothing is kept after a call, and nothing is shared, so calls may run on any thread.
+ * as C asks. Nothing is kept after a call, and nothing is shared, so calls may run on any thread. Reading takes up to 180 KB of its stack, in
+ * proportion to the records (12 KB for 1,024) and no more from 16,384 records on.
  *
  * Truth values (`present`, `has_owner`, `given`) are 0 for no, and anything else for yes. Link with libpetasunok.a. */
 #ifndef PETASUNOK_H
