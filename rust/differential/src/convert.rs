@@ -88,3 +88,22 @@ pub fn varint(count: u32) -> Vec<u8> {
     bytes.push(rest as u8);
     bytes
 }
+
+/// Makes the bytes of a count one longer than they are.
+pub fn pad(varint: &mut Vec<u8>) {
+    *varint.last_mut().expect("a varint has a byte") |= 0x80;
+    varint.push(0);
+}
+
+/// The bytes of flags in front of their records.
+pub fn start(flags: &Flags) -> Vec<u8> {
+    let mut bytes = vec![flags.head.kind];
+    bytes.extend(flags.owned().then_some(flags.head.owner).into_iter().flatten());
+    bytes.extend(flags.head.base.to_be_bytes());
+    bytes
+}
+
+/// The bytes of a record, of its epoch and the bytes of its count.
+pub fn record(epoch: u16, varint: &[u8]) -> Vec<u8> {
+    [&epoch.to_be_bytes(), varint].concat()
+}

@@ -27,19 +27,16 @@ pub fn questions(visit: &mut Visit) {
 }
 
 /// Room for records.
-fn room(length: usize) -> Tables {
+pub fn room(length: usize) -> Tables {
     Tables { epochs: vec![0x5a5a; length], counts: vec![0x5a5a_5a5a; length] }
 }
 
 /// Flags written with too few, enough and more than enough bytes, and read by their own reader and the one for all.
 fn written(flags: &Flags, visit: &mut Visit) {
     visit(Question::SerializedSize { flags: flags.clone() });
-    let mut src = vec![flags.head.kind];
-    src.extend(flags.owned().then_some(flags.head.owner).into_iter().flatten());
-    src.extend(flags.head.base.to_be_bytes());
+    let mut src = convert::start(flags);
     for (epoch, count) in flags.records() {
-        src.extend(epoch.to_be_bytes());
-        src.extend(convert::varint(count));
+        src.extend(convert::record(epoch, &convert::varint(count)));
     }
     for length in [src.len() - 1, src.len(), src.len() + 1] {
         visit(Question::Serialize { flags: flags.clone(), out: vec![0x5a; length] });

@@ -1,5 +1,6 @@
 //! Compares every call of the static library with the original Rust.
 pub mod arguments;
+pub mod blocks;
 pub mod boundary;
 pub mod convert;
 pub mod edges;

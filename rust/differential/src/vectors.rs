@@ -1,8 +1,9 @@
 //! The stored answers: a list of questions with the replies that they have to get, for crates/vectors.
+use crate::blocks;
 use crate::edges;
 use crate::expected::expected;
 use crate::fields;
-use crate::groups::{BOUNDARIES, RANDOMLY};
+use crate::groups::{Boundaries, BOUNDARIES, RANDOMLY};
 use crate::marked;
 use crate::question::{Question, CALLS};
 use crate::random::Random;
@@ -59,14 +60,12 @@ struct List {
 /// The list that a seed gives.
 pub fn list(seed: u64) -> String {
     let mut list = List::default();
-    for questions in [marked::questions, edges::questions] {
-        questions(&mut |question| {
-            list.add(&question);
-        });
-    }
+    list.all(marked::questions);
+    list.all(edges::questions);
     let mut random = Random::new(seed);
     list.boundaries(&mut random);
     list.random(&mut random);
+    list.all(blocks::questions);
     let mut text = HEAD.to_string();
     for (number, lines) in list.lines {
         text.push_str(&format!("# {number} {}\n", CALLS[number - 1]));
@@ -89,6 +88,13 @@ impl List {
         }
         self.lines.entry(question.number()).or_default().push(format!("{digits} = {answer}"));
         Some(reply.refusal())
+    }
+
+    /// All of some questions.
+    fn all(&mut self, questions: Boundaries) {
+        questions(&mut |question| {
+            self.add(&question);
+        });
     }
 
     /// Some of every call's boundaries, by chance.

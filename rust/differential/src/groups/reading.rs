@@ -73,8 +73,7 @@ fn counts(visit: &mut Visit) {
         for extra in 0..6 {
             let mut bytes = convert::varint(count);
             for _ in 0..extra {
-                *bytes.last_mut().expect("a varint has a byte") |= 0x80;
-                bytes.push(0);
+                convert::pad(&mut bytes);
             }
             with_starts(&[0, 5], &[&[0, 7], &bytes[..]].concat(), visit);
         }

@@ -1,0 +1,38 @@
+//! The stack that reading takes: blocks of 64 records wait in it for those behind them, up to 16,384 records, which take some 170 KiB.
+use petasunok::lent;
+use petasunok::StorageFlagsError::NonCanonicalStorageFlags;
+use std::thread;
+
+/// Flags of kind 1 over base 0 with all epochs up to the last, and the largest count in each.
+fn encoded(last: u16) -> Vec<u8> {
+    let record = |epoch: u16| epoch.to_be_bytes().into_iter().chain([0xff, 0xff, 0xff, 0xff, 0x0f]);
+    [1, 0, 0].into_iter().chain((1..=last).flat_map(record)).collect()
+}
+
+/// Reads so many records in a thread with a stack of so many KiB, as they are and with a fault in the last.
+fn read_in(kib: usize, records: u16) {
+    let room = usize::from(records);
+    let good = encoded(records);
+    let mut faulty = good.clone();
+    *faulty.last_mut().expect("a record has bytes") = 0x10;
+    let (mut epochs, mut counts) = (vec![0; room], vec![0; room]);
+    let work = move || {
+        let refusal = lent::deserialize(&faulty, &mut epochs, &mut counts).err();
+        let head = lent::deserialize(&good, &mut epochs, &mut counts).ok().flatten();
+        (refusal, head.map(|head| head.records), epochs.last() == Some(&records))
+    };
+    let thread = thread::Builder::new().stack_size(1024 * kib).spawn(work).expect("a thread");
+    let answer = thread.join().expect("an answer");
+    assert_eq!(
+        answer,
+        (Some(NonCanonicalStorageFlags), Some(room), true),
+        "{records} records in {kib} KiB"
+    );
+}
+
+#[test]
+fn a_small_stack_is_enough() {
+    read_in(32, 1_024);
+    read_in(256, 16_384);
+    read_in(256, u16::MAX);
+}
