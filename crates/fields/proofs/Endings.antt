@@ -10,6 +10,7 @@ use native.Mathlib.Omega.{arith}
 use lib.Dec.{ltb}
 use borrow.Author.Tests.{lt-ltb, ltb-true, ltb-false}
 use lib.ListN.{length, getD, take, drop, length-take}
+use Rattle.fields.specs.Selects.{Selected}
 use Rattle.fields.specs.Varint.{largest, value, found, isWhole, readAt, Passed}
 use Rattle.fields.specs.declared.varint.Reading.the-variants.{Incomplete, NotCanonical, Whole}
 use Rattle.fields.proofs.Places.{value-below, value-on, passed-cut, passed-more, passed-zero, passed-whole, passed-small, passed-read}
@@ -60,25 +61,25 @@ module _ (d : List ℕ) (at two : ℕ) (p : Passed d at 2) (e : two ≡ value (t
         let f : ltb 127 (getD d (at + 3) 0) ≡ false = rw (lt-ltb 127 (getD d (at + 2) 0) h) at one in
         omega (arith, ltb-false 127 (getD d (at + 3) 0) f)
 
-    module _ (last : ℕ) (l : (127 < getD d (at + 2) 0 → last ≡ getD d (at + 3) 0) × (getD d (at + 2) 0 ≤ 127 → last ≡ getD d (at + 2) 0)) where
+    module _ (last : ℕ) (l : Selected 127 (getD d (at + 2) 0) (getD d (at + 3) 0) (getD d (at + 2) 0) last) where
       pub chosen-zero : last ≡ 0 → NotCanonical at ≡ readAt at (found (drop at d))
       chosen-zero z =
           elim (decLt 127 (getD d (at + 2) 0)) [
-            | yes h ↦ read-zero d at 3 (third-passed h) (omega arith) (fourth-low h) (omega arith) (omega arith) (omega (arith, l .0 h))
+            | yes h ↦ read-zero d at 3 (third-passed h) (omega arith) (fourth-low h) (omega arith) (omega arith) (omega (arith, l .below h))
             | no h ↦
                 let i : getD d (at + 2) 0 ≤ 127 = omega arith in
-                read-zero d at 2 p (omega arith) (omega arith) (omega arith) (omega arith) (omega (arith, l .1 i))
+                read-zero d at 2 p (omega arith) (omega arith) (omega arith) (omega arith) (omega (arith, l .from i))
           ]
 
-      pub chosen-read : (part next : ℕ) → (127 < getD d (at + 2) 0 → part ≡ getD d (at + 3) 0 * 2097152) × (getD d (at + 2) 0 ≤ 127 → part ≡ 0)
-          → (127 < getD d (at + 2) 0 → next ≡ at + 3 + 1) × (getD d (at + 2) 0 ≤ 127 → next ≡ at + 3) → (last ≡ 0 → ⊥)
+      pub chosen-read : (part next : ℕ) → Selected 127 (getD d (at + 2) 0) (getD d (at + 3) 0 * 2097152) 0 part
+          → Selected 127 (getD d (at + 2) 0) (at + 3 + 1) (at + 3) next → (last ≡ 0 → ⊥)
           → Whole (record { count = two + getD d (at + 2) 0 % 128 * 16384 + part; next = next }) ≡ readAt at (found (drop at d))
       chosen-read part next q n pos =
           elim (decLt 127 (getD d (at + 2) 0)) [
             | yes h ↦
                 let f = fourth-low h in
-                read-ended d at 3 (third-passed h) (omega arith) f (omega arith) _ next (omega (arith, l .0 h)) (passed-small d at 3 (third-passed h) (omega arith)) (omega (arith, four-say, q .0 h)) (omega (arith, n .0 h))
+                read-ended d at 3 (third-passed h) (omega arith) f (omega arith) _ next (omega (arith, l .below h)) (passed-small d at 3 (third-passed h) (omega arith)) (omega (arith, four-say, q .below h)) (omega (arith, n .below h))
             | no h ↦
                 let i : getD d (at + 2) 0 ≤ 127 = omega arith in
-                read-ended d at 2 p (omega arith) (omega arith) (omega arith) _ next (omega (arith, l .1 i)) (passed-small d at 2 p (omega arith)) (omega (arith, three-say, q .1 i)) (n .1 i)
+                read-ended d at 2 p (omega arith) (omega arith) (omega arith) _ next (omega (arith, l .from i)) (passed-small d at 2 p (omega arith)) (omega (arith, three-say, q .from i)) (n .from i)
           ]

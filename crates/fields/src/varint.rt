@@ -4,6 +4,7 @@ ghost use mathlib.Core.Bool.{true, _&&_};
 ghost use Prim.Native.Nat.{_+_, _*_, _≤_, _<_};
 ghost use lib.Dec.{ltb};
 ghost use lib.ListN.{length, take, drop};
+ghost use Rattle.fields.specs.Selects.{Selected};
 ghost use Rattle.fields.specs.Varint.{varint, value, found, isWhole, judgedAt, readAt, Passed, Ending};
 ghost use Rattle.fields.specs.Writing.{Put};
 
@@ -233,7 +234,7 @@ fn both_high(x: u8, y: u8) -> bool
 // The last byte of three or four: the third, where that has no top bit. This and the next two are chosen without a jump, since of mixed
 // counts it cannot be guessed which it is.
 fn last_of(third: u8, fourth: u8) -> u8
-    ensures { λ r. ⌜ (127 < third → r ≡ fourth) × (third ≤ 127 → r ≡ third) ⌝ }
+    ensures { λ r. ⌜ Selected 127 third fourth third r ⌝ }
 {
     if 127 < third {
         return fourth;
@@ -243,7 +244,7 @@ fn last_of(third: u8, fourth: u8) -> u8
 
 // What the fourth byte adds, where it belongs to the varint and is its last.
 fn fourth_part(third: u8, fourth: u8) -> u32
-    ensures { λ r. ⌜ (127 < third → r ≡ fourth * 2097152) × (third ≤ 127 → r ≡ 0) × (r ≤ 534773760) ⌝ }
+    ensures { λ r. ⌜ Selected 127 third (fourth * 2097152) 0 r × (r ≤ 534773760) ⌝ }
 {
     if 127 < third {
         return wide(fourth) * 2097152;
@@ -254,7 +255,7 @@ fn fourth_part(third: u8, fourth: u8) -> u32
 // The place behind three or four bytes, of which the one behind three is `next`.
 fn behind(third: u8, next: usize) -> usize
     requires { ⌜ next + 1 < 18446744073709551616 ⌝ }
-    ensures { λ r. ⌜ (127 < third → r ≡ next + 1) × (third ≤ 127 → r ≡ next) ⌝ }
+    ensures { λ r. ⌜ Selected 127 third (next + 1) next r ⌝ }
 {
     if 127 < third {
         return next + 1;

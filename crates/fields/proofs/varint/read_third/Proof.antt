@@ -47,7 +47,7 @@ returns-3 c =
 add-t14 : tie.Need-add-t14
 add-t14 c =
     let s = c .before .before .before .before .before .before .before .before .before .before in
-    omega (arith, c .before .before .before .before .before .wide .ensures, c .fourth-part .ensures .2, s .pre .1 .1, groups-below (s .args .src .now) (s .args .at) 2)
+    omega (arith, c .before .before .before .before .before .wide .ensures, c .fourth-part .ensures .1, s .pre .1 .1, groups-below (s .args .src .now) (s .args .at) 2)
 
 returns-4 : tie.Need-returns-4
 returns-4 c =
@@ -55,7 +55,7 @@ returns-4 c =
     let one = sym (c .before .before .before .before .before .both-high .ensures) ∙ c .before .before .before .before .if2 .left in
     ap (λ (x : ℕ). Whole (record { count = s .args .two + x * 16384 + c .before .fourth-part .result; next = c .behind .result })) (c .before .before .before .before .before .before .wide .ensures)
     ∙ chosen-read (s .args .src .now) (s .args .at) (s .args .two) (s .pre .1 .0) (s .pre .1 .1) (long (c .before .before .before .before .before .before .before .before .before)) one _ (c .before .before .before .last-of .ensures)
-    (c .before .fourth-part .result) (c .behind .result) (c .before .fourth-part .ensures .0, c .before .fourth-part .ensures .1) (c .behind .ensures) (c .before .before .if3 .left)
+    (c .before .fourth-part .result) (c .behind .result) (c .before .fourth-part .ensures .0) (c .behind .ensures) (c .before .before .if3 .left)
 
 pub read-third-spec : {M : Type 1} → statement M
 read-third-spec =
