@@ -2,6 +2,7 @@
 //!
 //! There is one function here for each of the C header. Flags are a [`Head`] and two tables, a removal is a [`Removal`] and three; the
 //! head says how many places of its tables count. A refusal changes nothing that was lent, and an answer leaves what lies behind it.
+//! Reading takes up to 180 KB of the thread's stack, in proportion to the records (12 KB for 1,024).
 //!
 //! ```
 //! use petasunok::lent::{self, Flags, Head};
