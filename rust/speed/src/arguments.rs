@@ -4,13 +4,14 @@ use std::path::PathBuf;
 
 /// How the program is called.
 pub const USAGE: &str = "\
-usage: speed [--rounds N] [--no-instructions] [FOLDER]
+usage: speed [--rounds N] [--no-instructions | --emulated] [FOLDER]
        speed once ROW
 
 Measures reading, an adding merge, writing and the nightly pass, N rounds of all contestants in turn, and writes report.md, ratios.svg and
 scaling.svg into FOLDER, or into build/speed of the repository.
   --rounds N          so many rounds of every row
   --no-instructions   does without valgrind, which counts instructions
+  --emulated          does without it too, and the report says that an emulator ran the program
   once ROW            has each contestant do a part of a row's pool once, and compares the answers; ROW is such as
                       reading/mixed/ample/1024 or merging/one-byte/exact/higher/disjoint/1024";
 
@@ -20,10 +21,18 @@ const ROUNDS: usize = 101;
 /// The folder of a run that does not say.
 const FOLDER: &str = concat!(env!("CARGO_MANIFEST_DIR"), "/../../build/speed");
 
+/// What a run is measured with: the clock and valgrind, the clock alone, or the clock in an emulator.
+#[derive(Clone, Copy, Debug, PartialEq, Eq)]
+pub enum Means {
+    Counted,
+    Timed,
+    Emulated,
+}
+
 /// A run, or a row done once.
 #[derive(Debug, PartialEq, Eq)]
 pub enum Arguments {
-    Run { rounds: usize, count: bool, folder: PathBuf },
+    Run { rounds: usize, means: Means, folder: PathBuf },
     Once(Row),
 }
 
@@ -34,19 +43,20 @@ pub fn parse(given: &[String]) -> Result<Arguments, String> {
             return row::find(name).map(Arguments::Once).ok_or(format!("{name} is no row"));
         }
     }
-    let (mut rounds, mut count, mut folder) = (ROUNDS, true, None);
+    let (mut rounds, mut means, mut folder) = (ROUNDS, Means::Counted, None);
     let mut rest = given.iter();
     while let Some(word) = rest.next() {
         match word.as_str() {
             "--rounds" => rounds = number(rest.next().ok_or("--rounds needs a number")?)?,
-            "--no-instructions" => count = false,
+            "--no-instructions" => means = Means::Timed,
+            "--emulated" => means = Means::Emulated,
             "once" => return Err("once needs a row".into()),
             _ if word.starts_with('-') || word.is_empty() => return Err(format!("'{word}' is not known")),
             _ if folder.is_some() => return Err(format!("'{word}' is a folder too many")),
             _ => folder = Some(PathBuf::from(word)),
         }
     }
-    Ok(Arguments::Run { rounds, count, folder: folder.unwrap_or(FOLDER.into()) })
+    Ok(Arguments::Run { rounds, means, folder: folder.unwrap_or(FOLDER.into()) })
 }
 
 /// A number of rounds.

@@ -6,7 +6,7 @@ use std::process::ExitCode;
 /// Does what the arguments say; an error is told by its words.
 fn act(arguments: Arguments) -> Result<(), String> {
     match arguments {
-        Arguments::Run { rounds, count, folder } => run::run(rounds, count, &folder),
+        Arguments::Run { rounds, means, folder } => run::run(rounds, means, &folder),
         Arguments::Once(row) => measure::once(&row).map(|records| println!("{records} records")),
     }
 }

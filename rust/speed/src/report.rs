@@ -2,6 +2,7 @@
 mod summary;
 mod tables;
 
+use crate::arguments::Means;
 use crate::inputs::SEED;
 use crate::measured::Measured;
 use crate::row::Call;
@@ -10,6 +11,7 @@ use std::fs;
 /// How the run was made.
 pub struct Run {
     pub rounds: usize,
+    pub means: Means,
     pub seconds: u64,
 }
 
@@ -30,10 +32,14 @@ pub fn whole(run: &Run, rows: &[Measured]) -> String {
 /// What was measured, where, and how.
 fn head(run: &Run) -> String {
     let (rounds, seconds) = (run.rounds, run.seconds);
+    let place = match run.means {
+        Means::Emulated => "an emulator, whose times say little of a processor's,".into(),
+        Means::Counted | Means::Timed => processor(),
+    };
     let lines = [
         "# Speed: reading, merging and writing\n",
         "    tools/speed [--rounds N] [FOLDER]\n",
-        &format!("Measured on {} in {seconds} s, {rounds} rounds of all contestants in turn and in changing order, seed {SEED}.", processor()),
+        &format!("Measured on {place} in {seconds} s, {rounds} rounds of all contestants in turn and in changing order, seed {SEED}."),
         &format!("A release build of {}; it and the static library are built for any x86-64.", env!("SPEED_RUSTC")),
         "Ratios are those of the shortest rounds; `median` is the middle one of the rounds' ratios. In merging and in the nightly pass a record",
         "is one of ours or of theirs. Instructions are those of the calls, for ours of the C functions. Before a row is measured all answers in",

@@ -1,5 +1,5 @@
 //! What the program takes, and what it refuses.
-use speed::arguments::{parse, Arguments};
+use speed::arguments::{parse, Arguments, Means};
 use speed::row;
 use std::collections::BTreeSet;
 use std::path::PathBuf;
@@ -10,10 +10,11 @@ fn parsed(words: &str) -> Result<Arguments, String> {
 
 #[test]
 fn a_run() {
-    let run = |rounds, count, folder: &str| Ok(Arguments::Run { rounds, count, folder: PathBuf::from(folder) });
-    assert_eq!(parsed("--rounds 7 here"), run(7, true, "here"));
-    assert_eq!(parsed("here --no-instructions --rounds 7"), run(7, false, "here"));
-    assert!(matches!(parsed(""), Ok(Arguments::Run { rounds: 101, count: true, .. })));
+    let run = |rounds, means, folder: &str| Ok(Arguments::Run { rounds, means, folder: PathBuf::from(folder) });
+    assert_eq!(parsed("--rounds 7 here"), run(7, Means::Counted, "here"));
+    assert_eq!(parsed("here --no-instructions --rounds 7"), run(7, Means::Timed, "here"));
+    assert_eq!(parsed("--emulated here --rounds 7"), run(7, Means::Emulated, "here"));
+    assert!(matches!(parsed(""), Ok(Arguments::Run { rounds: 101, means: Means::Counted, .. })));
 }
 
 #[test]
