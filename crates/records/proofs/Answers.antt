@@ -1,7 +1,7 @@
 -- What a call leaves in each case of its answer, by the tests of `after` and `writing`.
 -- Assumes nothing.
 use mathlib.Core.Path.{_≡_, refl, sym, ap, _∙_}
-use mathlib.Core.Bool.{true, false, and-false, and-eq-true-iff}
+use mathlib.Core.Bool.{true, false, and-eq-true-iff}
 use mathlib.Core.Option.{none, some}
 use mathlib.Core.List.{List}
 use Prim.Native.Nat.{ℕ, _≤_, _<_}
@@ -53,14 +53,6 @@ module _ (f : Flags) (es cs : List ℕ) where
   pub after-short : roomFor (length (f .records)) (length es) (length cs) ≡ false → after (ok (some f)) es cs ≡ kept 10 es cs
   unfolding after
   after-short h = rw h
-
-  pub after-no-epochs : length es < length (f .records) → after (ok (some f)) es cs ≡ kept 10 es cs
-  unfolding after
-  after-no-epochs p = simp (lt-leb _ _ p)
-
-  pub after-no-counts : length cs < length (f .records) → after (ok (some f)) es cs ≡ kept 10 es cs
-  unfolding after
-  after-no-counts p = simp (lt-leb _ _ p, and-false)
 
 -- ---- what is left behind an answer
 
