@@ -29,7 +29,7 @@ pub fn standing(ours: u16, theirs: u16, our_count: u32, their_count: u32) -> u32
     their_count
 }
 
-// The place behind i, where the record is that has the epoch x, if that is at most y; else i.
+// The place after i where the epoch x of the record at i is at most y, so that the record is passed; else i.
 pub fn upto(x: u16, y: u16, i: usize) -> usize
     requires { ⌜ i < 18446744073709551615 ⌝ }
     ensures { λ r. ⌜ Selected y x i (i + 1) r ⌝ }
