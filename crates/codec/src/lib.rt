@@ -9,6 +9,9 @@ mod writing;
 
 pub use judging::Judgement;
 pub use judging::Verdict;
+pub use judging::base_in;
+pub use judging::head_in;
+pub use judging::head_size;
 pub use judging::judge;
 pub use judging::judge_as;
 pub use reading::deserialize;

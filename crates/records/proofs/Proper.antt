@@ -10,7 +10,7 @@ use native.Mathlib.Omega.{arith}
 use lib.Dec.{leb, eqb}
 use lib.ListN.{length, take}
 use lib.Seq.{length-take-le}
-use borrow.Author.Tests.{leb-true, ne-eqb}
+use borrow.Author.Tests.{le-leb, leb-true, ne-eqb, eqb-false}
 use Rattle.records.specs.Tables.{recordsOf, epochsOf, ascending, Table, Above}
 use Rattle.records.specs.Flags.{Flags, owned, ownerIf, idOf, ownerOf, kindOf, headOf, agrees, proper}
 use Rattle.records.specs.declared.head.Head.{Head}
@@ -70,6 +70,19 @@ kind-told MultiEpochOwned n o h = rw (some-records n h)
 
 pub kind-agrees : (h : Head) → agrees (h .kind) (h .records) ≡ true → kindOf (ownerOf h) (h .records) ≡ h .kind
 kind-agrees h = kind-told (h .kind) (h .records) (h .owner)
+
+-- the kind that owner and records tell agrees with having records
+pub agrees-told : (o : Option (List ℕ)) (n : ℕ) → agrees (kindOf o n) n ≡ true
+agrees-told o n = by o (eqb n 0) refl
+  where
+    some-left : eqb n 0 ≡ false → leb 1 n ≡ true
+    some-left e = let d = eqb-false n 0 e in le-leb 1 n (omega arith)
+
+    by : (o : Option (List ℕ)) (b : Bool) → eqb n 0 ≡ b → agrees (kindOf o n) n ≡ true
+    by none true e = simp e
+    by none false e = rw e (some-left e)
+    by (some o) true e = simp e
+    by (some o) false e = rw e (some-left e)
 
 -- the owner of flags' head is theirs
 pub owner-head : (f : Flags) → ownerOf (headOf f) ≡ f .owner

@@ -1,19 +1,18 @@
 -- Flags that a call placed in lent tables stand there, and are proper again. By reading them back.
 -- Assumes nothing.
-use mathlib.Core.Path.{_≡_, refl, sym, ap, _∙_}
-use mathlib.Core.Bool.{Bool, true, false}
-use mathlib.Core.Option.{Option, none, some}
+use mathlib.Core.Path.{_≡_, sym, ap, _∙_}
+use mathlib.Core.Bool.{true}
 use mathlib.Core.List.{List}
 use Prim.Native.Nat.{ℕ}
 use native.Mathlib.Omega.{arith}
-use lib.Dec.{leb, eqb}
+use lib.Dec.{leb}
 use lib.ListN.{length, take}
-use borrow.Author.Tests.{le-leb, eqb-false}
+use borrow.Author.Tests.{le-leb}
 use Rattle.records.specs.Tables.{recordsOf, epochsOf, countsOf, ascending, over}
-use Rattle.records.specs.Flags.{Flags, flags, kindOf, agrees, proper}
+use Rattle.records.specs.Flags.{Flags, flags, agrees, proper}
 use Rattle.records.specs.Answers.{After, placed}
 use Rattle.records.proofs.Tables.{over-first, over-holds, length-epochsOf, length-countsOf, records-back}
-use Rattle.records.proofs.Proper.{proper-inv, proper-ascends, proper-long, owner-head}
+use Rattle.records.proofs.Proper.{proper-inv, proper-ascends, proper-long, agrees-told, owner-head}
 use Rattle.steps.specs.Held.{Held, holding, properHeld, flagsIn}
 
 -- held flags are proper, and these
@@ -26,19 +25,6 @@ pub record Stands (h : Held) (f : Flags) : Type 0 where
 -- the head and tables that a call left
 abbrev pub heldIn : After → Held
 heldIn a = holding (a .head) (a .epochs) (a .counts)
-
--- the kind that owner and records tell agrees with having records
-told-agrees : (o : Option (List ℕ)) (n : ℕ) → agrees (kindOf o n) n ≡ true
-told-agrees o n = by o (eqb n 0) refl
-  where
-    some-left : eqb n 0 ≡ false → leb 1 n ≡ true
-    some-left e = let d = eqb-false n 0 e in le-leb 1 n (omega arith)
-
-    by : (o : Option (List ℕ)) (b : Bool) → eqb n 0 ≡ b → agrees (kindOf o n) n ≡ true
-    by none true e = simp e
-    by none false e = rw e (some-left e)
-    by (some o) true e = simp e
-    by (some o) false e = rw e (some-left e)
 
 -- proper, by its tests
 proper-by : (h : Held) → agrees (h .head .kind) (h .head .records) ≡ true → leb (h .head .records) (length (h .epochs)) ≡ true
@@ -60,7 +46,7 @@ module _ (f : Flags) (es cs : List ℕ) where
   pub placed-stands : ascending (f .base) (epochsOf (f .records)) ≡ true → Stands (heldIn (placed f es cs)) f
   placed-stands h =
       record {
-        are-proper = proper-by (heldIn (placed f es cs)) (told-agrees (f .owner) n) (le-leb n _ (omega (arith, length-epochsOf (f .records), over-holds (epochsOf (f .records)) es)))
+        are-proper = proper-by (heldIn (placed f es cs)) (agrees-told (f .owner) n) (le-leb n _ (omega (arith, length-epochsOf (f .records), over-holds (epochsOf (f .records)) es)))
             (le-leb n _ (omega (arith, length-countsOf (f .records), over-holds (countsOf (f .records)) cs))) (ap (ascending (f .base)) epochs-first ∙ h);
         are = (λ i. flags (f .base) (owner-head f i) (recordsOf (epochs-first i) (counts-first i))) ∙ ap (flags (f .base) (f .owner)) (records-back (f .records));
       }

@@ -1,0 +1,57 @@
+-- `repair::old::read_old` meets its contract: the epoch's length and what is found of the varint lead to each case. Assumes nothing.
+use mathlib.Core.Path.{sym, ap, _∙_}
+use Prim.Native.Nat.{_+_}
+use native.Mathlib.Omega.{arith}
+use lib.ListN.{drop, length-drop}
+use borrow.Author.Needs.{needs}
+use Rattle.fields.specs.Varint.{found}
+use Rattle.fields.proofs.Told.{told-read, read-incomplete, read-strange}
+use Rattle.repair.specs.Steps.{gotOf}
+use Rattle.repair.proofs.Reading.{old-short}
+use Rattle.repair.proofs.Getting.{at-incomplete, at-whole}
+use Rattle.repair.proofs.old.read_old.Statement.{statement}
+use Rattle.repair.proofs.old.read_old.Tie as tie
+
+returns : tie.Need-returns
+returns c =
+    let a = c .before .before .args in
+    sym (ap gotOf (old-short (a .at) (drop (a .at) (a .src .now)) (rw length-drop (c .if1 .taken))))
+
+read-padded-requires : tie.Need-read-padded-requires
+read-padded-requires c κs =
+    let a = c .before .before .before .before .before .before .args in (
+      omega (arith, c .before .before .before .before .if1 .left),
+      (c .before .before .before .be16-at .ensures, read-strange (a .at + 2) _ (found (drop (a .at + 2) (a .src .now))) (sym (c .before .before .read-varint .ensures) ∙ c .enum-told2 .given .1)),
+    )
+
+returns-2 : tie.Need-returns-2
+returns-2 c =
+    let a = c .before .before .before .before .before .before .args in
+    let d = a .src .now in
+    sym (ap gotOf (at-incomplete d (a .at) (omega (arith, c .before .before .before .before .if1 .left))
+    (read-incomplete (a .at + 2) _ (found (drop (a .at + 2) d)) (sym (c .before .before .read-varint .ensures) ∙ c .enum-told .given .1))))
+
+returns-4 : tie.Need-returns-4
+returns-4 c =
+    let a = c .before .before .before .before .before .before .before .args in
+    let d = a .src .now in
+    let v = c .before .varint .given in
+    let t = told-read (a .at + 2) (v .0 .0 .count) (v .0 .0 .next) (found (drop (a .at + 2) d)) (sym (v .1) ∙ c .before .before .before .read-varint .ensures) in
+    at-whole d (a .at) (omega (arith, c .before .before .before .before .before .if1 .left)) _ (v .0 .0 .count) (t .0) (v .0 .0 .next) (c .before .before .before .before .be16-at .ensures) (t .2) (t .1)
+
+pub read-old-spec : {M : Type 1} → statement M
+read-old-spec =
+    tie.close
+    (tie.spec
+    (λ c. search needs)
+    returns
+    (λ c κs. search needs)
+    (λ c. search needs)
+    (λ c κs. search needs)
+    (λ c. search needs)
+    (λ c. search needs)
+    read-padded-requires
+    (λ c. search needs)
+    returns-2
+    (λ c. search needs)
+    returns-4)

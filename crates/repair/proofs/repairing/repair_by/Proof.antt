@@ -1,0 +1,56 @@
+-- `repair::repairing::repair_by` meets its contract: the marked tables, drawn together, hold the flags that are left. Assumes nothing.
+use Prim.Native.Nat.{ℕ}
+use native.Mathlib.Omega.{arith}
+use borrow.Author.Needs.{needs}
+use Rattle.fields.proofs.RoundTrip.{Bytes}
+use Rattle.repair.proofs.Readying.{left-agrees, left-head, standing-ready, multi-ready}
+use Rattle.repair.proofs.repairing.repair_by.Statement.{statement}
+use Rattle.repair.proofs.repairing.repair_by.Tie as tie
+
+head-in-requires : tie.Need-head-in-requires
+head-in-requires c κs =
+    let s = c .before .before .before .before .before .before .before .before .before .before .before .before .before .before .before .before .before .before .before .before .before .before .before .before .before in
+    let k = c .kind-left .ensures in
+    let n : ℕ = c .before .before .before .before .before .gather .result in
+    (rw (k, left-head (s .args .kind) (s .pre .0 .0) n) (s .pre .0 .1), rw k (left-agrees (s .args .kind) (s .pre .0 .0) n))
+
+gather-requires : tie.Need-gather-requires
+gather-requires c κs =
+    let m = c .before .before .before .before .before .before .before .mark .kept in
+    let p = c .before .before .before .before .before .before .before .before .before .before .before .before .before .before .before .before .before .before .before .pre .1 in
+    (omega (arith, m .1 .1 .1 .0, p .0 .wide), p .2, omega (arith, m .1 .1 .1 .1 .0, p .1 .wide))
+
+settle-requires : tie.Need-settle-requires
+settle-requires c κs =
+    let s = c .before .before .before .before .before .before .before .before .before .before .before .before .before .before .before .before .before .before .before .before .before .before .before .before .before .before .before .before .before .before .before .before in
+    let a = s .args in
+    let p = s .pre in
+    let m = c .before .before .before .before .before .before .before .before .before .before .before .before .before .before .before .before .before .before .before .before .mark in
+    let g = c .before .before .before .before .before .before .before .before .before .before .before .before .gather in
+    let bytes : Bytes (a .src .now) = λ i. c .before .before .before .before .before .before .before .before .before .before .before .before .before .before .before .before .before .before .before .before .before .before .before .before .before .before .before .before .before .before .before .shared-slice-known .given i .fits in (
+      standing-ready (a .kind) (a .src .now) (p .0 .0) bytes (p .0 .1) (c .before .before .before .before .before .before .before .before .before .before .before .before .before .before .before .before .before .before .before .before .before .before .before .base-in .result) (c .before .before .before .before .before .before .before .before .before .before .before .before .before .before .before .before .before .before .before .before .before .before .before .before .head-size .result) (c .before .before .before .before .before .before .before .before .before .before .before .before .before .before .before .before .before .before .before .before .before .before .before .base-in .ensures) (c .before .before .before .before .before .before .before .before .before .before .before .before .before .before .before .before .before .before .before .before .before .before .before .before .head-size .ensures)
+          (a .places .now) (a .counts .now) _ _ (p .1 .0) (p .1 .1) (m .ensures .0) (m .ensures .1)
+          (a .epochs .now) (p .1 .2) (g .result) _ _ (g .ensures) (c .before .before .before .before .before .before .before .kind-left .result) (c .before .before .before .before .before .before .before .kind-left .ensures) (c .before .before .before .before .before .before .head-in .result) (c .before .before .before .before .before .before .head-in .ensures),
+      multi-ready (a .kind) (a .src .now) (p .0 .0) bytes (p .0 .1) (c .before .before .before .before .before .before .before .before .before .before .before .before .before .before .before .before .before .before .before .before .before .before .before .base-in .result) (c .before .before .before .before .before .before .before .before .before .before .before .before .before .before .before .before .before .before .before .before .before .before .before .before .head-size .result) (c .before .before .before .before .before .before .before .before .before .before .before .before .before .before .before .before .before .before .before .before .before .before .before .base-in .ensures) (c .before .before .before .before .before .before .before .before .before .before .before .before .before .before .before .before .before .before .before .before .before .before .before .before .head-size .ensures)
+          (a .places .now) (a .counts .now) _ _ (p .1 .0) (p .1 .1) (m .ensures .0) (m .ensures .1)
+          (a .epochs .now) (p .1 .2) (g .result) _ _ (g .ensures) (c .before .before .before .before .before .before .before .kind-left .result) (c .before .before .before .before .before .before .before .kind-left .ensures) (c .before .before .before .before .before .before .head-in .result) (c .before .before .before .before .before .before .head-in .ensures),
+    )
+
+pub repair-by-spec : {M : Type 1} → statement M
+repair-by-spec =
+    tie.close
+    (tie.spec
+    (λ c κs. search needs)
+    (λ c κs. c .before .before .before .before .before .before .before .before .pre .0 .1)
+    (λ c κs. (omega (arith, c .before .before .before .head-size .ensures, c .before .before .before .before .before .before .before .before .before .before .before .pre .0 .1), (c .before .before .before .before .before .before .before .before .before .before .before .pre .1 .0 .wide, c .before .before .before .before .before .before .before .before .before .before .before .pre .1 .1 .wide)))
+    gather-requires
+    (λ c κs. c .before .before .before .before .before .before .before .before .before .before .before .before .before .before .before .before .before .before .before .before .before .before .before .before .pre .0 .0)
+    head-in-requires
+    settle-requires
+    (λ c. search needs)
+    (λ c. search needs)
+    (λ c. search needs)
+    (λ c. search needs)
+    (λ c. search needs)
+    (λ c. search needs)
+    (λ c. search needs))

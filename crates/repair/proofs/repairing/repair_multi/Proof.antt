@@ -1,0 +1,22 @@
+-- `repair::repairing::repair_multi` meets its contract: the tables come as zeros. Assumes nothing.
+use native.Mathlib.Omega.{arith}
+use borrow.Author.Needs.{needs}
+use Rattle.repair.proofs.Readying.{blank-zeros}
+use Rattle.repair.proofs.repairing.repair_multi.Statement.{statement}
+use Rattle.repair.proofs.repairing.repair_multi.Tie as tie
+
+repair-by-requires : tie.Need-repair-by-requires
+repair-by-requires c κs = (c .before .before .before .before .before .before .before .before .before .before .pre, (blank-zeros 65536 (omega arith), blank-zeros 65536 (omega arith), blank-zeros 65536 (omega arith) .wide))
+
+pub repair-multi-spec : {M : Type 1} → statement M
+repair-multi-spec =
+    tie.close
+    (tie.spec
+    (λ c. search needs)
+    (λ c. search needs)
+    (λ c. search needs)
+    repair-by-requires
+    (λ c. search needs)
+    (λ c. search needs)
+    (λ c. search needs)
+    (λ c. search needs))

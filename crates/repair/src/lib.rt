@@ -1,0 +1,11 @@
+// Repair of flag bytes from before the canonical rule.
+mod change;
+mod listing;
+mod marking;
+mod old;
+mod padded;
+mod repairing;
+
+pub use change::Change;
+pub use repairing::Outcome;
+pub use repairing::repair;

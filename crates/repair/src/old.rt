@@ -1,0 +1,58 @@
+// One record of old flag bytes.
+ghost use mathlib.Core.Path.{_≡_};
+ghost use Prim.Native.Nat.{_+_, _≤_};
+ghost use lib.ListN.{length, take, drop};
+ghost use Rattle.fields.specs.Big.{said};
+ghost use Rattle.fields.specs.Varint.{found, notCanonical};
+ghost use Rattle.repair.specs.Olds.{oldAt};
+ghost use Rattle.repair.specs.Steps.{gotOf};
+use crate::padded::capped_value;
+use crate::padded::end_of;
+use fields::Reading;
+
+// What reading an old record finds: none, since it is cut; one whose count is too large, and the place behind it; or one whose count
+// fits 32 bits.
+pub enum Got {
+    Cut,
+    TooLarge { next: usize },
+    Fits { epoch: u16, count: u32, next: usize },
+}
+
+// Reads the record at `at`, whose varint is complete but not canonical.
+fn read_padded(src: &[u8], at: usize, epoch: u16) -> Got
+    requires { ⌜ at + 2 ≤ length (now src) ⌝ }
+    requires { ⌜ epoch ≡ said (take 2 (drop at (now src))) ⌝ }
+    requires { ⌜ found (drop (at + 2) (now src)) ≡ notCanonical ⌝ }
+    ensures { λ r. ⌜ r ≡ gotOf (oldAt at (drop at (now (src .entry)))) ⌝ }
+{
+    let next = end_of(src, at + 2);
+    let count = capped_value(src, at + 2, next);
+    if count <= 4294967295 {
+        return Got::Fits {
+            epoch,
+            count: count as u32,
+            next,
+        };
+    }
+    Got::TooLarge { next }
+}
+
+// Reads the record at `at`.
+pub fn read_old(src: &[u8], at: usize) -> Got
+    requires { ⌜ at ≤ length (now src) ⌝ }
+    ensures { λ r. ⌜ r ≡ gotOf (oldAt at (drop at (now (src .entry)))) ⌝ }
+{
+    if src.len() - at < 2 {
+        return Got::Cut;
+    }
+    let epoch = fields::be16_at(src, at);
+    match fields::read_varint(src, at + 2) {
+        Reading::Incomplete(_) => Got::Cut,
+        Reading::NotCanonical(_) => read_padded(src, at, epoch),
+        Reading::Whole(varint) => Got::Fits {
+            epoch,
+            count: varint.count,
+            next: varint.next,
+        },
+    }
+}

@@ -1,0 +1,192 @@
+// Repairing old flag bytes: reading them as a map would, writing canonical ones, and listing each change.
+ghost use mathlib.Core.Path.{_≡_};
+ghost use mathlib.Core.Bool.{true, false};
+ghost use Prim.Native.Nat.{_≤_};
+ghost use lib.ListN.{length};
+ghost use Rattle.records.specs.Flags.{multi};
+ghost use Rattle.codec.specs.Bytes.{headSize};
+ghost use Rattle.repair.specs.Repairing.{repairedAs};
+ghost use Rattle.repair.specs.Calls.{shown, after, repairedInto};
+ghost use Rattle.repair.specs.Steps.{kindLeft, Blank, Standing, Ready};
+use crate::listing::list_changes;
+use crate::marking::gather;
+use crate::marking::mark;
+use records::Counted;
+use records::Head;
+use records::Kind;
+use records::KindByte;
+use records::Refusal;
+
+// How many bytes were written and how many lines listed, or a refusal.
+pub enum Outcome {
+    Done { bytes: usize, lines: usize },
+    Refused(Refusal),
+}
+
+// Writes the flags that are left and lists the changes, where both have room. The lines are counted first.
+fn settle(
+    kind: Kind,
+    src: &[u8],
+    places: &[usize],
+    head: Head,
+    epochs: &[u16],
+    counts: &[u32],
+    out: &mut [u8],
+    offsets: &mut [usize],
+    changes: &mut [u8],
+) -> Outcome
+    requires { ⌜ Standing kind (now src) (now places) (head .records) ⌝ }
+    requires { ⌜ Ready kind (now src) head (now epochs) (now counts) ⌝ }
+    ensures { λ r. ⌜ shown r (now (out .exit)) (now (offsets .exit)) (now (changes .exit)) ≡ after (repairedAs kind (now (src .entry))) (now (out .entry)) (now (offsets .entry)) (now (changes .entry)) ⌝ }
+{
+    let records = head.records;
+    let mut no_offsets = [0usize; 1];
+    let mut no_changes = [0u8; 1];
+    let lines = list_changes(kind, src, places, records, &mut no_offsets, &mut no_changes);
+    if records::fit(lines, offsets.len(), changes.len()) {
+        match codec::serialize(head, epochs, counts, out) {
+            Counted::Refused(refusal) => {
+                return Outcome::Refused(refusal);
+            }
+            Counted::Count(bytes) => {
+                list_changes(kind, src, places, records, offsets, changes);
+                return Outcome::Done { bytes, lines };
+            }
+        }
+    }
+    Outcome::Refused(Refusal::NoRoom)
+}
+
+// Repairs bytes of kind 0 or 2.
+fn repair_single(
+    kind: Kind,
+    src: &[u8],
+    out: &mut [u8],
+    offsets: &mut [usize],
+    changes: &mut [u8],
+) -> Outcome
+    requires { ⌜ (multi kind ≡ false) × (headSize kind ≤ length (now src)) ⌝ }
+    ensures { λ r. ⌜ shown r (now (out .exit)) (now (offsets .exit)) (now (changes .exit)) ≡ after (repairedAs kind (now (src .entry))) (now (out .entry)) (now (offsets .entry)) (now (changes .entry)) ⌝ }
+{
+    let head = codec::head_in(kind, src, 0);
+    let places = [0usize; 1];
+    let epochs = [0u16; 1];
+    let counts = [0u32; 1];
+    settle(
+        kind,
+        src,
+        &places,
+        head,
+        &epochs,
+        &counts,
+        out,
+        offsets,
+        changes,
+    )
+}
+
+// The kind of flags with so many records: kind 0 or 2 where nothing is left.
+fn kind_left(kind: Kind, records: usize) -> Kind
+    requires { ⌜ multi kind ≡ true ⌝ }
+    ensures { λ r. ⌜ r ≡ kindLeft kind records ⌝ }
+{
+    if 0 < records {
+        return kind;
+    }
+    if kind.is_owned() {
+        return Kind::SingleEpochOwned;
+    }
+    Kind::SingleEpoch
+}
+
+// Repairs bytes of kind 1 or 3 with tables by epoch, which come as zeros.
+fn repair_by(
+    kind: Kind,
+    src: &[u8],
+    places: &mut [usize],
+    epochs: &mut [u16],
+    counts: &mut [u32],
+    out: &mut [u8],
+    offsets: &mut [usize],
+    changes: &mut [u8],
+) -> Outcome
+    requires { ⌜ (multi kind ≡ true) × (headSize kind ≤ length (now src)) ⌝ }
+    requires { ⌜ Blank (now places) × Blank (now counts) × (65536 ≤ length (now epochs)) ⌝ }
+    ensures { λ r. ⌜ shown r (now (out .exit)) (now (offsets .exit)) (now (changes .exit)) ≡ after (repairedAs kind (now (src .entry))) (now (out .entry)) (now (offsets .entry)) (now (changes .entry)) ⌝ }
+{
+    let start = codec::head_size(kind);
+    let base = codec::base_in(kind, src);
+    mark(src, start, base, places, counts);
+    let n = gather(base, places, epochs, counts);
+    let head = codec::head_in(kind_left(kind, n), src, n);
+    settle(
+        kind,
+        src,
+        places,
+        head,
+        epochs,
+        counts,
+        out,
+        offsets,
+        changes,
+    )
+}
+
+// Repairs bytes of kind 1 or 3.
+fn repair_multi(
+    kind: Kind,
+    src: &[u8],
+    out: &mut [u8],
+    offsets: &mut [usize],
+    changes: &mut [u8],
+) -> Outcome
+    requires { ⌜ (multi kind ≡ true) × (headSize kind ≤ length (now src)) ⌝ }
+    ensures { λ r. ⌜ shown r (now (out .exit)) (now (offsets .exit)) (now (changes .exit)) ≡ after (repairedAs kind (now (src .entry))) (now (out .entry)) (now (offsets .entry)) (now (changes .entry)) ⌝ }
+{
+    let mut places = [0usize; 65536];
+    let mut epochs = [0u16; 65536];
+    let mut counts = [0u32; 65536];
+    repair_by(
+        kind,
+        src,
+        &mut places,
+        &mut epochs,
+        &mut counts,
+        out,
+        offsets,
+        changes,
+    )
+}
+
+// Repairs bytes of a kind, without a look at byte 0.
+fn repair_as(
+    kind: Kind,
+    src: &[u8],
+    out: &mut [u8],
+    offsets: &mut [usize],
+    changes: &mut [u8],
+) -> Outcome
+    ensures { λ r. ⌜ shown r (now (out .exit)) (now (offsets .exit)) (now (changes .exit)) ≡ after (repairedAs kind (now (src .entry))) (now (out .entry)) (now (offsets .entry)) (now (changes .entry)) ⌝ }
+{
+    if src.len() < codec::head_size(kind) {
+        return Outcome::Refused(Refusal::WrongSize);
+    }
+    if kind.is_multi() {
+        return repair_multi(kind, src, out, offsets, changes);
+    }
+    repair_single(kind, src, out, offsets, changes)
+}
+
+// Repairs old flag bytes: canonical ones go to the start of `out`, and the changes, each with its input offset, to the start of
+// `offsets` and `changes`.
+pub fn repair(src: &[u8], out: &mut [u8], offsets: &mut [usize], changes: &mut [u8]) -> Outcome
+    ensures { λ r. ⌜ shown r (now (out .exit)) (now (offsets .exit)) (now (changes .exit)) ≡ repairedInto (now (src .entry)) (now (out .entry)) (now (offsets .entry)) (now (changes .entry)) ⌝ }
+{
+    if src.len() == 0 {
+        return Outcome::Done { bytes: 0, lines: 0 };
+    }
+    match records::kind_of_byte(src[0]) {
+        KindByte::Known(kind) => repair_as(kind, src, out, offsets, changes),
+        KindByte::Unknown => Outcome::Refused(Refusal::UnknownType),
+    }
+}
