@@ -1,5 +1,5 @@
 //! Our answers, at the C boundary, as they come: also the fields of a refused answer, and bytes that name nothing.
-use crate::guarded::{given, Lent, LentRows, LentTables};
+use crate::guarded::{given, Lent, LentRepaired, LentRows, LentTables};
 use crate::question::{Merge, Question, Reader, Reply, Split};
 use crate::values::*;
 use petasunok::sys;
@@ -67,6 +67,11 @@ pub fn ask(question: &Question) -> Reply {
         Question::BaseEpoch { head } => number(ask!(petasunok_base_epoch; number *head), Reply::Epoch),
         Question::OwnerId { head } => owner_id(*head),
         Question::TypeByte { head } => number(ask!(petasunok_type_byte; number *head), Reply::Kind),
+        Question::Repair { src, lent } => {
+            let mut lent = LentRepaired::new(lent);
+            let answer = ask!(petasunok_repair; bytes src, out lent.out, out lent.offsets, out lent.changes);
+            Reply::Repaired { answer, lent: lent.back() }
+        }
     }
 }
 

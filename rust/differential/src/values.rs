@@ -1,6 +1,7 @@
 //! What the calls are given and lent: heads with their tables, at the C boundary's types.
 pub use petasunok::sys::{
-    petasunok_count, petasunok_flags, petasunok_head, petasunok_id, petasunok_owner, petasunok_removal, petasunok_split, petasunok_sum,
+    petasunok_count, petasunok_flags, petasunok_head, petasunok_id, petasunok_owner, petasunok_removal, petasunok_repaired,
+    petasunok_split, petasunok_sum,
 };
 
 /// An owner or identifier.
@@ -38,6 +39,14 @@ pub struct Removal {
     pub rows: Rows,
 }
 
+/// What a repair writes: the canonical bytes, and a line for each change in two tables.
+#[derive(Clone, Debug, Default, PartialEq, Eq)]
+pub struct Repaired {
+    pub out: Vec<u8>,
+    pub offsets: Vec<usize>,
+    pub changes: Vec<u8>,
+}
+
 impl Tables {
     /// How many records have room.
     pub fn room(&self) -> usize {
@@ -65,6 +74,22 @@ impl Rows {
         after.ids[..first.ids.len()].copy_from_slice(&first.ids);
         after.epochs[..first.epochs.len()].copy_from_slice(&first.epochs);
         after.bytes[..first.bytes.len()].copy_from_slice(&first.bytes);
+        after
+    }
+}
+
+impl Repaired {
+    /// How many lines have room.
+    pub fn room(&self) -> usize {
+        self.offsets.len().min(self.changes.len())
+    }
+
+    /// These tables with the places of other ones over their first places.
+    pub fn with(&self, first: &Repaired) -> Repaired {
+        let mut after = self.clone();
+        after.out[..first.out.len()].copy_from_slice(&first.out);
+        after.offsets[..first.offsets.len()].copy_from_slice(&first.offsets);
+        after.changes[..first.changes.len()].copy_from_slice(&first.changes);
         after
     }
 }
