@@ -83,6 +83,9 @@ fn epochs() {
         (1, &[0, 6, 4, 0, 7, 3, 0, 8, 2, 0, 9, 5]),
         &lines,
     );
+    // 8 comes behind 9, though 7 stands between them
+    let lines = [(6, Moved), (9, Moved)];
+    check((1, &[0, 9, 1, 0, 7, 2, 0, 8, 3]), (1, &[0, 7, 2, 0, 8, 3, 0, 9, 1]), &lines);
     check(
         (1, &[0, 9, 1, 0, 7, 0x82, 0]),
         (1, &[0, 7, 2, 0, 9, 1]),
