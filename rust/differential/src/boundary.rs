@@ -1,5 +1,5 @@
 //! Our answers, at the C boundary, as they come: also the fields of a refused answer, and bytes that name nothing.
-use crate::guarded::{given, Lent, LentRepaired, LentRows, LentTables};
+use crate::guarded::{given, Lent, LentRows, LentTables};
 use crate::question::{Merge, Question, Reader, Reply, Split};
 use crate::values::*;
 use petasunok::sys;
@@ -67,11 +67,7 @@ pub fn ask(question: &Question) -> Reply {
         Question::BaseEpoch { head } => number(ask!(petasunok_base_epoch; number *head), Reply::Epoch),
         Question::OwnerId { head } => owner_id(*head),
         Question::TypeByte { head } => number(ask!(petasunok_type_byte; number *head), Reply::Kind),
-        Question::Repair { src, lent } => {
-            let mut lent = LentRepaired::new(lent);
-            let answer = ask!(petasunok_repair; bytes src, out lent.out, out lent.offsets, out lent.changes);
-            Reply::Repaired { answer, lent: lent.back() }
-        }
+        Question::Repair { src, lent } => repair(src, lent),
     }
 }
 
@@ -114,6 +110,14 @@ fn split(split: &Split) -> Reply {
     let answer = ask!(petasunok_split_storage_removed_bytes;
         flags split.flags, number split.key, number split.value, into_rows key, into_rows value);
     Reply::Split { answer, key: key.back(), value: value.back() }
+}
+
+/// A repair.
+fn repair(src: &[u8], lent: &Repaired) -> Reply {
+    let (mut out, mut changes) = (Lent::new(&lent.out, 0xa5), Lent::new(&lent.changes, 0xa5));
+    let mut offsets = Lent::new(&lent.offsets, 0xa5a5_a5a5_a5a5_a5a5);
+    let answer = ask!(petasunok_repair; bytes src, out out, out offsets, out changes);
+    Reply::Repaired { answer, lent: Repaired { out: out.back(), offsets: offsets.back(), changes: changes.back() } }
 }
 
 /// Whose owner stands, and the part of the encoding that the header names for it.

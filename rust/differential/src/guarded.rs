@@ -69,27 +69,6 @@ impl LentTables {
     }
 }
 
-/// Lent room for a repair.
-pub struct LentRepaired {
-    pub out: Lent<u8>,
-    pub offsets: Lent<usize>,
-    pub changes: Lent<u8>,
-}
-
-impl LentRepaired {
-    pub fn new(repaired: &Repaired) -> Self {
-        LentRepaired {
-            out: Lent::new(&repaired.out, 0xa5),
-            offsets: Lent::new(&repaired.offsets, 0xa5a5_a5a5_a5a5_a5a5),
-            changes: Lent::new(&repaired.changes, 0xa5),
-        }
-    }
-
-    pub fn back(self) -> Repaired {
-        Repaired { out: self.out.back(), offsets: self.offsets.back(), changes: self.changes.back() }
-    }
-}
-
 /// Lent tables of rows.
 pub struct LentRows {
     pub ids: Lent<Id>,

@@ -47,6 +47,11 @@ pub struct Repaired {
     pub changes: Vec<u8>,
 }
 
+/// A table with the places of a shorter one over its first places.
+fn over<T: Copy>(table: &[T], first: &[T]) -> Vec<T> {
+    [first, &table[first.len()..]].concat()
+}
+
 impl Tables {
     /// How many records have room.
     pub fn room(&self) -> usize {
@@ -55,10 +60,7 @@ impl Tables {
 
     /// These tables with the places of other ones over their first places.
     pub fn with(&self, first: &Tables) -> Tables {
-        let mut after = self.clone();
-        after.epochs[..first.epochs.len()].copy_from_slice(&first.epochs);
-        after.counts[..first.counts.len()].copy_from_slice(&first.counts);
-        after
+        Tables { epochs: over(&self.epochs, &first.epochs), counts: over(&self.counts, &first.counts) }
     }
 }
 
@@ -70,11 +72,8 @@ impl Rows {
 
     /// These tables with the places of other ones over their first places.
     pub fn with(&self, first: &Rows) -> Rows {
-        let mut after = self.clone();
-        after.ids[..first.ids.len()].copy_from_slice(&first.ids);
-        after.epochs[..first.epochs.len()].copy_from_slice(&first.epochs);
-        after.bytes[..first.bytes.len()].copy_from_slice(&first.bytes);
-        after
+        let (ids, epochs, bytes) = (over(&self.ids, &first.ids), over(&self.epochs, &first.epochs), over(&self.bytes, &first.bytes));
+        Rows { ids, epochs, bytes }
     }
 }
 
@@ -86,11 +85,8 @@ impl Repaired {
 
     /// These tables with the places of other ones over their first places.
     pub fn with(&self, first: &Repaired) -> Repaired {
-        let mut after = self.clone();
-        after.out[..first.out.len()].copy_from_slice(&first.out);
-        after.offsets[..first.offsets.len()].copy_from_slice(&first.offsets);
-        after.changes[..first.changes.len()].copy_from_slice(&first.changes);
-        after
+        let (offsets, changes) = (over(&self.offsets, &first.offsets), over(&self.changes, &first.changes));
+        Repaired { out: over(&self.out, &first.out), offsets, changes }
     }
 }
 

@@ -42,7 +42,7 @@ impl Change {
     /// assert_eq!(Change::from_number(0), None);
     /// ```
     pub fn from_number(number: u8) -> Option<Self> {
-        Self::ALL.into_iter().find(|change| change.number() == number)
+        Self::ALL.get(usize::from(number).checked_sub(1)?).copied()
     }
 }
 

@@ -1,4 +1,5 @@
 //! Repairing old flag bytes: the time of a call, of a record and of a byte, at four sizes and in three orders.
+use benchmark::program;
 use benchmark::rounds::{interleaved, Contestant, Times};
 use petasunok::{lent, Change};
 use std::collections::BTreeMap;
@@ -173,30 +174,16 @@ fn judged(growth: f64) -> String {
     format!("repair: the cost grows {verdict} with the bytes: from {smaller} to {larger} records that of a byte by a factor of {growth:.2} at most")
 }
 
-/// Does what the arguments say; an error is told by its words.
+/// Does what the arguments say.
 fn run(arguments: &[&str]) -> Result<(), String> {
     match arguments {
         [] => report(ROUNDS),
-        ["--help"] => {
-            println!("{USAGE}");
-            Ok(())
-        }
-        ["--rounds", rounds] => match rounds.parse() {
-            Ok(rounds) if rounds > 0 => report(rounds),
-            _ => Err(format!("{rounds} is no number of rounds")),
-        },
+        ["--help"] => program::help(USAGE),
+        ["--rounds", rounds] => report(program::rounds(rounds)?),
         _ => Err(USAGE.into()),
     }
 }
 
 fn main() -> ExitCode {
-    let given: Vec<String> = env::args().skip(1).collect();
-    let given: Vec<&str> = given.iter().map(String::as_str).collect();
-    match run(&given) {
-        Ok(()) => ExitCode::SUCCESS,
-        Err(words) => {
-            eprintln!("repair: {words}");
-            ExitCode::FAILURE
-        }
-    }
+    program::ended("repair", run)
 }
