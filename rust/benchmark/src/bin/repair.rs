@@ -171,7 +171,8 @@ fn report(rounds: usize) -> Result<(), String> {
 fn judged(growth: f64) -> String {
     let [smaller, larger] = [SIZES[2], SIZES[3]];
     let verdict = if growth <= MOST_GROWTH { "in line" } else { "OUT OF LINE" };
-    format!("repair: the cost grows {verdict} with the bytes: from {smaller} to {larger} records that of a byte by a factor of {growth:.2} at most")
+    let rise = format!("from {smaller} to {larger} records that of a byte by a factor of {growth:.2} at most");
+    format!("repair: the cost grows {verdict} with the bytes: {rise}")
 }
 
 /// Does what the arguments say.
