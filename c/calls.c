@@ -6,6 +6,7 @@ const size_t widths[PARTS] = {
     [BYTES] = 1, [OTHER_BYTES] = 1, [OURS_EPOCHS] = 2, [OURS_COUNTS] = 4, [THEIRS_EPOCHS] = 2, [THEIRS_COUNTS] = 4,
     [REMOVAL_IDS] = 32, [REMOVAL_EPOCHS] = 2, [REMOVAL_BYTES] = 4, [OUT] = 1, [EPOCHS] = 2, [COUNTS] = 4,
     [LEFT_IDS] = 32, [LEFT_EPOCHS] = 2, [LEFT_BYTES] = 4, [VALUE_IDS] = 32, [VALUE_EPOCHS] = 2, [VALUE_BYTES] = 4,
+    [OFFSETS] = sizeof(size_t), [CHANGES] = 1,
 };
 
 /* ---- answers of every sort as one */
@@ -21,6 +22,7 @@ OF(owner, petasunok_owner, .refusal = a.refusal, .which = a.which)
 OF(maybe_owner, petasunok_maybe_owner, .refusal = a.refusal, .present = a.present, .id = a.id)
 OF(sum, petasunok_sum, .refusal = a.refusal, .removal = a.removal)
 OF(split, petasunok_split, .refusal = a.refusal, .removal = a.key, .value = a.value, .visited = a.visited)
+OF(repaired, petasunok_repaired, .refusal = a.refusal, .count = a.bytes, .lines = a.lines)
 
 /* ---- the calls */
 
@@ -56,6 +58,7 @@ CALL(set_owner_id, of_flags, (g->ours, g->id))
 CALL(base_epoch, of_count, (g->ours))
 CALL(owner_id, of_maybe_owner, (g->ours))
 CALL(type_byte, of_count, (g->ours))
+CALL(repair, of_repaired, (PART(BYTES), PART(OUT), PART(OFFSETS), PART(CHANGES)))
 
 #define READS (BIT(BYTES) | ROOM_TABLES)
 #define MERGES (OURS_TABLES | THEIRS_TABLES | ROOM_TABLES)
@@ -90,6 +93,7 @@ const call calls[CALLS] = {
     {"base_epoch", base_epoch, NUMBER, 0, TAKES_OURS, BIT(11)},
     {"owner_id", owner_id, MAYBE_OWNER, 0, TAKES_OURS, BIT(11)},
     {"type_byte", type_byte, NUMBER, 0, TAKES_OURS, BIT(11)},
+    {"repair", repair, REPAIRED, BIT(BYTES) | BIT(OUT) | LINE_TABLES, 0, BIT(1) | BIT(2) | BIT(10)},
 };
 
 /* ---- what holds of every answer */
@@ -105,7 +109,7 @@ int same_removal(const petasunok_removal *a, const petasunok_removal *b) {
 int same_told(const told *a, const told *b) {
     return a->refusal == b->refusal && a->present == b->present && a->which == b->which && a->count == b->count
         && same_head(&a->head, &b->head) && same_removal(&a->removal, &b->removal) && same_removal(&a->value, &b->value)
-        && a->visited == b->visited && memcmp(a->id.bytes, b->id.bytes, 32) == 0;
+        && a->visited == b->visited && a->lines == b->lines && memcmp(a->id.bytes, b->id.bytes, 32) == 0;
 }
 
 size_t places(const told *answer, int part) {
@@ -114,6 +118,7 @@ size_t places(const told *answer, int part) {
     if (BIT(part) & ROOM_TABLES) return answer->head.records;
     if (BIT(part) & LEFT_TABLES) return answer->removal.rows;
     if (BIT(part) & VALUE_TABLES) return answer->value.rows;
+    if (BIT(part) & LINE_TABLES) return answer->lines;
     return 0;
 }
 

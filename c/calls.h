@@ -14,6 +14,7 @@ enum {
     EPOCHS, COUNTS,
     LEFT_IDS, LEFT_EPOCHS, LEFT_BYTES, /* the key's rows of a split, and the left removal of a sum */
     VALUE_IDS, VALUE_EPOCHS, VALUE_BYTES,
+    OFFSETS, CHANGES,
     PARTS
 };
 
@@ -25,7 +26,8 @@ enum {
 #define ROOM_TABLES (BIT(EPOCHS) | BIT(COUNTS))
 #define LEFT_TABLES (BIT(LEFT_IDS) | BIT(LEFT_EPOCHS) | BIT(LEFT_BYTES))
 #define VALUE_TABLES (BIT(VALUE_IDS) | BIT(VALUE_EPOCHS) | BIT(VALUE_BYTES))
-#define WRITTEN_TABLES (BIT(OUT) | ROOM_TABLES | LEFT_TABLES | VALUE_TABLES)
+#define LINE_TABLES (BIT(OFFSETS) | BIT(CHANGES))
+#define WRITTEN_TABLES (BIT(OUT) | ROOM_TABLES | LEFT_TABLES | VALUE_TABLES | LINE_TABLES)
 
 /* The values that a call takes beside its tables. */
 #define TAKES_OURS 1u
@@ -55,15 +57,15 @@ typedef struct {
 typedef struct {
     uint32_t refusal;
     uint8_t present, which;
-    uint64_t count;
+    uint64_t count; /* also the bytes of a repair */
     petasunok_head head;
     petasunok_removal removal, value; /* removal: a sum, or the key's of a split */
-    size_t visited;
+    size_t visited, lines;
     petasunok_id id;
 } told;
 
 /* What sort of answer a call gives. */
-enum { FLAGS, HEAD, NUMBER, WHOSE, MAYBE_OWNER, SUM, SPLIT };
+enum { FLAGS, HEAD, NUMBER, WHOSE, MAYBE_OWNER, SUM, SPLIT, REPAIRED };
 
 /* The calls, in the header's order. */
 enum {
@@ -72,6 +74,7 @@ enum {
     COMBINE_OWNER_ID, COMBINE_ADDED, OPTIONAL_ADDED, COMBINE_REMOVED, OPTIONAL_REMOVED,
     SPLIT_REMOVED, ADD_ASSIGN, HAS_REMOVAL, TOTAL_REMOVED,
     NEW_SINGLE_EPOCH, SET_OWNER_ID, BASE_EPOCH, OWNER_ID, TYPE_BYTE,
+    REPAIR,
     CALLS
 };
 

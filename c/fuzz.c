@@ -99,6 +99,7 @@ static int stands_alike(const told *answer, const given *roomy) {
 
 /* What is wrong with an answer, beside the one that the same input has with much room. */
 static const char *compare(const told *answer, const told *wide, const given *roomy) {
+    if (wide->refusal == 10) return "10, and there is more room than any answer needs";
     if (wide->refusal != 0) return answer->refusal == wide->refusal ? NULL : "with more room it is refused otherwise";
     if (!fits(wide)) return answer->refusal == 10 ? NULL : "the room is short, and the refusal is not 10";
     if (!same_told(answer, wide)) return answer->refusal == 10 ? "10, and the answer has room" : "with more room the answer is another";

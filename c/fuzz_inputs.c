@@ -241,6 +241,34 @@ static void give_bytes(given *g, int part, int which) {
     give(g, part, b.bytes, b.len, b.len);
 }
 
+/* Puts a record at the end of some bytes: an epoch around the base, and a count that may be longer than minimal or too large. */
+static void put_record(held_bytes *b, uint16_t base) {
+    uint64_t count = once_in(6) ? any() >> below(64) : some_count();
+    size_t groups = 1, i;
+    uint16_t epoch = once_in(4) ? some_epoch() : (uint16_t)(base - 1 + below(12));
+    while (groups < 10 && count >> 7 * groups != 0) groups++;
+    if (once_in(3)) groups += below(12 - groups); /* an eleventh byte rarely */
+    if (b->len + 2 + groups > sizeof b->bytes) return;
+    b->bytes[b->len++] = (uint8_t)(epoch >> 8);
+    b->bytes[b->len++] = (uint8_t)epoch;
+    for (i = 0; i < groups; i++) b->bytes[b->len++] = (uint8_t)((i < 10 ? count >> 7 * i & 127 : 0) | (i + 1 < groups ? 128 : 0));
+}
+
+/* Old bytes for a repair: a head, and records in any order, some of them for one epoch. */
+static void give_old_bytes(given *g) {
+    held_flags f;
+    held_bytes b;
+    size_t n = below(once_in(4) ? 40 : 6);
+    random_flags(&f);
+    f.head.kind &= 2;
+    f.head.records = 0;
+    encode(&b, &f);
+    if (!once_in(8)) b.bytes[0] |= 1;
+    while (n-- > 0) put_record(&b, f.head.base);
+    if (once_in(4)) damage(&b);
+    give(g, BYTES, b.bytes, b.len, b.len);
+}
+
 /* How much room is lent: enough, none, or a little. */
 static size_t some_room(void) {
     return once_in(2) ? 64 : once_in(8) ? 0 : below(8);
@@ -262,6 +290,7 @@ void make_input(given *g, int which) {
     memset(g, 0, sizeof *g);
     give_room(g, c);
     if (c->parts & BIT(BYTES)) give_bytes(g, BYTES, which);
+    if (which == REPAIR && !once_in(4)) give_old_bytes(g);
     if ((c->parts & BIT(BYTES)) && once_in(400)) give_long_bytes(g);
     if (c->parts & BIT(OTHER_BYTES)) give_bytes(g, OTHER_BYTES, DESERIALIZE);
     if (c->takes & TAKES_OURS) give_flags(g, &g->ours, OURS_EPOCHS, ours);
@@ -309,7 +338,7 @@ void keep_answer(int which, const given *g, const told *answer) {
         memcpy(flags[slot].epochs, g->parts[EPOCHS].at, answer->head.records * 2);
         memcpy(flags[slot].counts, g->parts[COUNTS].at, answer->head.records * 4);
     }
-    if (which == SERIALIZE && answer->count <= sizeof encodings[slot].bytes) {
+    if ((which == SERIALIZE || which == REPAIR) && answer->count <= sizeof encodings[slot].bytes) {
         encodings[slot].len = (size_t)answer->count;
         memcpy(encodings[slot].bytes, g->parts[OUT].at, encodings[slot].len);
     }

@@ -202,6 +202,41 @@ static const char *sizing(const given *g, const told *answer) {
     return answer->count == expected ? NULL : "another approximate size";
 }
 
+/* A line names a change and a place of the bytes, and lines ascend; two at one place are re-encoded, then moved. */
+static const char *listing(const given *g, const told *answer) {
+    const size_t *offsets = g->parts[OFFSETS].at;
+    const uint8_t *changes = g->parts[CHANGES].at;
+    size_t i;
+    for (i = 0; i < answer->lines; i++) {
+        if (changes[i] < PETASUNOK_RE_ENCODED || changes[i] > PETASUNOK_KIND_CHANGED) return "a change that does not exist";
+        if (offsets[i] >= g->parts[BYTES].len) return "a line behind the bytes";
+        if ((offsets[i] == 0) != (changes[i] == PETASUNOK_KIND_CHANGED)) return "a line at the head";
+        if (i == 0 || offsets[i - 1] < offsets[i]) continue;
+        if (offsets[i - 1] > offsets[i]) return "lines that do not ascend";
+        if (changes[i - 1] != PETASUNOK_RE_ENCODED || changes[i] != PETASUNOK_MOVED) return "two lines at one place";
+    }
+    return NULL;
+}
+
+/* Repaired bytes are read, and a second repair changes nothing. Without a line they are the old ones, and with one they are not read. */
+static const char *repairing(const given *g, const told *answer) {
+    static uint16_t epochs[ROOM];
+    static uint32_t counts[ROOM];
+    static uint8_t out[ROOM], changes[ROOM];
+    static size_t offsets[ROOM];
+    const part *old = &g->parts[BYTES], *new = &g->parts[OUT];
+    size_t n = (size_t)answer->count;
+    petasunok_flags before = petasunok_deserialize(old->at, old->len, epochs, ROOM, counts, ROOM);
+    petasunok_flags after = petasunok_deserialize(new->at, n, epochs, ROOM, counts, ROOM);
+    petasunok_repaired again = petasunok_repair(new->at, n, out, ROOM, offsets, ROOM, changes, ROOM);
+    if (after.refusal != 0 || after.present != (old->len > 0)) return "repaired bytes are not read";
+    if (again.refusal != 0 || again.bytes != n || again.lines != 0) return "a second repair finds something";
+    if (n > 0 && memcmp(out, new->at, n) != 0) return "a second repair gives other bytes";
+    if ((before.refusal == 0) != (answer->lines == 0)) return "lines for canonical bytes, or none for others";
+    if (answer->lines == 0 && (n != old->len || (n > 0 && memcmp(old->at, new->at, n) != 0))) return "other bytes without a line";
+    return listing(g, answer);
+}
+
 const char *broken_law(int which, const given *g, const told *answer) {
     if (which <= READ_MULTI_OWNED) return reading(which, g, answer);
     if (which == SERIALIZE) return writing(g, answer);
@@ -211,13 +246,15 @@ const char *broken_law(int which, const given *g, const told *answer) {
     if (which == SPLIT_REMOVED) return splitting(g, answer);
     if (which == ADD_ASSIGN) return adding_up(g, answer);
     if (which == HAS_REMOVAL || which == TOTAL_REMOVED) return telling(which, g, answer);
+    if (which == REPAIR) return repairing(g, answer);
     return which >= NEW_SINGLE_EPOCH ? heading(which, g, answer) : NULL;
 }
 
 const char *broken_refusal(int which, const given *g, uint32_t refusal) {
     int merge = which >= COMBINE_ADDED && which <= OPTIONAL_REMOVED, full = 0;
     const uint8_t *bytes = g->parts[BYTES].at;
-    if (refusal == 1 && which == DESERIALIZE && bytes[0] < 4) return "a kind that exists is unknown";
+    if (refusal == 1 && (which == DESERIALIZE || which == REPAIR) && bytes[0] < 4) return "a kind that exists is unknown";
+    if (refusal == 2 && which == REPAIR && g->parts[BYTES].len >= (bytes[0] < 2 ? 3u : 35u)) return "2, and owner and base are complete";
     if (refusal == 4 && g->theirs.base >= g->ours.base) return "4, and the incoming base is not lower";
     if (refusal == 5 && merge && which <= OPTIONAL_ADDED && !(owned(&g->ours) && owned(&g->theirs) && g->strategy == 0))
         return "5 without two owners";

@@ -1,4 +1,4 @@
-/* Storage flags of a GroveDB store: reading, writing and merging them, and splitting and adding up what was removed.
+/* Storage flags of a GroveDB store: reading, writing, merging and repairing them, and splitting and adding up what was removed.
  *
  * Every function is proved: on any input it ends, in an answer or in a refusal, and equals a short definition (docs/STATEMENTS.md).
  * A refusal is one of the numbers below; then everything else in the answer is 0, and nothing that was lent has changed. An answer
@@ -7,7 +7,7 @@
  * What a caller owes: a pointer and its length (in elements) name memory that may be read, and where the pointer is not const, written;
  * a pointer may be null where its length is 0. What is written overlaps nothing else that the same call is given. Pointers are aligned
  * as C asks. Nothing is kept after a call, and nothing is shared, so calls may run on any thread. Reading takes up to 180 KB of its stack, in
- * proportion to the records (12 KB for 1,024) and no more from 16,384 records on.
+ * proportion to the records (12 KB for 1,024) and no more from 16,384 records on; repairing takes up to 1 MiB.
  *
  * Truth values (`present`, `has_owner`, `given`) are 0 for no, and anything else for yes. Link with libpetasunok.a. */
 #ifndef PETASUNOK_H
@@ -48,6 +48,15 @@ extern "C" {
 #define PETASUNOK_NO_REMOVAL 0
 #define PETASUNOK_BASIC_REMOVAL 1
 #define PETASUNOK_SECTIONED_REMOVAL 2
+
+/* The changes of a repair. */
+#define PETASUNOK_RE_ENCODED 1            /* a record stays, and its count is written with fewer bytes */
+#define PETASUNOK_TOO_LARGE 2             /* a record is dropped: its count passes 32 bits */
+#define PETASUNOK_NOT_ABOVE_BASE 3        /* a record is dropped: its epoch is at or below the base */
+#define PETASUNOK_REPLACED 4              /* a record is dropped: a later one has its epoch */
+#define PETASUNOK_TAIL_CUT 5              /* the bytes from here on are cut */
+#define PETASUNOK_MOVED 6                 /* a record stays, and comes before one that stood before it */
+#define PETASUNOK_KIND_CHANGED 7          /* no record is left, so the kind is 0 or 2 now */
 
 /* Flags without their records, which stand in the first `records` places of two tables. The owner of flags of kinds 0 and 1 is not read,
  * and is zeros in what reading, merging and petasunok_new_single_epoch answer. */
@@ -110,6 +119,13 @@ typedef struct {
     uint8_t present;
     petasunok_id id;
 } petasunok_maybe_owner;
+
+/* How many bytes and lines of a repair stand in what was lent for them; or a refusal. */
+typedef struct {
+    uint32_t refusal;
+    size_t bytes;
+    size_t lines;
+} petasunok_repaired;
 
 /* ---- reading: 1, 2, 3, 10 */
 
@@ -233,6 +249,22 @@ petasunok_maybe_owner petasunok_owner_id(petasunok_head head);
 
 /* Byte 0 of the flags. */
 petasunok_count petasunok_type_byte(petasunok_head head);
+
+/* ---- old bytes */
+
+/* Reads old flag bytes as a map would, writes their canonical bytes, and lists each change in two tables, by its offset in `src` and its
+ * number: 1, 2 (owner or base not complete), 10 (`out` has no room for the bytes, or `offsets` or `changes` for the lines). The canonical
+ * bytes are at most as many as the old ones, and src_len / 2 + 2 lines are always enough.
+ *
+ * Flags of kinds 1 and 3: a record that is not complete, or a count of ten bytes that all say that more follow, is cut with all behind it.
+ * Records whose count passes 32 bits or whose epoch is not above the base are dropped, and of the others for one epoch all but the last;
+ * such a record has one line, the first that fits of too large, not above base and replaced. A record that stays has a line where its
+ * count is re-encoded, then one where it is moved: some record before it that stays has a higher epoch. Where none stays the kind becomes
+ * 0 or 2, and the first line says so, at offset 0. Flags of kinds 0 and 2: what lies behind the base is cut. Lines ascend by offset.
+ * Canonical bytes come back equal and with no line, and no bytes are none. */
+petasunok_repaired petasunok_repair(
+    const uint8_t *src, size_t src_len, uint8_t *out, size_t out_len,
+    size_t *offsets, size_t offsets_len, uint8_t *changes, size_t changes_len);
 
 #ifdef __cplusplus
 }

@@ -10,6 +10,7 @@
 
 static unsigned checks, wrong;
 static unsigned seen[CALLS]; /* the refusals that each call has given */
+static unsigned changes_seen; /* the changes that repairs have listed */
 
 /* ---- one check */
 
@@ -26,6 +27,14 @@ static struct {
     int line, call;
 } current;
 
+/* Notes the changes that a repair has listed. */
+static void note_changes(const given *g, const told *answer) {
+    const uint8_t *changes = g->parts[CHANGES].at;
+    size_t i;
+    for (i = 0; i < answer->lines; i++)
+        if (changes[i] < 32) changes_seen |= BIT(changes[i]);
+}
+
 /* Makes a call and checks what it tells, and that it left the lent memory as it should. */
 static told check_call(int which, const given *g, const char *file, int line, const char *variant, const char *expected) {
     const char *fault, *got;
@@ -37,6 +46,7 @@ static told check_call(int which, const given *g, const char *file, int line, co
     current.call = which;
     answer = ask(&calls[which], g, &fault);
     if (answer.refusal < 32) seen[which] |= BIT(answer.refusal);
+    if (fault == NULL) note_changes(g, &answer);
     got = fault != NULL ? fault : text_of(&calls[which], g, &answer);
     snprintf(what, sizeof what, "%s, %s", calls[which].name, variant);
     check(fault == NULL && strcmp(got, expected) == 0, file, line, what, got, expected);
@@ -65,6 +75,8 @@ static const struct {
     SIZE(petasunok_id, 32), FIELD(petasunok_id, bytes, 0),
     SIZE(petasunok_maybe_owner, 40), FIELD(petasunok_maybe_owner, refusal, 0), FIELD(petasunok_maybe_owner, present, 4),
     FIELD(petasunok_maybe_owner, id, 5),
+    SIZE(petasunok_repaired, 24), FIELD(petasunok_repaired, refusal, 0), FIELD(petasunok_repaired, bytes, 8),
+    FIELD(petasunok_repaired, lines, 16),
 };
 
 static void check_layouts(void) {
@@ -246,19 +258,19 @@ static void check_from(const example *e) {
 /* ---- null pointers */
 
 /* What each call that takes tables tells of unowned flags of kind 0 at 5 and of no removal, where every pointer is null. */
-static const char *const with_nulls[] = {
+static const char *const with_nulls[CALLS] = {
     [DESERIALIZE] = "none", [READ_SINGLE] = "refused 2", [READ_MULTI] = "refused 2", [READ_SINGLE_OWNED] = "refused 2",
-    [READ_MULTI_OWNED] = "refused 2", [SERIALIZE] = "refused 10", [SERIALIZED_SIZE] = "3", [APPROXIMATE_SIZE] = NULL,
+    [READ_MULTI_OWNED] = "refused 2", [SERIALIZE] = "refused 10", [SERIALIZED_SIZE] = "3",
     [COMBINE_OWNER_ID] = "whose 0", [COMBINE_ADDED] = "0@5", [OPTIONAL_ADDED] = "0@5", [COMBINE_REMOVED] = "0@5",
     [OPTIONAL_REMOVED] = "0@5", [SPLIT_REMOVED] = "none, none, visited 0", [ADD_ASSIGN] = "none", [HAS_REMOVAL] = "0",
-    [TOTAL_REMOVED] = "0",
+    [TOTAL_REMOVED] = "0", [REPAIR] = "",
 };
 
 /* Every pointer null; then each alone, beside tables that are not read and room that is not needed. */
 static void check_nulls(void) {
     given g;
     int which, null, i;
-    for (which = DESERIALIZE; which <= TOTAL_REMOVED; which++) {
+    for (which = 0; which < CALLS; which++) {
         for (null = -1; null < PARTS && with_nulls[which] != NULL; null++) {
             int written = which == SERIALIZE && null >= 0 && null != OUT;
             if (null >= 0 && !(calls[which].parts & BIT(null))) continue;
@@ -339,10 +351,12 @@ static void check_new_heads(void) {
     }
 }
 
-/* Every call has answered, and has given each refusal that it may give. */
+/* Every call has answered, and has given each refusal that it may give; repairs have listed every change. */
 static void check_seen(void) {
     char got[16], expected[16];
     int which;
+    snprintf(got, sizeof got, "%02X", changes_seen);
+    check(changes_seen == 0xFE, __FILE__, __LINE__, "the changes of repairs", got, "FE");
     for (which = 0; which < CALLS; which++) {
         snprintf(got, sizeof got, "%03X", seen[which]);
         snprintf(expected, sizeof expected, "%03X", calls[which].refusals | 1);

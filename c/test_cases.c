@@ -1,4 +1,5 @@
-/* The examples that c/test.c holds the library against: document 01's P1 to P14, its boundaries, and every refusal of every call. */
+/* The examples that c/test.c holds the library against: document 01's P1 to P14, its boundaries, every refusal of every call, and every
+ * change of a repair. */
 #include "test_cases.h"
 #include "calls.h"
 
@@ -26,6 +27,7 @@
 #define PLUS_BOTH(first, second, answer) PLUS(first, second, 0, answer), PLUS(first, second, 1, answer)
 #define TOTAL(rows, has, total) \
     {LINE, .call = HAS_REMOVAL, .removal = rows, .told = has}, {LINE, .call = TOTAL_REMOVED, .removal = rows, .told = total}
+#define REPAIR_OLD(bytes, answer) {LINE, .call = REPAIR, .ours = bytes, .told = answer}
 #define BAD_ROWS(rows) \
     TOTAL(rows, "refused 11", "refused 11"), PLUS_BOTH(rows, "none", "refused 11"), PLUS_BOTH("none", rows, "refused 11"), \
     TAKE("0@5", "0@9", rows, 0, "refused 11"), ABSENT_TAKE("0@5", rows, "refused 11")
@@ -207,5 +209,51 @@ const example examples[] = {
     BAD_ROWS("rows A/7:1 A/7:1"),
     BAD_ROWS("rows A/7:1 A/6:1"),
     BAD_ROWS("rows B/7:1 A/8:1"),
+
+    /* repairing: what is canonical comes back */
+    REPAIR_OLD("", ""),
+    REPAIR_OLD("00FFFF", "00FFFF"),
+    REPAIR_OLD("0100050007AC02", "0100050007AC02"),
+    REPAIR_OLD("02" Z "0005", "02" Z "0005"),
+    REPAIR_OLD("03" A "000500070A000905", "03" A "000500070A000905"),
+    REPAIR_OLD("01FFFEFFFFFFFFFFFF0F", "01FFFEFFFFFFFFFFFF0F"),
+    /* heads that are refused */
+    REPAIR_OLD("04", "refused 1"),
+    REPAIR_OLD("FF0005000701", "refused 1"),
+    REPAIR_OLD("00", "refused 2"),
+    REPAIR_OLD("0100", "refused 2"),
+    REPAIR_OLD("02" A "00", "refused 2"),
+    REPAIR_OLD("03" A, "refused 2"),
+    /* counts: longer than minimal, above 32 bits in five and in ten bytes, eleven bytes */
+    REPAIR_OLD("01000500078100", "010005000701, 3 re-encoded"),
+    REPAIR_OLD("0100050007FFFFFFFF8F8080808000", "0100050007FFFFFFFF0F, 3 re-encoded"),
+    REPAIR_OLD("010005000780808080808080808000", "010005000700, 3 re-encoded"),
+    REPAIR_OLD("0100050007FFFFFFFF10", "000005, 0 kind changed, 3 too large"),
+    REPAIR_OLD("010005000780808080808080808001" "000801", "010005000801, 3 too large"),
+    REPAIR_OLD("010005000780808080808080808040" "000801", "010005000801, 3 too large"),
+    REPAIR_OLD("01000500078080808080808080808000" "000801", "000005, 0 kind changed, 3 tail cut"),
+    /* epochs: at and below the base, twice, out of order */
+    REPAIR_OLD("010005" "000501" "000401" "000701", "010005000701, 3 not above base, 6 not above base"),
+    REPAIR_OLD("01FFFF" "FFFF01", "00FFFF, 0 kind changed, 3 not above base"),
+    REPAIR_OLD("010005" "000701" "000702", "010005000702, 3 replaced"),
+    REPAIR_OLD("010005" "000901" "000702", "010005" "000702" "000901, 6 moved"),
+    REPAIR_OLD("010005" "000901" "00078200", "010005" "000702" "000901, 6 re-encoded, 6 moved"),
+    REPAIR_OLD("010005" "000901" "000802" "000903", "010005" "000802" "000903, 3 replaced"),
+    REPAIR_OLD("010005" "000801" "000902" "000703" "000804", "010005" "000703" "000804" "000902, 3 replaced, 9 moved, 12 moved"),
+    /* a dropped record has the first line that fits, and replaces nothing */
+    REPAIR_OLD("010005" "00058080808010" "000701", "010005000701, 3 too large"),
+    REPAIR_OLD("010005" "00078080808010" "000701", "010005000701, 3 too large"),
+    REPAIR_OLD("010005" "000701" "00078080808010", "010005000701, 6 too large"),
+    REPAIR_OLD("010005" "000501" "000502" "000701", "010005000701, 3 not above base, 6 not above base"),
+    /* tails */
+    REPAIR_OLD("010005" "000701" "00", "010005000701, 6 tail cut"),
+    REPAIR_OLD("010005" "000701" "0008", "010005000701, 6 tail cut"),
+    REPAIR_OLD("010005" "000701" "000880", "010005000701, 6 tail cut"),
+    REPAIR_OLD("010005" "000701" "000780", "010005000701, 6 tail cut"),
+    REPAIR_OLD("00000500", "000005, 3 tail cut"),
+    REPAIR_OLD("02" A "0005000701", "02" A "0005, 35 tail cut"),
+    /* no record is left */
+    REPAIR_OLD("010005", "000005, 0 kind changed"),
+    REPAIR_OLD("03" Z "0005" "000501" "00", "02" Z "0005, 0 kind changed, 35 not above base, 38 tail cut"),
 };
 const size_t examples_len = sizeof examples / sizeof *examples;

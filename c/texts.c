@@ -124,13 +124,33 @@ static void put_removal(const given *g, const petasunok_removal *removal, int id
     for (i = 0; i < removal->rows; i++) put(" %c/%u:%u", letter_of(owners[i]), epochs[i], bytes[i]);
 }
 
-/* A number; of writing flags the bytes instead. */
-static void put_number(const call *c, const given *g, const told *answer) {
+static void put_bytes(const given *g, const told *answer) {
     const uint8_t *out = g->parts[OUT].at;
     size_t i;
-    if (c != &calls[SERIALIZE]) put("%llu", (unsigned long long)answer->count);
-    else
-        for (i = 0; i < answer->count; i++) put("%02X", out[i]);
+    for (i = 0; i < answer->count; i++) put("%02X", out[i]);
+}
+
+/* A number; of writing flags the bytes instead. */
+static void put_number(const call *c, const given *g, const told *answer) {
+    if (c == &calls[SERIALIZE]) put_bytes(g, answer);
+    else put("%llu", (unsigned long long)answer->count);
+}
+
+/* The bytes of a repair, and its lines. */
+static void put_repaired(const given *g, const told *answer) {
+    static const char *const words[] = {
+        [PETASUNOK_RE_ENCODED] = "re-encoded", [PETASUNOK_TOO_LARGE] = "too large", [PETASUNOK_NOT_ABOVE_BASE] = "not above base",
+        [PETASUNOK_REPLACED] = "replaced", [PETASUNOK_TAIL_CUT] = "tail cut", [PETASUNOK_MOVED] = "moved",
+        [PETASUNOK_KIND_CHANGED] = "kind changed",
+    };
+    const size_t *offsets = g->parts[OFFSETS].at;
+    const uint8_t *changes = g->parts[CHANGES].at;
+    size_t i;
+    put_bytes(g, answer);
+    for (i = 0; i < answer->lines; i++) {
+        int known = changes[i] >= PETASUNOK_RE_ENCODED && changes[i] <= PETASUNOK_KIND_CHANGED;
+        put(", %zu %s", offsets[i], known ? words[changes[i]] : "?");
+    }
 }
 
 /* The removals of a split, and the number of records visited. */
@@ -149,6 +169,7 @@ const char *text_of(const call *c, const given *g, const told *answer) {
     else if (c->answer == WHOSE) put("whose %u", answer->which);
     else if (c->answer == SUM) put_removal(g, &answer->removal, LEFT_IDS);
     else if (c->answer == SPLIT) put_split(g, answer);
+    else if (c->answer == REPAIRED) put_repaired(g, answer);
     else if (!answer->present) put("none");
     else if (c->answer == FLAGS) put_flags(g, answer);
     else if (c->answer == MAYBE_OWNER) put("owner %c", letter_of(answer->id.bytes));

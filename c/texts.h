@@ -1,7 +1,8 @@
 /* Flags, removals and answers as short texts, for tables of tests.
  *
  * Flags: "kind@base/owner epoch:count ..", as "1@5 7:10 9:5" or "2@5/A". A removal: "none", "basic 4", or "rows owner/epoch:bytes ..".
- * An owner is a letter: 0 for 32 zeros, z for the bytes 1 to 32, any other for 32 times itself. Bytes are hex digits. */
+ * An owner is a letter: 0 for 32 zeros, z for the bytes 1 to 32, any other for 32 times itself. Bytes are hex digits. A repair: its bytes,
+ * then each line behind a comma, as "000005, 0 kind changed, 3 tail cut". */
 #ifndef TEXTS_H
 #define TEXTS_H
 

@@ -7,8 +7,8 @@ usage: differential [--rounds N] [--seed S] [--only CALL] [--first]
        differential vectors
 
 Compares every call of the static library, and of the crate over it, with the original Rust: boundaries, random questions, histories, and
-all strings of up to 3 bytes by all five readers.
-  --rounds N   so many rounds of random questions; a round has 22 of them, and every eighth a history
+all strings of up to 3 bytes by all five readers. The original has no repair; that call is compared with a model.
+  --rounds N   so many rounds of random questions; a round has 23 of them, and every eighth a history
   --seed S     the number that decides them; `time` takes the clock's
   --only CALL  compares only this call, or only `histories`
   --first      stops at the first difference

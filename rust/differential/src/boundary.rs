@@ -67,6 +67,7 @@ pub fn ask(question: &Question) -> Reply {
         Question::BaseEpoch { head } => number(ask!(petasunok_base_epoch; number *head), Reply::Epoch),
         Question::OwnerId { head } => owner_id(*head),
         Question::TypeByte { head } => number(ask!(petasunok_type_byte; number *head), Reply::Kind),
+        Question::Repair { src, lent } => repair(src, lent),
     }
 }
 
@@ -109,6 +110,14 @@ fn split(split: &Split) -> Reply {
     let answer = ask!(petasunok_split_storage_removed_bytes;
         flags split.flags, number split.key, number split.value, into_rows key, into_rows value);
     Reply::Split { answer, key: key.back(), value: value.back() }
+}
+
+/// A repair.
+fn repair(src: &[u8], lent: &Repaired) -> Reply {
+    let (mut out, mut changes) = (Lent::new(&lent.out, 0xa5), Lent::new(&lent.changes, 0xa5));
+    let mut offsets = Lent::new(&lent.offsets, 0xa5a5_a5a5_a5a5_a5a5);
+    let answer = ask!(petasunok_repair; bytes src, out out, out offsets, out changes);
+    Reply::Repaired { answer, lent: Repaired { out: out.back(), offsets: offsets.back(), changes: changes.back() } }
 }
 
 /// Whose owner stands, and the part of the encoding that the header names for it.

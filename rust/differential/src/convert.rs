@@ -107,3 +107,9 @@ pub fn start(flags: &Flags) -> Vec<u8> {
 pub fn record(epoch: u16, varint: &[u8]) -> Vec<u8> {
     [&epoch.to_be_bytes(), varint].concat()
 }
+
+/// The bytes that hex digits say; blanks do not count.
+pub fn bytes(hex: &str) -> Vec<u8> {
+    let digits: Vec<u8> = hex.chars().filter_map(|digit| digit.to_digit(16)).map(|digit| digit as u8).collect();
+    digits.chunks(2).map(|pair| pair[0] << 4 | pair[1]).collect()
+}

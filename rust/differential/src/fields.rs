@@ -32,6 +32,7 @@ pub fn question(question: &Question) -> Option<String> {
         Question::NewSingleEpoch { epoch, owned, owner } => line.number(*epoch, 2).truth(*owned).plain(owner),
         Question::SetOwnerId { head, owner } => line.head(head).plain(owner),
         Question::BaseEpoch { head } | Question::OwnerId { head } | Question::TypeByte { head } => line.head(head),
+        Question::Repair { src, lent } => line.bytes(src).repaired(lent),
     };
     line.hex
 }
@@ -53,6 +54,9 @@ pub fn reply(reply: &Reply) -> Option<String> {
         Reply::Epoch(epoch) => line.number(*epoch, 2),
         Reply::MaybeOwner { owned, owner } => line.byte(*owned).plain(owner),
         Reply::Kind(kind) => line.byte(*kind),
+        Reply::Repaired { answer, lent } => {
+            line.refusal(answer.refusal).number(answer.bytes as u64, 2).number(answer.lines as u64, 2).repaired(lent)
+        }
     };
     line.hex
 }
@@ -146,6 +150,14 @@ impl Line {
             line.plain(id);
         });
         self.epochs(&rows.epochs).counts(&rows.bytes)
+    }
+
+    /// Bytes, offsets that are below 65,536, and changes.
+    fn repaired(&mut self, repaired: &Repaired) -> &mut Line {
+        self.bytes(&repaired.out).table(&repaired.offsets, |line, offset| {
+            line.number(*offset as u64, 2);
+        });
+        self.bytes(&repaired.changes)
     }
 
     fn head(&mut self, head: &petasunok_head) -> &mut Line {

@@ -18,6 +18,8 @@ pub mod placed;
 pub mod progress;
 pub mod question;
 pub mod random;
+pub mod repair_model;
+pub mod repairs;
 pub mod run;
 pub mod short_strings;
 pub mod stages;

@@ -26,6 +26,9 @@ pub fn ask(question: &Question) -> Option<Reply> {
         }
         Question::HasRemoval { removal } => placed::count(numbered(self::removal(removal)?.has_removal())),
         Question::TotalRemovedBytes { removal } => placed::count(numbered(self::removal(removal)?.total_removed_bytes())),
+        Question::Repair { src, lent } => {
+            placed::repaired(petasunok::repair(src).map(from_repaired).map_err(StorageFlagsError::number), lent)
+        }
         _ => return heads(question),
     })
 }
@@ -166,6 +169,12 @@ fn from_removal(removal: StorageRemovedBytes) -> Removal {
             Removal { state: petasunok_removal { kind: 2, bytes: 0, rows: ids.len() }, rows: Rows { ids, epochs, bytes } }
         }
     }
+}
+
+/// The crate's repair as ours.
+fn from_repaired(repaired: petasunok::Repaired) -> Repaired {
+    let (offsets, changes) = repaired.lines.into_iter().map(|line| (line.offset, line.change.number())).unzip();
+    Repaired { out: repaired.bytes, offsets, changes }
 }
 
 /// A strategy, if the byte names one.

@@ -76,3 +76,15 @@ pub fn sum(result: Result<Removal, u32>, lent: &Rows) -> Reply {
         Ok(sum) => Reply::Sum { answer: petasunok_sum { refusal: 0, removal: sum.state }, rows: lent.with(&sum.rows) },
     }
 }
+
+/// Canonical bytes and the lines of a repair, in tables that hold exactly these.
+pub fn repaired(result: Result<Repaired, u32>, lent: &Repaired) -> Reply {
+    let fits = |repaired: &Repaired| repaired.out.len() <= lent.out.len() && repaired.changes.len() <= lent.room();
+    match fitting(result, fits) {
+        Err(refusal) => Reply::Repaired { answer: petasunok_repaired { refusal, ..Default::default() }, lent: lent.clone() },
+        Ok(repaired) => {
+            let answer = petasunok_repaired { refusal: 0, bytes: repaired.out.len(), lines: repaired.changes.len() };
+            Reply::Repaired { answer, lent: lent.with(&repaired) }
+        }
+    }
+}

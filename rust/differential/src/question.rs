@@ -36,7 +36,7 @@ macro_rules! read_by {
 pub const READERS: [Reader; 5] = [Reader::Any, Reader::SingleEpoch, Reader::MultiEpoch, Reader::SingleEpochOwned, Reader::MultiEpochOwned];
 
 /// The names of the calls; a call's number is its place, counted from 1.
-pub const CALLS: [&str; 22] = [
+pub const CALLS: [&str; 23] = [
     "deserialize",
     "deserialize_single_epoch",
     "deserialize_multi_epoch",
@@ -59,7 +59,11 @@ pub const CALLS: [&str; 22] = [
     "base_epoch",
     "owner_id",
     "type_byte",
+    "repair",
 ];
+
+/// The calls that the original does not have. They are compared with a model.
+pub const MODELLED: [&str; 1] = ["repair"];
 
 /// A merge with an added amount or with a removal. `present` is none for the plain form, and the given byte for the optional one.
 #[derive(Clone, Debug, PartialEq, Eq)]
@@ -114,6 +118,7 @@ pub enum Question {
     BaseEpoch { head: petasunok_head },
     OwnerId { head: petasunok_head },
     TypeByte { head: petasunok_head },
+    Repair { src: Vec<u8>, lent: Repaired },
 }
 
 /// What a call answers.
@@ -130,6 +135,7 @@ pub enum Reply {
     Epoch(u16),
     MaybeOwner { owned: u8, owner: Id },
     Kind(u8),
+    Repaired { answer: petasunok_repaired, lent: Repaired },
 }
 
 impl Question {
@@ -152,6 +158,7 @@ impl Question {
             Question::BaseEpoch { .. } => 20,
             Question::OwnerId { .. } => 21,
             Question::TypeByte { .. } => 22,
+            Question::Repair { .. } => 23,
         }
     }
 
@@ -170,6 +177,7 @@ impl Reply {
             Reply::Owner { answer, .. } => answer.refusal,
             Reply::Split { answer, .. } => answer.refusal,
             Reply::Sum { answer, .. } => answer.refusal,
+            Reply::Repaired { answer, .. } => answer.refusal,
             Reply::Size(_) | Reply::Head(_) | Reply::Epoch(_) | Reply::MaybeOwner { .. } | Reply::Kind(_) => 0,
         }
     }

@@ -1,9 +1,10 @@
 //! The stages of a run: the marked examples, boundaries, random rounds with histories, and short strings.
 use crate::edges;
-use crate::groups::{BOUNDARIES, RANDOMLY};
+use crate::groups::{repairing, BOUNDARIES, RANDOMLY};
 use crate::histories;
 use crate::marked;
 use crate::random::Random;
+use crate::repairs;
 use crate::run::Run;
 use crate::short_strings;
 
@@ -20,7 +21,8 @@ const HISTORY: u64 = 8;
 /// All stages.
 pub fn all(run: &mut Run, rounds: u64, seed: u64) {
     run.progress.stage("boundaries".into());
-    for questions in [marked::questions, edges::questions].into_iter().chain(BOUNDARIES) {
+    let of_repairs = [repairs::questions, repairing::boundaries, repairing::short_strings];
+    for questions in [marked::questions, edges::questions].into_iter().chain(BOUNDARIES).chain(of_repairs) {
         questions(&mut |question| run.compare(&question));
     }
     random_rounds(run, rounds, seed);
@@ -29,7 +31,7 @@ pub fn all(run: &mut Run, rounds: u64, seed: u64) {
 
 /// Random questions of every call, and histories.
 fn random_rounds(run: &mut Run, rounds: u64, seed: u64) {
-    let mut random = Random::new(seed);
+    let (mut random, mut random_of_repairs) = (Random::new(seed), Random::new(seed));
     for round in 0..rounds {
         if run.over() {
             return;
@@ -39,6 +41,7 @@ fn random_rounds(run: &mut Run, rounds: u64, seed: u64) {
         for randomly in RANDOMLY {
             run.compare(&randomly(&mut random, most));
         }
+        run.compare(&repairing::random(&mut random_of_repairs, most));
         if round % HISTORY == 0 && run.has_histories() {
             histories::history(run, &mut random, MOST / 4);
         }

@@ -1,7 +1,7 @@
 //! What a run came to, on standard output.
 use crate::fields;
 use crate::intended::INTENDED;
-use crate::question::CALLS;
+use crate::question::{CALLS, MODELLED};
 use crate::run::{Difference, Run};
 
 /// Prints a run's figures, and a difference if there is one. Whether there was none.
@@ -30,6 +30,9 @@ fn calls(run: &Run) {
         print!("{name:<31}{:>10}{:>10}{:>10}", tally.compared, tally.owned, tally.by_refusal[0]);
         tally.by_refusal[1..].iter().for_each(|number| print!("{number:>9}"));
         println!();
+    }
+    for (name, _) in CALLS.iter().zip(&run.tallies).filter(|(name, tally)| tally.compared > 0 && MODELLED.contains(name)) {
+        println!("the original has no {name}; it is compared with a model, written from document 02");
     }
 }
 

@@ -1,6 +1,7 @@
 //! What the calls are given and lent: heads with their tables, at the C boundary's types.
 pub use petasunok::sys::{
-    petasunok_count, petasunok_flags, petasunok_head, petasunok_id, petasunok_owner, petasunok_removal, petasunok_split, petasunok_sum,
+    petasunok_count, petasunok_flags, petasunok_head, petasunok_id, petasunok_owner, petasunok_removal, petasunok_repaired,
+    petasunok_split, petasunok_sum,
 };
 
 /// An owner or identifier.
@@ -38,6 +39,19 @@ pub struct Removal {
     pub rows: Rows,
 }
 
+/// What a repair writes: the canonical bytes, and a line for each change in two tables.
+#[derive(Clone, Debug, Default, PartialEq, Eq)]
+pub struct Repaired {
+    pub out: Vec<u8>,
+    pub offsets: Vec<usize>,
+    pub changes: Vec<u8>,
+}
+
+/// A table with the places of a shorter one over its first places.
+fn over<T: Copy>(table: &[T], first: &[T]) -> Vec<T> {
+    [first, &table[first.len()..]].concat()
+}
+
 impl Tables {
     /// How many records have room.
     pub fn room(&self) -> usize {
@@ -46,10 +60,7 @@ impl Tables {
 
     /// These tables with the places of other ones over their first places.
     pub fn with(&self, first: &Tables) -> Tables {
-        let mut after = self.clone();
-        after.epochs[..first.epochs.len()].copy_from_slice(&first.epochs);
-        after.counts[..first.counts.len()].copy_from_slice(&first.counts);
-        after
+        Tables { epochs: over(&self.epochs, &first.epochs), counts: over(&self.counts, &first.counts) }
     }
 }
 
@@ -61,11 +72,21 @@ impl Rows {
 
     /// These tables with the places of other ones over their first places.
     pub fn with(&self, first: &Rows) -> Rows {
-        let mut after = self.clone();
-        after.ids[..first.ids.len()].copy_from_slice(&first.ids);
-        after.epochs[..first.epochs.len()].copy_from_slice(&first.epochs);
-        after.bytes[..first.bytes.len()].copy_from_slice(&first.bytes);
-        after
+        let (ids, epochs, bytes) = (over(&self.ids, &first.ids), over(&self.epochs, &first.epochs), over(&self.bytes, &first.bytes));
+        Rows { ids, epochs, bytes }
+    }
+}
+
+impl Repaired {
+    /// How many lines have room.
+    pub fn room(&self) -> usize {
+        self.offsets.len().min(self.changes.len())
+    }
+
+    /// These tables with the places of other ones over their first places.
+    pub fn with(&self, first: &Repaired) -> Repaired {
+        let (offsets, changes) = (over(&self.offsets, &first.offsets), over(&self.changes, &first.changes));
+        Repaired { out: over(&self.out, &first.out), offsets, changes }
     }
 }
 

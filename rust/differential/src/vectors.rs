@@ -3,10 +3,11 @@ use crate::blocks;
 use crate::edges;
 use crate::expected::expected;
 use crate::fields;
-use crate::groups::{Boundaries, BOUNDARIES, RANDOMLY};
+use crate::groups::{repairing, Boundaries, Randomly, BOUNDARIES, RANDOMLY};
 use crate::marked;
 use crate::question::{Question, CALLS};
 use crate::random::Random;
+use crate::repairs;
 use std::collections::{BTreeMap, BTreeSet};
 
 /// The most bytes of a stored question or reply.
@@ -18,18 +19,21 @@ const BOUNDARIES_OF_CALL: usize = 60;
 /// How many random questions of a call with the same refusal, or none, are stored.
 const OF_REFUSAL: usize = 24;
 
-/// How many random questions are tried.
+/// How many random questions are tried, of all calls of the original and of repairs.
 const TRIES: usize = 120_000;
+const TRIES_OF_REPAIRS: usize = 200;
 
 /// The head of the list.
 const HEAD: &str = "\
 # Questions to the calls with the replies that they have to get, one a line.
 # Made by `tools/differential vectors` from the original Rust, dashpay/grovedb at commit 0ea327d726, and its stand-ins (rust/standins).
 # Refusals 8 to 11 come from document 01's rule and not from the Rust, which has none of them.
+# The Rust has no repair: the replies to 23 come from a model of its own, rust/differential/src/repair_model.rs, written from document 02 (iv).
 # A line: hex digits of the question, =, hex digits of the reply; blanks do not count; numbers are big-endian; u8, u16, u32 have 1, 2, 4 bytes.
 #   BYTES: u16 n, n bytes          HEAD: u8 kind, u16 base, 32 owner bytes, u16 records     TABLES: u16 n, n u16 epochs, u16 m, m u32 counts
 #   FLAGS: HEAD TABLES             REMOVAL: u8 kind (0 none, 1 basic, 2 sectioned), u32 bytes, u16 rows
 #   ROWTABLES: u16 n, n ids of 32 bytes, u16 m, m u16 epochs, u16 k, k u32 bytes            ROWS: REMOVAL ROWTABLES
+#   OFFSETS: u16 n, n u16 (there are only questions whose offsets, also those lent, are below 65,536)
 # The question is the call's u8 number, then (tables and bytes that are lent stand as they are before, in the reply as they are after):
 #   1 deserialize, 2 deserialize_single_epoch, 3 deserialize_multi_epoch, 4 deserialize_single_epoch_owned, 5 deserialize_multi_epoch_owned:
 #     BYTES, TABLES lent = u8 refusal, u8 present, HEAD, TABLES
@@ -48,6 +52,7 @@ const HEAD: &str = "\
 #   18 new_single_epoch: u16 epoch, u8 owned, 32 bytes = HEAD
 #   19 set_owner_id: HEAD, 32 bytes = HEAD
 #   20 base_epoch: HEAD = u16      21 owner_id: HEAD = u8 owned, 32 bytes     22 type_byte: HEAD = u8
+#   23 repair: BYTES, BYTES out lent, OFFSETS lent, BYTES changes lent = u8 refusal, u16 bytes, u16 lines, BYTES out, OFFSETS, BYTES changes
 ";
 
 /// The lines of a list under way, by call.
@@ -63,9 +68,12 @@ pub fn list(seed: u64) -> String {
     list.all(marked::questions);
     list.all(edges::questions);
     let mut random = Random::new(seed);
-    list.boundaries(&mut random);
-    list.random(&mut random);
+    list.boundaries(&mut random, &BOUNDARIES);
+    list.random(&mut random, &RANDOMLY, TRIES);
     list.all(blocks::questions);
+    list.all(repairs::questions);
+    list.boundaries(&mut random, &[repairing::boundaries]);
+    list.random(&mut random, &[repairing::random], TRIES_OF_REPAIRS);
     let mut text = HEAD.to_string();
     for (number, lines) in list.lines {
         text.push_str(&format!("# {number} {}\n", CALLS[number - 1]));
@@ -98,8 +106,8 @@ impl List {
     }
 
     /// Some of every call's boundaries, by chance.
-    fn boundaries(&mut self, random: &mut Random) {
-        let all = |visit: &mut dyn FnMut(Question)| BOUNDARIES.iter().for_each(|boundaries| boundaries(visit));
+    fn boundaries(&mut self, random: &mut Random, of_groups: &[Boundaries]) {
+        let all = |visit: &mut dyn FnMut(Question)| of_groups.iter().for_each(|boundaries| boundaries(visit));
         let mut numbers = [0; CALLS.len() + 1];
         all(&mut |question| numbers[question.number()] += 1);
         all(&mut |question| {
@@ -110,10 +118,10 @@ impl List {
     }
 
     /// Random questions, some for each call and refusal.
-    fn random(&mut self, random: &mut Random) {
+    fn random(&mut self, random: &mut Random, randomly: &[Randomly], tries: usize) {
         let mut stored: BTreeMap<(usize, u32), usize> = BTreeMap::new();
-        for round in 0..TRIES {
-            let question = RANDOMLY[round % RANDOMLY.len()](random, 6);
+        for round in 0..tries {
+            let question = randomly[round % randomly.len()](random, 6);
             let key = (question.number(), expected(&question).reply.refusal());
             let stored = stored.entry(key).or_default();
             if *stored < OF_REFUSAL && self.add(&question).is_some() {

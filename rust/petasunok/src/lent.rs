@@ -2,7 +2,7 @@
 //!
 //! There is one function here for each of the C header. Flags are a [`Head`] and two tables, a removal is a [`Removal`] and three; the
 //! head says how many places of its tables count. A refusal changes nothing that was lent, and an answer leaves what lies behind it.
-//! Reading takes up to 180 KB of the thread's stack, in proportion to the records (12 KB for 1,024).
+//! Reading takes up to 180 KB of the thread's stack, in proportion to the records (12 KB for 1,024); repairing takes up to 1 MiB.
 //!
 //! ```
 //! use petasunok::lent::{self, Flags, Head};
@@ -62,12 +62,14 @@ mod heads;
 mod merging;
 mod reading;
 mod removals;
+mod repairing;
 mod writing;
 
 pub use heads::*;
 pub use merging::*;
 pub use reading::*;
 pub use removals::*;
+pub use repairing::*;
 pub use writing::*;
 
 impl Head {
@@ -182,6 +184,15 @@ pub struct Split {
     pub value: Removal,
     /// How many records were visited for the value's bytes: the number of its rows that are not at the base epoch.
     pub visited: usize,
+}
+
+/// What a repair answers: how many places of its tables count.
+#[derive(Clone, Copy, Debug, PartialEq, Eq)]
+pub struct RepairedSizes {
+    /// How many canonical bytes there are.
+    pub bytes: usize,
+    /// How many lines the list of changes has.
+    pub lines: usize,
 }
 
 /// The answer, or the refusal of a number that is not 0.

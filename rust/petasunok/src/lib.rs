@@ -1,7 +1,8 @@
 //! Storage flags of a GroveDB store, over a static library whose every function is proved.
 //!
 //! Each element of the store carries flags: in which epochs its bytes were paid, and by whom. When an element is shortened, the flags
-//! decide which bytes are refunded. This crate reads, writes and merges flags, splits a removal over their epochs, and adds removals up.
+//! decide which bytes are refunded. This crate reads, writes and merges flags, splits a removal over their epochs, adds removals up, and
+//! repairs old flag bytes.
 //! The work is done by a library written in Rattle, whose checker proves that each call ends on any input and equals a short definition.
 //! The crate has the names of the original Rust, GroveDB's `grovedb-epoch-based-storage-flags` and the `removal` module of `costs`, and
 //! needs no other crate.
@@ -24,6 +25,24 @@
 //! # Ok::<(), petasunok::StorageFlagsError>(())
 //! ```
 //!
+//! # Old bytes
+//!
+//! Before only canonical bytes were taken, others were stored too. [`repair()`] reads such bytes as a map would, writes canonical ones, and
+//! lists each change with its offset in the old bytes.
+//!
+//! ```
+//! use petasunok::{repair, StorageFlags};
+//!
+//! // epoch 9 comes before epoch 7, and a last record is cut
+//! let old = [1, 0, 5, 0, 9, 5, 0, 7, 10, 0];
+//! assert!(StorageFlags::deserialize(&old).is_err());
+//! let repaired = repair(&old)?;
+//! assert_eq!(repaired.bytes, [1, 0, 5, 0, 7, 10, 0, 9, 5]);
+//! let lines: Vec<String> = repaired.lines.iter().map(|line| format!("{} {}", line.offset, line.change)).collect();
+//! assert_eq!(lines, ["6 moved", "9 tail cut"]);
+//! # Ok::<(), petasunok::StorageFlagsError>(())
+//! ```
+//!
 //! # What differs from the original
 //!
 //! | What | The original | Here |
@@ -38,6 +57,7 @@
 //! | `total_removed_bytes` | overflows | answers a `Result`, `TotalTooLarge` (9) there |
 //! | `add_assign` | the operator `+=`, with the thread's version | a method with the version as an argument, and a `Result` |
 //! | two sections at fault in one merge | either error | the first by epoch |
+//! | [`repair()`] | not there | repairs bytes that `deserialize` refuses |
 //! | `+`, comparing removals, the guards of the thread's version | there | left out |
 //!
 //! # Calls that allocate nothing
@@ -62,6 +82,7 @@ mod flags;
 #[allow(unsafe_code)]
 pub mod lent;
 mod removed;
+mod repair;
 mod sections;
 #[allow(unsafe_code)]
 pub mod sys;
@@ -73,4 +94,5 @@ pub use flags::{
     SINGLE_EPOCH_FLAGS_SIZE,
 };
 pub use removed::{Identifier, StorageRemovedBytes, UNKNOWN_EPOCH};
+pub use repair::{repair, Change, Line, Repaired};
 pub use sections::StorageRemovalPerEpochByIdentifier;

@@ -90,6 +90,15 @@ pub struct petasunok_maybe_owner {
     pub id: petasunok_id,
 }
 
+/// How many bytes and lines of a repair stand in what was lent for them; or a refusal.
+#[repr(C)]
+#[derive(Clone, Copy, Debug, Default, PartialEq, Eq)]
+pub struct petasunok_repaired {
+    pub refusal: u32,
+    pub bytes: usize,
+    pub lines: usize,
+}
+
 /// Declares functions of the library by their parts: `value`, `slice` (read) and `room` (written), and `flags`, `rows` (read) and
 /// `rows_room` (written), which stand for their tables in the header's order.
 macro_rules! declare {
@@ -145,4 +154,5 @@ declare! {
     petasunok_base_epoch(value head: petasunok_head) -> petasunok_count;
     petasunok_owner_id(value head: petasunok_head) -> petasunok_maybe_owner;
     petasunok_type_byte(value head: petasunok_head) -> petasunok_count;
+    petasunok_repair(slice src: u8, room out: u8, room offsets: usize, room changes: u8) -> petasunok_repaired;
 }

@@ -51,6 +51,16 @@ fn numbers_and_refusals_match() {
     assert_eq!(StorageFlagsError::from_number(12), None);
 }
 
+/// A repair gives 1, 2 and 10, and where the bytes are refused the room is not looked at.
+#[test]
+fn repairs() {
+    for rooms in [(0, 0, 0), (ENOUGH, ENOUGH, ENOUGH)] {
+        assert_eq!(number(both::repair(&[4], rooms)), 1);
+        assert_eq!(number(both::repair(&[1, 0], rooms)), 2);
+    }
+    assert_eq!(number(both::repair(&[0, 0, 5], (0, 0, 0))), 10);
+}
+
 #[test]
 fn removing_merges() {
     let ours = records([(7, 10), (9, 5)]);

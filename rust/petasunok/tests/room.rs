@@ -60,6 +60,21 @@ fn sums() {
     needs(2, |room| both::add_assign(&NoStorageRemoval, &right, 0, room));
 }
 
+#[test]
+fn repairing() {
+    let needs_each = |rooms: both::RepairRoom, data: &[u8]| {
+        needs(rooms.0, |room| both::repair(data, (room, rooms.1, rooms.2)));
+        needs(rooms.1, |room| both::repair(data, (rooms.0, room, rooms.2)));
+        needs(rooms.2, |room| both::repair(data, (rooms.0, rooms.1, room)));
+    };
+    needs_each((0, 0, 0), &[]);
+    needs_each((3, 0, 0), &[0, 0, 5]);
+    needs_each((3, 1, 1), &[0, 0, 5, 0]);
+    needs_each((3, 3, 3), &[1, 0, 5, 0, 5, 1, 0]);
+    // 9 is replaced, 7 is written shorter and moved
+    needs_each((9, 3, 3), &[1, 0, 5, 0, 9, 1, 0, 9, 2, 0, 7, 0x83, 0]);
+}
+
 /// The tables need not be of one length; the shorter one decides.
 #[test]
 fn tables_of_two_lengths() {

@@ -1,5 +1,7 @@
-//! The stack that reading takes: blocks of 64 records wait in it for those behind them, up to 16,384 records, which take some 170 KiB.
+//! The stack that reading takes: blocks of 64 records wait in it for those behind them, up to 16,384 records, which take some 170 KiB. A
+//! repair has tables over all epochs in it, which take less than 1 MiB.
 use petasunok::lent;
+use petasunok::repair;
 use petasunok::StorageFlagsError::NonCanonicalStorageFlags;
 use std::thread;
 
@@ -7,6 +9,12 @@ use std::thread;
 fn encoded(last: u16) -> Vec<u8> {
     let record = |epoch: u16| epoch.to_be_bytes().into_iter().chain([0xff, 0xff, 0xff, 0xff, 0x0f]);
     [1, 0, 0].into_iter().chain((1..=last).flat_map(record)).collect()
+}
+
+/// What some work answers in a thread with a stack of so many KiB.
+fn in_thread<T: Send + 'static>(kib: usize, work: impl FnOnce() -> T + Send + 'static) -> T {
+    let thread = thread::Builder::new().stack_size(1024 * kib).spawn(work).expect("a thread");
+    thread.join().expect("an answer")
 }
 
 /// Reads so many records in a thread with a stack of so many KiB, as they are and with a fault in the last.
@@ -21,10 +29,8 @@ fn read_in(kib: usize, records: u16) {
         let head = lent::deserialize(&good, &mut epochs, &mut counts).ok().flatten();
         (refusal, head.map(|head| head.records), epochs.last() == Some(&records))
     };
-    let thread = thread::Builder::new().stack_size(1024 * kib).spawn(work).expect("a thread");
-    let answer = thread.join().expect("an answer");
     assert_eq!(
-        answer,
+        in_thread(kib, work),
         (Some(NonCanonicalStorageFlags), Some(room), true),
         "{records} records in {kib} KiB"
     );
@@ -35,4 +41,14 @@ fn a_small_stack_is_enough() {
     read_in(32, 1_024);
     read_in(256, 16_384);
     read_in(256, u16::MAX);
+}
+
+#[test]
+fn a_repair_has_enough_in_a_mebibyte_and_a_half() {
+    let good = encoded(u16::MAX);
+    let records = good[3..].chunks(7).rev().flatten();
+    let falling: Vec<u8> = good[..3].iter().chain(records).copied().collect();
+    let repaired = in_thread(1536, move || repair(&falling)).expect("a repair");
+    // all records but the first are moved
+    assert_eq!((repaired.bytes == good, repaired.lines.len()), (true, usize::from(u16::MAX) - 1));
 }

@@ -1,6 +1,6 @@
 //! Finding an epoch in a table: the walk and the halving of the Rattle crate `lookup`, side by side in time and instructions.
-use benchmark::callgrind;
 use benchmark::rounds::interleaved;
+use benchmark::{callgrind, program};
 use std::env;
 use std::hint::black_box;
 use std::process::ExitCode;
@@ -129,18 +129,12 @@ fn report(rounds: usize) -> Result<(), String> {
     Ok(())
 }
 
-/// Does what the arguments say; an error is told by its words.
+/// Does what the arguments say.
 fn run(arguments: &[&str]) -> Result<(), String> {
     match arguments {
         [] => report(ROUNDS),
-        ["--help"] => {
-            println!("{USAGE}");
-            Ok(())
-        }
-        ["--rounds", rounds] => match rounds.parse() {
-            Ok(rounds) if rounds > 0 => report(rounds),
-            _ => Err(format!("{rounds} is no number of rounds")),
-        },
+        ["--help"] => program::help(USAGE),
+        ["--rounds", rounds] => report(program::rounds(rounds)?),
         ["once", records, order] => match (records.parse(), Order::ALL.into_iter().find(|known| known.name() == *order)) {
             (Ok(records @ 1..=65_536), Some(order)) => once(records, order).map(|asked| println!("asked {asked}")),
             _ => Err(USAGE.into()),
@@ -150,13 +144,5 @@ fn run(arguments: &[&str]) -> Result<(), String> {
 }
 
 fn main() -> ExitCode {
-    let given: Vec<String> = env::args().skip(1).collect();
-    let given: Vec<&str> = given.iter().map(String::as_str).collect();
-    match run(&given) {
-        Ok(()) => ExitCode::SUCCESS,
-        Err(words) => {
-            eprintln!("lookup: {words}");
-            ExitCode::FAILURE
-        }
-    }
+    program::ended("lookup", run)
 }

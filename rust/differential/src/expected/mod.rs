@@ -1,4 +1,5 @@
-//! What a call has to answer: the original's answer on document 01's domain, and the model's refusal outside it.
+//! What a call has to answer: the original's answer on document 01's domain, and the model's refusal outside it. The original has no repair;
+//! its answers are a model's.
 mod heads;
 mod merging;
 pub mod reading;
@@ -7,7 +8,9 @@ mod writing;
 
 use crate::convert;
 use crate::intended::Intended;
+use crate::placed;
 use crate::question::{Question, Reply};
+use crate::repair_model;
 use crate::values::Flags;
 use grovedb_epoch_based_storage_flags::error::StorageFlagsError;
 use grovedb_epoch_based_storage_flags::StorageFlags;
@@ -29,6 +32,11 @@ impl Expected {
     /// An answer of document 01's.
     fn added(intended: impl Into<Intended>, reply: Reply) -> Expected {
         Expected { reply, intended: Some(intended.into()) }
+    }
+
+    /// The answer of a call that the original does not have, so that nothing differs from it.
+    fn modelled(reply: Reply) -> Expected {
+        Expected { reply, intended: None }
     }
 }
 
@@ -54,6 +62,7 @@ pub fn expected(question: &Question) -> Expected {
         Question::BaseEpoch { head } => heads::base_epoch(*head),
         Question::OwnerId { head } => heads::owner_id(*head),
         Question::TypeByte { head } => heads::type_byte(*head),
+        Question::Repair { src, lent } => Expected::modelled(placed::repaired(repair_model::repair(src), lent)),
     }
 }
 

@@ -41,6 +41,16 @@ fn rows_of(random: &mut Random, ids: usize, epochs: usize, bytes: usize) -> Rows
     }
 }
 
+/// Room for a repair of such lengths. Its offsets are junk of 16 bits, which stored answers can have, or of 64.
+fn repaired_of(random: &mut Random, bytes: usize, offsets: usize, changes: usize) -> Repaired {
+    let shift = if random.one_in(2) { 48 } else { 0 };
+    Repaired {
+        out: junk(bytes, || random.bits() as u8),
+        offsets: junk(offsets, || (random.bits() >> shift) as usize),
+        changes: junk(changes, || random.bits() as u8),
+    }
+}
+
 /// Tables for records, with a need.
 pub fn tables(random: &mut Random, need: usize) -> Tables {
     let [epochs, counts] = lengths(random, need);
@@ -67,4 +77,16 @@ pub fn exact_rows(random: &mut Random, length: usize) -> Rows {
 pub fn bytes(random: &mut Random, need: usize) -> Vec<u8> {
     let [length] = lengths(random, need);
     junk(length, || random.bits() as u8)
+}
+
+/// Room for a repair, with a need of bytes and one of lines.
+pub fn repaired(random: &mut Random, bytes: usize, lines: usize) -> Repaired {
+    let bytes = length(random, bytes);
+    let [offsets, changes] = lengths(random, lines);
+    repaired_of(random, bytes, offsets, changes)
+}
+
+/// Room for a repair of exactly so many bytes and lines.
+pub fn exact_repaired(random: &mut Random, bytes: usize, lines: usize) -> Repaired {
+    repaired_of(random, bytes, lines, lines)
 }

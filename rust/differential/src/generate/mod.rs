@@ -3,4 +3,5 @@ pub mod encodings;
 pub mod flags;
 pub mod lent;
 pub mod numbers;
+pub mod old;
 pub mod removals;

@@ -4,6 +4,7 @@ pub mod merging;
 pub mod owners;
 pub mod reading;
 pub mod removals;
+pub mod repairing;
 pub mod sums;
 pub mod writing;
 
@@ -21,7 +22,7 @@ pub type Boundaries = fn(&mut Visit);
 /// A random question of one call, with at most so many records or rows on a side.
 pub type Randomly = fn(&mut Random, usize) -> Question;
 
-/// The groups' boundaries.
+/// The groups' boundaries. Repairs are asked apart from them and from the random questions, since they have random numbers of their own.
 pub const BOUNDARIES: [Boundaries; 7] = [
     reading::boundaries,
     writing::boundaries,
@@ -58,7 +59,7 @@ pub const RANDOMLY: [Randomly; 22] = [
     heads::random,
 ];
 
-/// A question whose room is ample, or with room near what the answer needs; the original is asked for that.
+/// A question whose room is ample, or with room near what the answer needs; the expected answer says that.
 fn fit(random: &mut Random, mut question: Question) -> Question {
     if random.one_in(2) {
         return question;
@@ -73,6 +74,7 @@ fn fit(random: &mut Random, mut question: Question) -> Question {
             split.key_rows = lent::rows(random, answer.key.rows);
             split.value_rows = lent::rows(random, answer.value.rows);
         }
+        (Question::Repair { lent, .. }, Reply::Repaired { answer, .. }) => *lent = lent::repaired(random, answer.bytes, answer.lines),
         _ => {}
     }
     question

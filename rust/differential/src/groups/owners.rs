@@ -1,5 +1,6 @@
 //! The owner rule on two encodings.
 use super::Visit;
+use crate::convert::bytes;
 use crate::generate::{encodings, numbers};
 use crate::question::Question;
 use crate::random::Random;
@@ -20,11 +21,6 @@ pub fn boundaries(visit: &mut Visit) {
             }
         }
     }
-}
-
-/// The bytes that hex digits say.
-fn bytes(hex: &str) -> Vec<u8> {
-    (0..hex.len() / 2).map(|place| u8::from_str_radix(&hex[2 * place..2 * place + 2], 16).expect("hex digits")).collect()
 }
 
 /// Two random encodings.

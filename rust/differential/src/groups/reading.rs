@@ -7,7 +7,7 @@ use crate::random::Random;
 use crate::values::Tables;
 
 /// Bytes of a record at which reading changes.
-const RECORD_BYTES: [u8; 7] = [0, 1, 2, 0x7f, 0x80, 0x81, 0xff];
+pub const RECORD_BYTES: [u8; 7] = [0, 1, 2, 0x7f, 0x80, 0x81, 0xff];
 
 /// Room for some records, with junk that no record has.
 fn some_room(length: usize) -> Tables {

@@ -177,3 +177,27 @@ pub fn add_assign(left: &StorageRemovedBytes, right: &StorageRemovedBytes, versi
     assert!(owned.is_ok() || sum == *left, "a refusal has changed the left removal");
     agreed(owned.map(|()| sum), rows.answer(&before, answer))
 }
+
+/// Room for the bytes, the offsets and the changes of a repair.
+pub type RepairRoom = (usize, usize, usize);
+
+pub fn repair(data: &[u8], rooms: RepairRoom) -> Answer<Repaired> {
+    let (mut bytes, mut offsets, mut changes) = (vec![MARK; rooms.0], vec![MARK.into(); rooms.1], vec![MARK; rooms.2]);
+    let answer = lent::repair(data, &mut bytes, &mut offsets, &mut changes);
+    let (used, lines) = answer.map_or((0, 0), |sizes| (sizes.bytes, sizes.lines));
+    assert!(bytes.drain(used..).all(|byte| byte == MARK), "a byte behind the answer has changed");
+    assert!(
+        offsets.drain(lines..).all(|offset| offset == MARK.into()),
+        "an offset behind the answer has changed"
+    );
+    assert!(
+        changes.drain(lines..).all(|change| change == MARK),
+        "a change behind the answer has changed"
+    );
+    let line = |(offset, number)| Line {
+        offset,
+        change: Change::from_number(number).expect("a change"),
+    };
+    let lines = offsets.into_iter().zip(changes).map(line).collect();
+    agreed(petasunok::repair(data), answer.map(|_| Repaired { bytes, lines }))
+}
