@@ -1,9 +1,11 @@
 // Repairing old flag bytes: reading them as a map would, writing canonical ones, and listing each change.
 ghost use mathlib.Core.Path.{_≡_};
 ghost use mathlib.Core.Bool.{true, false};
-ghost use Prim.Native.Nat.{_≤_};
+ghost use mathlib.Core.List.{List, []};
+ghost use Prim.Native.Nat.{ℕ, _≤_, _<_};
 ghost use lib.ListN.{length};
 ghost use Rattle.records.specs.Flags.{multi};
+ghost use Rattle.records.specs.Answers.{ok};
 ghost use Rattle.codec.specs.Bytes.{headSize};
 ghost use Rattle.repair.specs.Repairing.{repairedAs};
 ghost use Rattle.repair.specs.Calls.{shown, after, repairedInto};
@@ -11,6 +13,7 @@ ghost use Rattle.repair.specs.Steps.{kindLeft, Blank, Standing, Ready};
 use crate::listing::list_changes;
 use crate::marking::gather;
 use crate::marking::mark;
+use codec::Verdict;
 use records::Counted;
 use records::Head;
 use records::Kind;
@@ -177,16 +180,47 @@ fn repair_as(
     repair_single(kind, src, out, offsets, changes)
 }
 
-// Repairs old flag bytes: canonical ones go to the start of `out`, and the changes, each with its input offset, to the start of
-// `offsets` and `changes`.
-pub fn repair(src: &[u8], out: &mut [u8], offsets: &mut [usize], changes: &mut [u8]) -> Outcome
+// Repairs bytes that reading refuses, by the kind that byte 0 names.
+fn repair_faulty(
+    src: &[u8],
+    out: &mut [u8],
+    offsets: &mut [usize],
+    changes: &mut [u8],
+) -> Outcome
+    requires { ⌜ 0 < length (now src) ⌝ }
     ensures { λ r. ⌜ shown r (now (out .exit)) (now (offsets .exit)) (now (changes .exit)) ≡ repairedInto (now (src .entry)) (now (out .entry)) (now (offsets .entry)) (now (changes .entry)) ⌝ }
 {
-    if src.len() == 0 {
-        return Outcome::Done { bytes: 0, lines: 0 };
-    }
     match records::kind_of_byte(src[0]) {
         KindByte::Known(kind) => repair_as(kind, src, out, offsets, changes),
         KindByte::Unknown => Outcome::Refused(Refusal::UnknownType),
+    }
+}
+
+// Writes canonical bytes as they are; there is no change to list.
+fn keep(src: &[u8], out: &mut [u8]) -> Outcome
+    ensures { λ r. ⌜ ((os cs : List ℕ) → shown r (now (out .exit)) os cs ≡ after (ok (record { bytes = now (src .entry); lines = [] })) (now (out .entry)) os cs) ⌝ }
+{
+    if out.len() < src.len() {
+        return Outcome::Refused(Refusal::NoRoom);
+    }
+    let mut k: usize = 0;
+    while k < src.len() {
+        out[k] = src[k];
+        k += 1;
+    }
+    Outcome::Done { bytes: k, lines: 0 }
+}
+
+// Repairs old flag bytes: canonical ones go to the start of `out`, and the changes, each with its input offset, to the start of
+// `offsets` and `changes`. Most bytes are canonical already, so reading is tried first; the tables by epoch are only made for others.
+pub fn repair(src: &[u8], out: &mut [u8], offsets: &mut [usize], changes: &mut [u8]) -> Outcome
+    ensures { λ r. ⌜ shown r (now (out .exit)) (now (offsets .exit)) (now (changes .exit)) ≡ repairedInto (now (src .entry)) (now (out .entry)) (now (offsets .entry)) (now (changes .entry)) ⌝ }
+{
+    let judged = codec::judge(src);
+    let verdict = judged.verdict;
+    match verdict {
+        Verdict::Absent => Outcome::Done { bytes: 0, lines: 0 },
+        Verdict::Present => keep(src, out),
+        Verdict::Refused(_, _) => repair_faulty(src, out, offsets, changes),
     }
 }

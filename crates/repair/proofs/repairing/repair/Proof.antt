@@ -1,37 +1,47 @@
--- `repair::repairing::repair` meets its contract: byte 0 names the kind by which the bytes are repaired. Assumes nothing.
-use mathlib.Core.Path.{sym, _∙_}
-use native.Mathlib.Omega.{arith}
+-- `repair::repairing::repair` meets its contract: what reading finds leads on. Assumes nothing.
+use mathlib.Core.Path.{_≡_, sym, ap, _∙_}
 use borrow.Author.Needs.{needs}
-use Rattle.repair.proofs.Calling.{call-nothing, call-known, call-unknown}
+use Rattle.fields.proofs.RoundTrip.{Bytes}
+use Rattle.codec.specs.Reading.{read}
+use Rattle.codec.specs.declared.judging.Judgement.{Judgement}
+use Rattle.codec.specs.declared.judging.Verdict.{Verdict}
+use Rattle.codec.proofs.Settling.{judged-absent, judged-present, judged-refused}
+use Rattle.repair.proofs.Calling.{refused-some, call-nothing, call-canonical}
 use Rattle.repair.proofs.repairing.repair.Statement.{statement}
 use Rattle.repair.proofs.repairing.repair.Tie as tie
 
+repair-faulty-requires : tie.Need-repair-faulty-requires
+repair-faulty-requires c κs =
+    let d = c .before .before .before .before .before .before .before .before .before .before .args .src .now in
+    refused-some d _ _ (judged-refused (read d) _ _ (sym (ap (λ (j : Judgement). j .verdict) (c .before .before .before .before .before .judge .ensures)) ∙ c .before .before .before .enum-told3 .given .1))
+
 returns : tie.Need-returns
-returns c = let a = c .before .before .before .before .before .args in call-nothing (a .src .now) (a .out .now) (a .offsets .now) (a .changes .now) (c .if1 .taken)
+returns c =
+    let a = c .before .before .before .before .before .before .before .args in
+    call-nothing (a .src .now) (a .out .now) (a .offsets .now) (a .changes .now)
+    (judged-absent (read (a .src .now)) (sym (ap (λ (j : Judgement). j .verdict) (c .before .before .judge .ensures)) ∙ c .enum-told .given .1))
 
 returns-2 : tie.Need-returns-2
 returns-2 c =
-    let a = c .before .before .before .before .before .before .before .before .before .before .before .before .before .before .before .before .before .before .before .before .args in
-    c .before .before .before .before .before .before .repair-as .ensures
-    ∙ call-known (a .src .now) (a .out .now) (a .offsets .now) (a .changes .now) (omega (arith, c .before .before .before .before .before .before .before .before .before .before .before .before .before .before .before .if1 .left)) _ (sym (c .before .before .before .before .before .before .before .before .before .before .before .before .before .kind-of-byte .ensures) ∙ c .before .before .before .before .before .before .before .before .before .before .before .kind .given .1)
-
-returns-3 : tie.Need-returns-3
-returns-3 c =
-    let a = c .before .before .before .before .before .before .before .before .before .args in
-    call-unknown (a .src .now) (a .out .now) (a .offsets .now) (a .changes .now) (omega (arith, c .before .before .before .before .if1 .left)) (sym (c .before .before .kind-of-byte .ensures) ∙ c .enum-told .given .1)
+    let a = c .before .before .before .before .before .before .before .before .before .before .before .args in
+    let bytes : Bytes (a .src .now) = λ i. c .before .before .before .before .before .before .before .before .before .before .shared-slice-known .given i .fits in
+    let f = judged-present (read (a .src .now)) (sym (ap (λ (j : Judgement). j .verdict) (c .before .before .before .before .before .before .judge .ensures)) ∙ c .before .before .before .before .enum-told2 .given .1) in
+    c .before .before .keep .ensures (a .offsets .now) (a .changes .now) ∙ call-canonical (a .src .now) (a .out .now) (a .offsets .now) (a .changes .now) (f .0) bytes (f .1)
 
 pub repair-spec : {M : Type 1} → statement M
 repair-spec =
     tie.close
     (tie.spec
+    (λ c κs. search needs)
+    (λ c. search needs)
+    (λ c. search needs)
+    (λ c κs. search needs)
+    (λ c. search needs)
+    repair-faulty-requires
     returns
     (λ c. search needs)
-    (λ c κs. search needs)
-    (λ c. search needs)
-    (λ c κs. search needs)
-    (λ c. search needs)
-    (λ c. search needs)
-    (λ c. search needs)
-    (λ c. search needs)
     returns-2
-    returns-3)
+    (λ c. search needs)
+    (λ c. search needs)
+    (λ c. search needs)
+    (λ c. search needs))
