@@ -28,3 +28,5 @@ pub mod AllLines
 pub mod Finishing
 pub mod Readying
 pub mod Calling
+pub mod Bounds
+pub mod Only

@@ -77,8 +77,9 @@ fn list_kept(
     ensures { λ r. ⌜ Listed (keptLines (ltb epoch highest) (oldOf at epoch count next)) k r (now (offsets .entry)) (now (changes .entry)) (now (offsets .exit)) (now (changes .exit)) ⌝ }
 {
     let is_longer = 2 + fields::varint_len(count) < next - at;
+    let is_moved = epoch < highest;
     let behind = put_line_if(is_longer, at, Change::ReEncoded, offsets, changes, k);
-    put_line_if(epoch < highest, at, Change::Moved, offsets, changes, behind)
+    put_line_if(is_moved, at, Change::Moved, offsets, changes, behind)
 }
 
 // The place behind a record's lines, and the highest epoch kept with it.
