@@ -1,12 +1,11 @@
 -- How much room an answer needs: no more bytes than were given, and one line for every two bytes. Assumes nothing.
-use Prim.Native.Nat.{ℕ, suc, _+_, _-_, _*_, _^_, _≤_, _<_}
-use native.Mathlib.Decide.{decLt}
+use Prim.Native.Nat.{ℕ, suc, _+_, _*_, _^_, _≤_, _<_}
 use native.Mathlib.Omega.{arith}
-use mathlib.Core.Path.{_≡_, refl, sym, ap, _∙_}
+use mathlib.Core.Path.{_≡_, refl, ap}
 use mathlib.Core.Bool.{Bool, true, false, cond}
 use mathlib.Core.Option.{Option, none, some}
 use mathlib.Core.List.{List, [], _∷_, _++_}
-use borrow.Author.Tests.{ltb-true, le-ltb}
+use borrow.Author.Tests.{ltb-true}
 use lib.Dec.{ltb}
 use lib.ListN.{length, take, drop, length-append, length-take}
 use Rattle.fields.specs.Varint.{high, value, varint}
@@ -21,17 +20,17 @@ use Rattle.codec.specs.Bytes.{recordBytes, recordsBytes, ownerBytes, headSize, 
 use Rattle.codec.specs.Reading.{baseIn, ownerIn}
 use Rattle.codec.proofs.Sizing.{length-record, length-records, length-bytes}
 use Rattle.repair.specs.Olds.{Old}
-use Rattle.repair.specs.Standing.{fits, mapOnto, mapOf}
-use Rattle.repair.specs.Changes.{Line, lineIf, keptLines, recordLines, linesAfter, cutLine, again, someAbove, dropped, keeping}
+use Rattle.repair.specs.Standing.{fits, mapOnto}
+use Rattle.repair.specs.Changes.{lineIf, keptLines, recordLines, linesAfter, cutLine, again, someAbove, dropped, keeping}
 use Rattle.repair.specs.Repairing.{Repaired, oldsIn, left, flagsLeft, kindLine, linesOf, repaired}
 use Rattle.repair.specs.declared.change.Change.{Change}
 use Rattle.repair.specs.declared.change.Change.the-variants.{ReEncoded, Moved, KindChanged}
 use Rattle.repair.proofs.Reading.{old-inv}
-use Rattle.repair.proofs.Chains.{Link, Chain, read-chain, Ends, all-read, bytes-left}
+use Rattle.repair.proofs.Chains.{Link, Chain, read-chain}
 use Rattle.repair.proofs.Columns.{line-if-short}
 use Rattle.repair.proofs.Told.{head-three}
 use Rattle.repair.proofs.Holding.{with}
-use Rattle.repair.proofs.AnswerRead.{Answers, Answered, no-bytes, some-bytes, answered}
+use Rattle.repair.proofs.AnswerRead.{Answered, no-bytes, some-bytes, answered}
 
 -- ---- lines
 
@@ -126,7 +125,7 @@ left-longer k xs h =
       length-bytes (baseIn k xs) (ownerIn k xs) (left k xs),
       length-records (left k xs),
       head-longer k xs,
-      chain-longer k xs (baseIn k xs) (headSize k) (oldsIn k xs .records) (oldsIn k xs .cut) [] (read-chain k xs) h
+      chain-longer k xs (baseIn k xs) (headSize k) (oldsIn k xs .records) (oldsIn k xs .cut) [] (read-chain k xs) h,
     )
 
 -- ---- an answer

@@ -2,9 +2,7 @@
 use Prim.Native.Nat.{ℕ}
 use mathlib.Core.Path.{_≡_, refl, sym, ap, _∙_}
 use mathlib.Core.List.{List}
-use Rattle.records.specs.Refusals.{number}
 use Rattle.records.specs.Answers.{Answer, ok, refused}
-use Rattle.records.specs.declared.refusal.Refusal.the-variants.{BadTable}
 use Rattle.records.proofs.Only.{back-only, named, named-back}
 use Rattle.repair.specs.Calls.{Sizes, After, sizes, shown, repairedInto}
 use Rattle.repair.specs.declared.repairing.Outcome.{Outcome}
@@ -23,8 +21,9 @@ pub only : (src out os cs : List ℕ) (a b : Outcome) (out′ os′ cs′ out″
     → shown a out′ os′ cs′ ≡ repairedInto src out os cs → shown b out″ os″ cs″ ≡ repairedInto src out os cs
     → (a ≡ b) × (out′ ≡ out″) × (os′ ≡ os″) × (cs′ ≡ cs″)
 only src out os cs a b out′ os′ cs′ out″ os″ cs″ p q =
-    let e = p ∙ sym q in
-    (
+    let e = p ∙ sym q in (
       back-only sizes back sizes-back a b (repairedInto src out os cs .answer) (ap (λ (x : After). x .answer) p) (ap (λ (x : After). x .answer) q),
-      ap (λ (x : After). x .out) e, ap (λ (x : After). x .offsets) e, ap (λ (x : After). x .changes) e,
+      ap (λ (x : After). x .out) e,
+      ap (λ (x : After). x .offsets) e,
+      ap (λ (x : After). x .changes) e,
     )

@@ -181,12 +181,7 @@ fn repair_as(
 }
 
 // Repairs bytes that reading refuses, by the kind that byte 0 names.
-fn repair_faulty(
-    src: &[u8],
-    out: &mut [u8],
-    offsets: &mut [usize],
-    changes: &mut [u8],
-) -> Outcome
+fn repair_faulty(src: &[u8], out: &mut [u8], offsets: &mut [usize], changes: &mut [u8]) -> Outcome
     requires { ⌜ 0 < length (now src) ⌝ }
     ensures { λ r. ⌜ shown r (now (out .exit)) (now (offsets .exit)) (now (changes .exit)) ≡ repairedInto (now (src .entry)) (now (out .entry)) (now (offsets .entry)) (now (changes .entry)) ⌝ }
 {
