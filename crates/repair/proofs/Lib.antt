@@ -30,3 +30,4 @@ pub mod Readying
 pub mod Calling
 pub mod Bounds
 pub mod Only
+pub mod Keeping
