@@ -15,6 +15,7 @@ use Rattle.rows.specs.declared.removed.Removed.{Removed}
 use Rattle.rows.specs.declared.removed.Removed.the-variants.{None, Basic, Sectioned}
 use Rattle.sums.specs.Calls.{After as AfterSum}
 use Rattle.splitting.specs.Calls.{Told, After as AfterSplit}
+use Rattle.repair.specs.Calls.{Sizes, After as AfterRepair}
 use Rattle.capi.specs.declared.types.CHead.{CHead}
 use Rattle.capi.specs.declared.types.CFlags.{CFlags}
 use Rattle.capi.specs.declared.types.CCount.{CCount}
@@ -23,6 +24,7 @@ use Rattle.capi.specs.declared.types.CSum.{CSum}
 use Rattle.capi.specs.declared.types.CSplit.{CSplit}
 use Rattle.capi.specs.declared.types.COwner.{COwner}
 use Rattle.capi.specs.declared.types.CMaybeOwner.{CMaybeOwner}
+use Rattle.capi.specs.declared.types.CRepaired.{CRepaired}
 
 -- yes is 1 and no is 0
 abbrev pub truth : Bool → ℕ
@@ -141,3 +143,25 @@ splitAnswer (refused r) = record { refusal = r; key = removalTold None; value = 
 -- the same with the lent tables
 abbrev pub splitTold : AfterSplit → SplitLeft
 splitTold a = splitLeft (splitAnswer (a .answer)) (a .key-rows) (a .value-rows)
+
+-- ---- repairs
+
+-- all that a repair leaves
+pub record RepairLeft : Type 0 where
+  pub answer : CRepaired
+  pub out : List ℕ
+  pub offsets : List ℕ
+  pub changes : List ℕ
+
+-- what was answered and left
+abbrev pub repairLeft : CRepaired → List ℕ → List ℕ → List ℕ → RepairLeft
+repairLeft a out os cs = record { answer = a; out = out; offsets = os; changes = cs }
+
+-- how many bytes and lines, or a refusal's number
+abbrev pub repairAnswer : Answer Sizes → CRepaired
+repairAnswer (ok s) = record { refusal = 0; bytes = s .bytes; lines = s .lines }
+repairAnswer (refused r) = record { refusal = r; bytes = 0; lines = 0 }
+
+-- the same with the lent output and list
+abbrev pub repairTold : AfterRepair → RepairLeft
+repairTold a = repairLeft (repairAnswer (a .answer)) (a .out) (a .offsets) (a .changes)

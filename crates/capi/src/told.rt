@@ -6,8 +6,9 @@ ghost use Rattle.records.specs.Answers.{ok, refused, shown, counted};
 ghost use Rattle.rows.specs.Calls.{told, totalled};
 ghost use Rattle.sums.specs.Calls.{told as toldSum};
 ghost use Rattle.splitting.specs.Calls.{told as toldSplit};
+ghost use Rattle.repair.specs.Calls.{sizes};
 ghost use Rattle.rows.specs.declared.removed.Removed.the-variants.{None};
-ghost use Rattle.capi.specs.Told.{headTold, flagsAnswer, countTold, truthTold, ownerTold, ownerIdTold, removalTold, sumAnswer, splitAnswer};
+ghost use Rattle.capi.specs.Told.{headTold, flagsAnswer, countTold, truthTold, ownerTold, ownerIdTold, removalTold, sumAnswer, splitAnswer, repairAnswer};
 use crate::types::CCount;
 use crate::types::CFlags;
 use crate::types::CHead;
@@ -15,6 +16,7 @@ use crate::types::CId;
 use crate::types::CMaybeOwner;
 use crate::types::COwner;
 use crate::types::CRemoval;
+use crate::types::CRepaired;
 use crate::types::CSplit;
 use crate::types::CSum;
 use flags::Choice;
@@ -233,6 +235,24 @@ pub fn split(splitting: Splitting) -> CSplit
             key: no_removal(),
             value: no_removal(),
             visited: 0,
+        },
+    }
+}
+
+// How many bytes and lines, or a refusal.
+pub fn repaired(outcome: repair::Outcome) -> CRepaired
+    ensures { λ r. ⌜ r ≡ repairAnswer (sizes outcome) ⌝ }
+{
+    match outcome {
+        repair::Outcome::Done { bytes, lines } => CRepaired {
+            refusal: 0,
+            bytes,
+            lines,
+        },
+        repair::Outcome::Refused(refusal) => CRepaired {
+            refusal: refusal.number(),
+            bytes: 0,
+            lines: 0,
         },
     }
 }

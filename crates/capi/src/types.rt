@@ -68,3 +68,11 @@ pub struct CMaybeOwner {
     pub present: u8,
     pub id: CId,
 }
+
+// How many bytes and lines of a repair stand in what was lent for them, or a refusal.
+#[repr(C)]
+pub struct CRepaired {
+    pub refusal: u32,
+    pub bytes: usize,
+    pub lines: usize,
+}

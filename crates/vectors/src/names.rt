@@ -30,6 +30,7 @@ pub fn print_name(call: usize) {
         19 => say(b"set_owner_id"),
         20 => say(b"base_epoch"),
         21 => say(b"owner_id"),
-        _ => say(b"type_byte"),
+        22 => say(b"type_byte"),
+        _ => say(b"repair"),
     }
 }

@@ -112,6 +112,17 @@ pub fn take_counts<'a>(src: &[u8], at: &mut usize, counts: &'a mut [u32]) -> &'a
     &mut counts[..n]
 }
 
+// A table of offsets; answers its places.
+pub fn take_offsets<'a>(src: &[u8], at: &mut usize, offsets: &'a mut [usize]) -> &'a mut [usize] {
+    let n = take_places(src, at, offsets.len());
+    let mut k: usize = 0;
+    while k < n {
+        offsets[k] = take_u16(src, at) as usize;
+        k += 1;
+    }
+    &mut offsets[..n]
+}
+
 // A table of identifiers; answers its places.
 pub fn take_ids<'a>(src: &[u8], at: &mut usize, ids: &'a mut [[u8; 32]]) -> &'a mut [[u8; 32]] {
     let n = take_places(src, at, ids.len());

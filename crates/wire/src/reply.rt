@@ -92,6 +92,17 @@ fn tell_counts(reply: &[u8], at: usize, counts: &[u32]) -> usize {
     to
 }
 
+// A table of offsets.
+pub fn tell_offsets(reply: &[u8], at: usize, offsets: &[usize]) -> usize {
+    let mut to = tell_len(reply, at, offsets.len());
+    let mut k: usize = 0;
+    while k < offsets.len() {
+        to = tell_len(reply, to, offsets[k]);
+        k += 1;
+    }
+    to
+}
+
 // A table of identifiers.
 fn tell_ids(reply: &[u8], at: usize, ids: &[[u8; 32]]) -> usize {
     let mut to = tell_len(reply, at, ids.len());

@@ -1,0 +1,20 @@
+-- `capi::repairing::petasunok_repair` meets its contract: the call's own answer is told. Assumes nothing.
+use Rattle.capi.proofs.Telling.{repair-told}
+use borrow.Author.Needs.{needs}
+use Rattle.capi.proofs.repairing.petasunok_repair.Statement.{statement}
+use Rattle.capi.proofs.repairing.petasunok_repair.Tie as tie
+
+returns : tie.Need-returns
+returns c =
+    repair-told _ (c .before .before .before .before .before .before .before .repair .result) _ _ _ _ (c .repaired .ensures) (c .before .before .before .before .before .before .before .repair .ensures)
+
+pub petasunok-repair-spec : {M : Type 1} → statement M
+petasunok-repair-spec =
+    tie.close
+    (tie.spec
+    (λ c κs. search needs)
+    (λ c κs. search needs)
+    (λ c. search needs)
+    (λ c. search needs)
+    (λ c. search needs)
+    returns)
