@@ -1,0 +1,79 @@
+// Repairs the old flag bytes on standard input: canonical bytes to standard output, the list of changes to standard error.
+ghost use mathlib.Core.Path.{_≡_};
+ghost use lib.ListN.{length};
+use libc::STDERR_FILENO;
+use libc::STDIN_FILENO;
+use libc::STDOUT_FILENO;
+use records::Refusal;
+use repair::Outcome;
+
+// Says something on standard error.
+fn say(text: &[u8]) {
+    io::write_all(STDERR_FILENO, text);
+}
+
+// Says which refusal there is.
+fn say_refused(refusal: Refusal) {
+    let mut text = [0u8; 32];
+    let n = listing::put_line(&mut text, 0, b"refused ", refusal.number() as u64);
+    say(&text[..n]);
+}
+
+// Writes the list, chunk by chunk.
+fn write_list(offsets: &[usize], changes: &[u8])
+    requires { ⌜ length (now offsets) ≡ length (now changes) ⌝ }
+{
+    let mut text = io::large_buffer();
+    let mut next: usize = 0;
+    while next < offsets.len() {
+        let chunk = change_lines::put_lines(offsets, changes, next, &mut text);
+        let size = chunk.size;
+        say(&text[..size]);
+        next = chunk.next;
+    }
+}
+
+// Writes the bytes, and then the list.
+fn write_repaired(bytes: &[u8], offsets: &[usize], changes: &[u8])
+    requires { ⌜ length (now offsets) ≡ length (now changes) ⌝ }
+{
+    if io::write_all(STDOUT_FILENO, bytes) {
+        write_list(offsets, changes);
+        return;
+    }
+    say(b"cannot write\n");
+}
+
+// Repairs bytes with what is lent for the answer and the list.
+fn migrate(src: &[u8], out: &mut [u8], offsets: &mut [usize], changes: &mut [u8]) {
+    match repair::repair(src, out, offsets, changes) {
+        Outcome::Done { bytes, lines } => {
+            write_repaired(&out[..bytes], &offsets[..lines], &changes[..lines]);
+        }
+        Outcome::Refused(refusal) => say_refused(refusal),
+    }
+}
+
+// Whether the input has ended: a read that failed is no end of the bytes.
+fn at_end() -> bool {
+    let mut byte = [0u8; 1];
+    libc::read(STDIN_FILENO, &mut byte) == 0
+}
+
+// One byte more than is repaired is read, so that too many are seen.
+fn main() {
+    let mut src = [0u8; 786456];
+    let got = io::read_full(STDIN_FILENO, &mut src);
+    if 786455 < got {
+        say(b"too long\n");
+        return;
+    }
+    if at_end() {
+        let mut out = [0u8; 458780];
+        let mut offsets = [0usize; 393228];
+        let mut changes = [0u8; 393228];
+        migrate(&src[..got], &mut out, &mut offsets, &mut changes);
+        return;
+    }
+    say(b"cannot read\n");
+}
