@@ -1,21 +1,37 @@
 // Repairs the old flag bytes on standard input: canonical bytes to standard output, the list of changes to standard error.
+ghost use Prim.Native.Nat.{_≤_};
 ghost use mathlib.Core.Path.{_≡_};
-ghost use lib.ListN.{length};
+ghost use lib.ListN.{length, take};
+ghost use Rattle.io.specs.Counts.{Counts};
+ghost use Rattle.records.specs.Refusals.{number};
+ghost use Rattle.listing.specs.Text.{line};
 use libc::STDERR_FILENO;
 use libc::STDIN_FILENO;
 use libc::STDOUT_FILENO;
 use records::Refusal;
 use repair::Outcome;
 
+// The most bytes that are repaired: a head of 35, and 65,535 records of 12.
+const MOST: usize = 786455;
+
 // Says something on standard error.
 fn say(text: &[u8]) {
     io::write_all(STDERR_FILENO, text);
 }
 
+// Puts what is said of a refusal at the start of `out`; answers the text's length.
+fn refusal_text(refusal: Refusal, out: &mut [u8]) -> usize
+    requires { ⌜ 11 ≤ length (now out) ⌝ }
+    ensures { λ r. ⌜ Counts r (now (out .exit)) ⌝ }
+    ensures { λ r. ⌜ take r (now (out .exit)) ≡ line "refused " (number refusal) ⌝ }
+{
+    listing::put_line(out, 0, b"refused ", refusal.number() as u64)
+}
+
 // Says which refusal there is.
 fn say_refused(refusal: Refusal) {
-    let mut text = [0u8; 32];
-    let n = listing::put_line(&mut text, 0, b"refused ", refusal.number() as u64);
+    let mut text = io::buffer();
+    let n = refusal_text(refusal, &mut text);
     say(&text[..n]);
 }
 
@@ -60,20 +76,24 @@ fn at_end() -> bool {
     libc::read(STDIN_FILENO, &mut byte) == 0
 }
 
-// One byte more than is repaired is read, so that too many are seen.
-fn main() {
-    let mut src = [0u8; 786456];
-    let got = io::read_full(STDIN_FILENO, &mut src);
-    if 786455 < got {
+// Reads bytes and repairs them. `src` has room for one byte more than is repaired, so that too many are seen.
+fn run(src: &mut [u8], out: &mut [u8], offsets: &mut [usize], changes: &mut [u8]) {
+    let got = io::read_full(STDIN_FILENO, src);
+    if MOST < got {
         say(b"too long\n");
         return;
     }
     if at_end() {
-        let mut out = [0u8; 458780];
-        let mut offsets = [0usize; 393228];
-        let mut changes = [0u8; 393228];
-        migrate(&src[..got], &mut out, &mut offsets, &mut changes);
+        migrate(&src[..got], out, offsets, changes);
         return;
     }
     say(b"cannot read\n");
+}
+
+fn main() {
+    let mut src = [0u8; 786456];
+    let mut out = [0u8; 458780];
+    let mut offsets = [0usize; 393228];
+    let mut changes = [0u8; 393228];
+    run(&mut src, &mut out, &mut offsets, &mut changes);
 }
