@@ -15,10 +15,9 @@ longest = 36
 abbrev pub between : ℕ → ℕ → List ℕ → List ℕ → List Line
 between i end os cs = drop i (take end (linesIn os cs))
 
--- a line's text stands at a place, and the place behind it
+-- a line's text stands at a place, and the place behind it is not far
 pub record OneLine (l : Line) (at next : ℕ) (old new : List ℕ) : Type 0 where
   pub put : Put (lineText l) at next old new
-  pub some : at < next
   pub short : next ≤ at + longest
 
 -- the text of the lines from a place up to another stands at the start; where any are left, that is one line at least

@@ -9,7 +9,7 @@ ghost use Rattle.change_lines.specs.Chunks.{longest, OneLine, Chunked};
 use listing::put_decimal;
 use listing::put_text;
 
-// The most bytes of a line: 20 digits, a blank, 14 letters and the line end.
+// The most bytes of a line: 20 digits, a blank, words of 14 bytes and the line end.
 const LINE: usize = 36;
 
 // The line behind those that were put, and how many bytes their text has.

@@ -51,7 +51,6 @@ returns c =
     let p = parts-last (parts-put (parts-put (parts-put (parts-start _ _ _) refl d) refl b) refl w) e in
     record {
       put = p;
-      some = omega (arith, p .behind, length-line (written s));
       short = omega (arith, p .behind, short s);
     }
 
