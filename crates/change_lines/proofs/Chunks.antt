@@ -10,7 +10,6 @@ use Rattle.fields.proofs.Parts.{parts-start, parts-put, parts-last, put-long}
 use Rattle.repair.specs.Changes.{Line, line}
 use Rattle.change_lines.specs.Text.{lineText, linesText, changeOf, linesIn}
 use Rattle.change_lines.specs.Chunks.{longest, between, OneLine, Chunked}
-use Rattle.change_lines.specs.declared.Chunk.{Chunk}
 use Rattle.change_lines.proofs.Texts.{text-append, length-lines, lines-more}
 
 -- the lines from the place from up to the place next are put, and take size bytes

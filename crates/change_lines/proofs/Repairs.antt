@@ -6,7 +6,6 @@ use mathlib.Core.Bool.{Bool, true, false, cond, _&&_}
 use mathlib.Core.List.{List}
 use lib.Dec.{leb}
 use lib.ListN.{length, take}
-use lib.Seq.{length-take-le}
 use Rattle.records.specs.Tables.{over}
 use Rattle.records.specs.Answers.{Answer, ok, refused, roomFor}
 use Rattle.records.proofs.Tables.{over-first, over-holds}

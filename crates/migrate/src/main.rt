@@ -90,6 +90,7 @@ fn run(src: &mut [u8], out: &mut [u8], offsets: &mut [usize], changes: &mut [u8]
     say(b"cannot read\n");
 }
 
+// Lends room for the bytes and one more, for the largest answer and for the longest list that so many bytes can have.
 fn main() {
     let mut src = [0u8; 786456];
     let mut out = [0u8; 458780];

@@ -1,10 +1,9 @@
 -- `change_lines::put_lines` meets its contract. The invariant: the lines up to the next one are put. The measure is the number of those
 -- left. Assumes nothing.
-use Prim.Native.Nat.{_-_, _+_, _≤_}
+use Prim.Native.Nat.{_-_}
 use native.Mathlib.Omega.{arith}
 use borrow.Author.Needs.{needs}
 use lib.ListN.{length}
-use Rattle.change_lines.specs.Chunks.{longest}
 use Rattle.change_lines.proofs.Chunks.{Putting, putting-start, putting-line, putting-full, putting-all}
 use Rattle.change_lines.proofs.put_lines.Statement.{statement}
 use Rattle.change_lines.proofs.put_lines.Tie as tie
