@@ -14,9 +14,9 @@ use repair::Outcome;
 // The most bytes that are repaired: a head of 35, and 65,535 records of 12.
 const MOST: usize = 786455;
 
-// Says something on standard error.
-fn say(text: &[u8]) {
-    io::write_all(STDERR_FILENO, text);
+// Says something on standard error; answers whether all of it was taken.
+fn say(text: &[u8]) -> bool {
+    io::write_all(STDERR_FILENO, text)
 }
 
 // Puts what is said of a refusal at the start of `out`; answers the text's length.
@@ -35,7 +35,7 @@ fn say_refused(refusal: Refusal) {
     say(&text[..n]);
 }
 
-// Writes the list, chunk by chunk.
+// Writes the list, chunk by chunk. It ends at a chunk that is not taken whole, so that no line in the midst is missing.
 fn write_list(offsets: &[usize], changes: &[u8])
     requires { ⌜ length (now offsets) ≡ length (now changes) ⌝ }
 {
@@ -44,8 +44,11 @@ fn write_list(offsets: &[usize], changes: &[u8])
     while next < offsets.len() {
         let chunk = change_lines::put_lines(offsets, changes, next, &mut text);
         let size = chunk.size;
-        say(&text[..size]);
-        next = chunk.next;
+        if say(&text[..size]) {
+            next = chunk.next;
+        } else {
+            return;
+        }
     }
 }
 

@@ -17,13 +17,13 @@ abbrev μ-loop : tie.MeasureT-loop
 
 loop-again : tie.Need-loop-again Inv-loop μ-loop
 loop-again c =
-    let p = c .before .before .before .put-lines .ensures in
-    (p .inside, put-long (p .put) ∙ c .before .before .before .before .before .before .loop .inv .1)
+    let p = c .before .before .before .before .put-lines .ensures in
+    (p .inside, put-long (p .put) ∙ c .before .before .before .before .before .before .before .loop .inv .1)
 
 loop-less : tie.Need-loop-less Inv-loop μ-loop
 loop-less c =
-    let p = c .before .before .before .put-lines .ensures in
-    omega (arith, p .inside, p .goes-on (c .before .before .before .before .before .loop-test .taken))
+    let p = c .before .before .before .before .put-lines .ensures in
+    omega (arith, p .inside, p .goes-on (c .before .before .before .before .before .before .loop-test .taken))
 
 pub write-list-spec : {M : Type 1} → statement M
 write-list-spec =
@@ -40,4 +40,5 @@ write-list-spec =
     (λ c κs. search needs)
     loop-less
     loop-again
+    (λ c. search needs)
     (λ c. search needs))
