@@ -141,7 +141,7 @@ short-owner true d = omega (arith, length-owner (take 32 d), length-hex (take 32
 short-owner false d = omega arith
 
 -- a line of a word and a number of k digits at most
-short-number : (word : List ℕ) (k n : ℕ) → n < 10 ^ suc k → length (word ++ (decimal n ++ ascii "\n")) ≤ length word + k + 2
+pub short-number : (word : List ℕ) (k n : ℕ) → n < 10 ^ suc k → length (word ++ (decimal n ++ ascii "\n")) ≤ length word + k + 2
 short-number word k n h = omega (arith, length-line word n, length-below k n h)
 
 flags-fit : (src : List ℕ) (f : Flags) → Bytes src → length src ≤ most → read src ≡ someFlags f → length (flagsText f) ≤ longest
@@ -164,7 +164,7 @@ flags-fit src f b h e =
       short-number (ascii "records ") 3 (length rs) (omega arith),
     ))
 
-number-below : (r : Refusal) → number r < 100
+pub number-below : (r : Refusal) → number r < 100
 number-below UnknownType = omega arith
 number-below WrongSize = omega arith
 number-below NonCanonical = omega arith

@@ -3,6 +3,9 @@ mod digits;
 mod flags;
 mod lines;
 
+pub use digits::put_decimal;
+pub use lines::put_line;
+pub use lines::put_text;
 ghost use mathlib.Core.Path.{_≡_};
 ghost use Prim.Native.Nat.{_≤_};
 ghost use lib.ListN.{length};
@@ -10,7 +13,6 @@ ghost use Rattle.records.specs.Answers.{wrote, writing};
 ghost use Rattle.listing.specs.Listed.{most, places, listed};
 use crate::flags::answer_len;
 use crate::flags::put_answer;
-use crate::lines::put_text;
 use records::Counted;
 use records::Refusal;
 

@@ -1,0 +1,74 @@
+// The list of changes as lines of text.
+ghost use Prim.Native.Nat.{_+_, _≤_};
+ghost use mathlib.Core.Path.{_≡_};
+ghost use lib.ListN.{length};
+ghost use Rattle.fields.specs.Writing.{Put};
+ghost use Rattle.repair.specs.Changes.{line};
+ghost use Rattle.change_lines.specs.Text.{words, changeOf};
+ghost use Rattle.change_lines.specs.Chunks.{longest, OneLine, Chunked};
+use listing::put_decimal;
+use listing::put_text;
+
+// The most bytes of a line: 20 digits, a blank, words of 14 bytes and the line end.
+const LINE: usize = 36;
+
+// The line behind those that were put, and how many bytes their text has.
+pub struct Chunk {
+    pub next: usize,
+    pub size: usize,
+}
+
+// Writes the words of the change with a number at `at`; answers the place behind them.
+pub fn put_words(out: &mut [u8], at: usize, change: u8) -> usize
+    requires { ⌜ at + 14 ≤ length (now out) ⌝ }
+    ensures { λ r. ⌜ Put (words (changeOf change)) at r (now (out .entry)) (now (out .exit)) ⌝ }
+{
+    if change == 1 {
+        return put_text(out, at, b"re-encoded");
+    }
+    if change == 2 {
+        return put_text(out, at, b"too large");
+    }
+    if change == 3 {
+        return put_text(out, at, b"not above base");
+    }
+    if change == 4 {
+        return put_text(out, at, b"replaced");
+    }
+    if change == 5 {
+        return put_text(out, at, b"tail cut");
+    }
+    if change == 6 {
+        return put_text(out, at, b"moved");
+    }
+    put_text(out, at, b"kind changed")
+}
+
+// Writes a line at `at`; answers the place behind it.
+pub fn put_line(out: &mut [u8], at: usize, offset: usize, change: u8) -> usize
+    requires { ⌜ at + longest ≤ length (now out) ⌝ }
+    ensures { λ r. ⌜ OneLine (line offset (changeOf change)) at r (now (out .entry)) (now (out .exit)) ⌝ }
+{
+    let blank = put_decimal(out, at, offset as u64);
+    let words = put_text(out, blank, b" ");
+    let end = put_words(out, words, change);
+    put_text(out, end, b"\n")
+}
+
+// Writes lines at the start of `out`, from the line at `from` on, until one might have no room or none is left.
+pub fn put_lines(offsets: &[usize], changes: &[u8], from: usize, out: &mut [u8]) -> Chunk
+    requires { ⌜ (length (now offsets) ≡ length (now changes)) × (from ≤ length (now offsets)) ⌝ }
+    requires { ⌜ longest ≤ length (now out) ⌝ }
+    ensures { λ r. ⌜ Chunked (now (offsets .entry)) (now (changes .entry)) from r (now (out .entry)) (now (out .exit)) ⌝ }
+{
+    let mut size: usize = 0;
+    let mut next = from;
+    while next < offsets.len() {
+        if out.len() - size < LINE {
+            return Chunk { next, size };
+        }
+        size = put_line(out, size, offsets[next], changes[next]);
+        next += 1;
+    }
+    Chunk { next, size }
+}

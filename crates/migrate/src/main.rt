@@ -1,0 +1,103 @@
+// Repairs the old flag bytes on standard input: canonical bytes to standard output, the list of changes to standard error.
+ghost use Prim.Native.Nat.{_≤_};
+ghost use mathlib.Core.Path.{_≡_};
+ghost use lib.ListN.{length, take};
+ghost use Rattle.io.specs.Counts.{Counts};
+ghost use Rattle.records.specs.Refusals.{number};
+ghost use Rattle.listing.specs.Text.{line};
+use libc::STDERR_FILENO;
+use libc::STDIN_FILENO;
+use libc::STDOUT_FILENO;
+use records::Refusal;
+use repair::Outcome;
+
+// The most bytes that are repaired: a head of 35, and 65,535 records of 12.
+const MOST: usize = 786455;
+
+// Says something on standard error; answers whether all of it was taken.
+fn say(text: &[u8]) -> bool {
+    io::write_all(STDERR_FILENO, text)
+}
+
+// Puts what is said of a refusal at the start of `out`; answers the text's length.
+fn refusal_text(refusal: Refusal, out: &mut [u8]) -> usize
+    requires { ⌜ 11 ≤ length (now out) ⌝ }
+    ensures { λ r. ⌜ Counts r (now (out .exit)) ⌝ }
+    ensures { λ r. ⌜ take r (now (out .exit)) ≡ line "refused " (number refusal) ⌝ }
+{
+    listing::put_line(out, 0, b"refused ", refusal.number() as u64)
+}
+
+// Says which refusal there is.
+fn say_refused(refusal: Refusal) {
+    let mut text = io::buffer();
+    let n = refusal_text(refusal, &mut text);
+    say(&text[..n]);
+}
+
+// Writes the list, chunk by chunk. It ends at a chunk that is not taken whole, so that no line in the midst is missing.
+fn write_list(offsets: &[usize], changes: &[u8])
+    requires { ⌜ length (now offsets) ≡ length (now changes) ⌝ }
+{
+    let mut text = io::large_buffer();
+    let mut next: usize = 0;
+    while next < offsets.len() {
+        let chunk = change_lines::put_lines(offsets, changes, next, &mut text);
+        let size = chunk.size;
+        if say(&text[..size]) {
+            next = chunk.next;
+        } else {
+            return;
+        }
+    }
+}
+
+// Writes the bytes, and then the list.
+fn write_repaired(bytes: &[u8], offsets: &[usize], changes: &[u8])
+    requires { ⌜ length (now offsets) ≡ length (now changes) ⌝ }
+{
+    if io::write_all(STDOUT_FILENO, bytes) {
+        write_list(offsets, changes);
+        return;
+    }
+    say(b"cannot write\n");
+}
+
+// Repairs bytes with what is lent for the answer and the list.
+fn migrate(src: &[u8], out: &mut [u8], offsets: &mut [usize], changes: &mut [u8]) {
+    match repair::repair(src, out, offsets, changes) {
+        Outcome::Done { bytes, lines } => {
+            write_repaired(&out[..bytes], &offsets[..lines], &changes[..lines]);
+        }
+        Outcome::Refused(refusal) => say_refused(refusal),
+    }
+}
+
+// Whether the input has ended: a read that failed is no end of the bytes.
+fn at_end() -> bool {
+    let mut byte = [0u8; 1];
+    libc::read(STDIN_FILENO, &mut byte) == 0
+}
+
+// Reads bytes and repairs them. `src` has room for one byte more than is repaired, so that too many are seen.
+fn run(src: &mut [u8], out: &mut [u8], offsets: &mut [usize], changes: &mut [u8]) {
+    let got = io::read_full(STDIN_FILENO, src);
+    if MOST < got {
+        say(b"too long\n");
+        return;
+    }
+    if at_end() {
+        migrate(&src[..got], out, offsets, changes);
+        return;
+    }
+    say(b"cannot read\n");
+}
+
+// Lends room for the bytes and one more, for the largest answer and for the longest list that so many bytes can have.
+fn main() {
+    let mut src = [0u8; 786456];
+    let mut out = [0u8; 458780];
+    let mut offsets = [0usize; 393228];
+    let mut changes = [0u8; 393228];
+    run(&mut src, &mut out, &mut offsets, &mut changes);
+}
