@@ -9,7 +9,8 @@ use borrow.Author.Tests.{ltb-true}
 use lib.Dec.{ltb}
 use lib.ListN.{length, take, drop, length-append, length-take}
 use Rattle.fields.specs.Varint.{high, value, varint}
-use Rattle.fields.proofs.Varints.{length-pos}
+use Rattle.fields.proofs.Varints.{length-pos, length-five}
+use Rattle.fields.proofs.RoundTrip.{Bytes}
 use Rattle.fields.proofs.Places.{value-below, length-below}
 use Rattle.records.specs.Tables.{At, _⦂_, put}
 use Rattle.records.specs.Flags.{owned, multi, ownerIf}
@@ -18,6 +19,7 @@ use Rattle.records.specs.declared.head.Kind.{Kind}
 use Rattle.records.proofs.Unions.{put-cases}
 use Rattle.codec.specs.Bytes.{recordBytes, recordsBytes, ownerBytes, headSize, bytesOf}
 use Rattle.codec.specs.Reading.{baseIn, ownerIn}
+use Rattle.codec.proofs.RoundTrip.{Canonical}
 use Rattle.codec.proofs.Sizing.{length-record, length-records, length-bytes}
 use Rattle.repair.specs.Olds.{Old}
 use Rattle.repair.specs.Standing.{fits, mapOnto}
@@ -30,7 +32,7 @@ use Rattle.repair.proofs.Chains.{Link, Chain, read-chain}
 use Rattle.repair.proofs.Columns.{line-if-short}
 use Rattle.repair.proofs.Told.{head-three}
 use Rattle.repair.proofs.Holding.{with}
-use Rattle.repair.proofs.AnswerRead.{Answered, no-bytes, some-bytes, answered}
+use Rattle.repair.proofs.AnswerRead.{left-canonical, left-proper, Answered, no-bytes, some-bytes, answered}
 
 -- ---- lines
 
@@ -128,6 +130,38 @@ left-longer k xs h =
       chain-longer k xs (baseIn k xs) (headSize k) (oldsIn k xs .records) (oldsIn k xs .cut) [] (read-chain k xs) h,
     )
 
+-- records of 16 bits of epoch and 32 of count, each at an epoch of its own, have at most 7 bytes for each epoch
+canonical-most : (prev : ℕ) (rs : List At) → Canonical prev rs → prev ≤ 65535 → length (recordsBytes rs) + 7 * prev ≤ 7 * 65535
+unfolding recordsBytes
+canonical-most prev [] c h = omega arith
+canonical-most prev (r ∷ rs) c h =
+    omega (
+      arith,
+      c .0,
+      canonical-most (r .epoch) rs (c .3) (omega (arith, c .1)),
+      length-append (recordBytes r) (recordsBytes rs),
+      length-record r,
+      length-five (r .bytes) (c .2),
+    )
+
+left-most : (k : Kind) (xs : List ℕ) → Bytes xs → headSize k ≤ length xs → length (bytesOf (flagsLeft k xs)) ≤ 458780
+left-most k xs bs h =
+    omega (
+      arith,
+      length-bytes (baseIn k xs) (ownerIn k xs) (left k xs),
+      length-records (left k xs),
+      head-longer k xs,
+      head-most k,
+      canonical-most (baseIn k xs) (left k xs) (left-canonical k xs bs) (omega (arith, left-proper k xs bs h .base-fits)),
+    )
+  where
+    head-most : (k : Kind) → headSize k ≤ 35
+    head-most k = by (owned k)
+      where
+        by : (b : Bool) → cond b 35 3 ≤ 35
+        by true = omega arith
+        by false = omega arith
+
 -- ---- an answer
 
 -- what holds of no bytes and of bytes of a kind holds of every answer
@@ -145,3 +179,7 @@ never-longer xs r e = of-answers xs r (λ ys a. length (a .bytes) ≤ length ys)
 -- AND HAS AT MOST ONE LINE FOR TWO BYTES, rounded up
 pub answer-few : (xs : List ℕ) (r : Repaired) → repaired xs ≡ ok r → 2 * length (r .lines) ≤ length xs + 1
 answer-few xs r e = of-answers xs r (λ ys a. 2 * length (a .lines) ≤ length ys + 1) (omega arith) (λ k h. few-lines k xs h) (answered xs r e)
+
+-- AND IS NEVER LONGER THAN THE LONGEST FLAGS, 458,780 bytes
+pub answer-most : (xs : List ℕ) (r : Repaired) → Bytes xs → repaired xs ≡ ok r → length (r .bytes) ≤ 458780
+answer-most xs r bs e = of-answers xs r (λ ys a. length (a .bytes) ≤ 458780) (omega arith) (λ k h. left-most k xs bs h) (answered xs r e)

@@ -17,8 +17,9 @@ shuffled records of which each epoch has two. The last line says whether the cos
 /// have.
 const SIZES: [usize; 4] = [16, 256, 4_096, 60_000];
 
-/// A byte of the last size costs at most so many times what one of the size before it does.
-const MOST_GROWTH: f64 = 1.5;
+/// A byte of the last size costs at most so many times what one of the size before it does. Where each record looked at all others, it would
+/// be fifteen times; caches and a busy machine are seen to make it up to one and a half.
+const MOST_GROWTH: f64 = 3.0;
 
 /// The rounds of a run that does not say.
 const ROUNDS: usize = 31;
