@@ -8,7 +8,7 @@ ghost use Rattle.repair.specs.Olds.{oldAt};
 ghost use Rattle.repair.specs.Steps.{gotOf};
 use crate::padded::capped_value;
 use crate::padded::end_of;
-use fields::Reading;
+use fields::Judged;
 
 // What reading an old record finds: none, since it is cut; one whose count is too large, and the place behind it; or one whose count
 // fits 32 bits.
@@ -37,7 +37,8 @@ fn read_padded(src: &[u8], at: usize, epoch: u16) -> Got
     Got::TooLarge { next }
 }
 
-// Reads the record at `at`.
+// Reads the record at `at`. Not by `read_varint`: with a second caller it would no longer be compiled into the reading of flags, which is
+// slower by half then.
 pub fn read_old(src: &[u8], at: usize) -> Got
     requires { ⌜ at ≤ length (now src) ⌝ }
     ensures { λ r. ⌜ r ≡ gotOf (oldAt at (drop at (now (src .entry)))) ⌝ }
@@ -46,13 +47,16 @@ pub fn read_old(src: &[u8], at: usize) -> Got
         return Got::Cut;
     }
     let epoch = fields::be16_at(src, at);
-    match fields::read_varint(src, at + 2) {
-        Reading::Incomplete(_) => Got::Cut,
-        Reading::NotCanonical(_) => read_padded(src, at, epoch),
-        Reading::Whole(varint) => Got::Fits {
-            epoch,
-            count: varint.count,
-            next: varint.next,
-        },
+    match fields::judge_varint(src, at + 2) {
+        Judged::Incomplete(_) => Got::Cut,
+        Judged::NotCanonical(_) => read_padded(src, at, epoch),
+        Judged::Ends(_) => {
+            let varint = fields::varint_at(src, at + 2);
+            Got::Fits {
+                epoch,
+                count: varint.count,
+                next: varint.next,
+            }
+        }
     }
 }

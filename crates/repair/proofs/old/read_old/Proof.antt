@@ -5,7 +5,7 @@ use native.Mathlib.Omega.{arith}
 use lib.ListN.{drop, length-drop}
 use borrow.Author.Needs.{needs}
 use Rattle.fields.specs.Varint.{found}
-use Rattle.fields.proofs.Told.{told-read, read-incomplete, read-strange}
+use Rattle.fields.proofs.Told.{told-incomplete, told-strange, told-ends, told-read}
 use Rattle.repair.specs.Steps.{gotOf}
 use Rattle.repair.proofs.Reading.{old-short}
 use Rattle.repair.proofs.Getting.{at-incomplete, at-whole}
@@ -21,23 +21,29 @@ read-padded-requires : tie.Need-read-padded-requires
 read-padded-requires c κs =
     let a = c .before .before .before .before .before .before .args in (
       omega (arith, c .before .before .before .before .if1 .left),
-      (c .before .before .before .be16-at .ensures, read-strange (a .at + 2) _ (found (drop (a .at + 2) (a .src .now))) (sym (c .before .before .read-varint .ensures) ∙ c .enum-told2 .given .1)),
+      (c .before .before .before .be16-at .ensures, told-strange (a .at + 2) _ (found (drop (a .at + 2) (a .src .now))) (sym (c .before .before .judge-varint .ensures) ∙ c .enum-told2 .given .1) .0),
     )
+
+varint-at-requires : tie.Need-varint-at-requires
+varint-at-requires c κs =
+    let a = c .before .before .before .before .before .before .args in
+    let t = told-ends (a .at + 2) _ (found (drop (a .at + 2) (a .src .now))) (sym (c .before .before .judge-varint .ensures) ∙ c .enum-told3 .given .1) in
+    rw (t .is-whole)
 
 returns-2 : tie.Need-returns-2
 returns-2 c =
     let a = c .before .before .before .before .before .before .args in
     let d = a .src .now in
     sym (ap gotOf (at-incomplete d (a .at) (omega (arith, c .before .before .before .before .if1 .left))
-    (read-incomplete (a .at + 2) _ (found (drop (a .at + 2) d)) (sym (c .before .before .read-varint .ensures) ∙ c .enum-told .given .1))))
+    (told-incomplete (a .at + 2) _ (found (drop (a .at + 2) d)) (sym (c .before .before .judge-varint .ensures) ∙ c .enum-told .given .1) .0)))
 
 returns-4 : tie.Need-returns-4
 returns-4 c =
     let a = c .before .before .before .before .before .before .before .args in
     let d = a .src .now in
-    let v = c .before .varint .given in
-    let t = told-read (a .at + 2) (v .0 .0 .count) (v .0 .0 .next) (found (drop (a .at + 2) d)) (sym (v .1) ∙ c .before .before .before .read-varint .ensures) in
-    at-whole d (a .at) (omega (arith, c .before .before .before .before .before .if1 .left)) _ (v .0 .0 .count) (t .0) (v .0 .0 .next) (c .before .before .before .before .be16-at .ensures) (t .2) (t .1)
+    let v = c .varint-at .result in
+    let t = told-read (a .at + 2) (v .count) (v .next) (found (drop (a .at + 2) d)) (c .varint-at .ensures) in
+    at-whole d (a .at) (omega (arith, c .before .before .before .before .before .if1 .left)) _ (v .count) (t .0) (v .next) (c .before .before .before .before .be16-at .ensures) (t .2) (t .1)
 
 pub read-old-spec : {M : Type 1} → statement M
 read-old-spec =
@@ -52,6 +58,8 @@ read-old-spec =
     (λ c. search needs)
     read-padded-requires
     (λ c. search needs)
+    (λ c. search needs)
+    varint-at-requires
     returns-2
     (λ c. search needs)
     returns-4)
