@@ -37,8 +37,8 @@ fn read_padded(src: &[u8], at: usize, epoch: u16) -> Got
     Got::TooLarge { next }
 }
 
-// Reads the record at `at`. Not by `read_varint`: with a second caller it would no longer be compiled into the reading of flags, which is
-// slower by half then.
+// Reads the record at `at`. Its varint is judged and then read: a second caller of `read_varint` would keep that from being compiled into the
+// reading of flags, which takes up to twice the time then.
 pub fn read_old(src: &[u8], at: usize) -> Got
     requires { ⌜ at ≤ length (now src) ⌝ }
     ensures { λ r. ⌜ r ≡ gotOf (oldAt at (drop at (now (src .entry)))) ⌝ }
