@@ -19,7 +19,7 @@ pub struct Chunk {
 }
 
 // Writes the words of the change with a number at `at`; answers the place behind them.
-pub fn put_words(out: &mut [u8], at: usize, change: u8) -> usize
+fn put_words(out: &mut [u8], at: usize, change: u8) -> usize
     requires { ⌜ at + 14 ≤ length (now out) ⌝ }
     ensures { λ r. ⌜ Put (words (changeOf change)) at r (now (out .entry)) (now (out .exit)) ⌝ }
 {
@@ -45,7 +45,7 @@ pub fn put_words(out: &mut [u8], at: usize, change: u8) -> usize
 }
 
 // Writes a line at `at`; answers the place behind it.
-pub fn put_line(out: &mut [u8], at: usize, offset: usize, change: u8) -> usize
+fn put_line(out: &mut [u8], at: usize, offset: usize, change: u8) -> usize
     requires { ⌜ at + longest ≤ length (now out) ⌝ }
     ensures { λ r. ⌜ OneLine (line offset (changeOf change)) at r (now (out .entry)) (now (out .exit)) ⌝ }
 {

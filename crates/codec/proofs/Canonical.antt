@@ -133,13 +133,14 @@ head-written k x xs true e bs h t =
     let f : big 2 (said (take 2 (drop 32 xs))) ≡ take 2 (drop 32 xs) = field-back 2 (drop 32 xs) (bytes-drop 32 xs bs) (rw length-drop (omega arith)) in
     rw (e, ← t) (ap (λ (l : List ℕ). x ∷ l) (ap (λ (l : List ℕ). (take 32 xs ++ l) ++ drop 34 xs) f ∙ ap (λ (l : List ℕ). l ++ drop 34 xs) (sym (take-add 32 2 xs)) ∙ take-append-drop 34 xs))
 
-owner-written : (k : Kind) (xs : List ℕ) (b : Bool) → owned k ≡ b → Bytes xs → headSize k ≤ length xs → Owned (owns (ownerIn k xs)) (ownerIn k xs)
+-- the owner that is read is one, and the base has 16 bits
+pub owner-written : (k : Kind) (xs : List ℕ) (b : Bool) → owned k ≡ b → Bytes xs → headSize k ≤ length xs → Owned (owns (ownerIn k xs)) (ownerIn k xs)
 owner-written k xs false e bs h = rw e unowned
 owner-written k xs true e bs h =
     let n : 35 ≤ length xs = rw e at h in
     rw e (owner (take 32 (drop 1 xs)) (length-take 32 (drop 1 xs) ∙ (rw length-drop (omega arith))) (bytes-take 32 (drop 1 xs) (bytes-drop 1 xs bs)))
 
-base-written : (k : Kind) (xs : List ℕ) (b : Bool) → owned k ≡ b → Bytes xs → headSize k ≤ length xs → baseIn k xs < 65536
+pub base-written : (k : Kind) (xs : List ℕ) (b : Bool) → owned k ≡ b → Bytes xs → headSize k ≤ length xs → baseIn k xs < 65536
 base-written k xs false e bs h =
     let n : 3 ≤ length xs = rw e at h in
     rw e (field-below 2 (drop 1 xs) (bytes-drop 1 xs bs) (rw length-drop (omega arith)))

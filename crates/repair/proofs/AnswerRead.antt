@@ -1,24 +1,23 @@
 -- What repairing answers: canonical bytes of the flags that are left, which reading accepts, or no bytes of no bytes. Assumes nothing.
 use Prim.Native.Nat.{ℕ, _+_, _≤_}
-use native.Mathlib.Omega.{arith}
 use mathlib.Core.Path.{_≡_, refl, sym, ap, _∙_}
 use mathlib.Core.Bool.{Bool, true, false, cond}
 use mathlib.Core.Option.{Option}
 use mathlib.Core.List.{List, [], _∷_}
 use borrow.Author.Tests.{leb-true}
 use lib.Dec.{leb}
-use lib.ListN.{length, getD, take, drop, length-take, length-drop}
+use lib.ListN.{length, getD, drop}
 use Rattle.fields.proofs.RoundTrip.{Bytes}
 use Rattle.records.specs.Flags.{owned, kindOfByte}
 use Rattle.records.specs.Answers.{ok, refused}
+use Rattle.records.proofs.Answers.{refused-not-ok}
 use Rattle.records.specs.declared.head.Kind.{Kind}
-use Rattle.records.specs.declared.head.Kind.the-variants.{SingleEpoch, MultiEpoch, SingleEpochOwned, MultiEpochOwned}
 use Rattle.records.specs.declared.head.KindByte.{KindByte}
 use Rattle.records.specs.declared.head.KindByte.the-variants.{Known, Unknown}
-use Rattle.codec.specs.Bytes.{basePlace, headSize, bytesOf}
-use Rattle.codec.specs.Reading.{someFlags, baseIn, ownerIn, read}
-use Rattle.codec.proofs.RoundTrip.{Canonical, Owned, unowned, owner, bytes-drop, bytes-take, field-below}
-use Rattle.codec.proofs.Canonical.{Proper, owns, read-back}
+use Rattle.codec.specs.Bytes.{headSize, bytesOf}
+use Rattle.codec.specs.Reading.{someFlags, baseIn, read}
+use Rattle.codec.proofs.RoundTrip.{Canonical, bytes-drop, field-below}
+use Rattle.codec.proofs.Canonical.{base-written, owner-written, Proper, read-back}
 use Rattle.repair.specs.Olds.{Old}
 use Rattle.repair.specs.Repairing.{Repaired, oldsIn, left, flagsLeft, linesOf, repairedAs, repairedByte, repaired}
 use Rattle.repair.proofs.Reading.{old-inv}
@@ -38,28 +37,12 @@ chain-short k d bs at (o ∷ os) c p =
 pub left-canonical : (k : Kind) (xs : List ℕ) → Bytes xs → Canonical (baseIn k xs) (left k xs)
 left-canonical k xs bs = map-canonical (baseIn k xs) (oldsIn k xs .records) (chain-short k xs bs (headSize k) (oldsIn k xs .records) (oldsIn k xs .cut) (read-chain k xs))
 
--- the base stands at the end of the head
-base-last : (k : Kind) → headSize k ≡ basePlace k + 2
-base-last SingleEpoch = refl
-base-last MultiEpoch = refl
-base-last SingleEpochOwned = refl
-base-last MultiEpochOwned = refl
-
-owner-read : (k : Kind) (xs : List ℕ) → Bytes xs → headSize k ≤ length xs → Owned (owns (ownerIn k xs)) (ownerIn k xs)
-owner-read k xs bs h = by (owned k) refl
-  where
-    by : (b : Bool) → owned k ≡ b → Owned (owns (ownerIn k xs)) (ownerIn k xs)
-    by true e =
-        let n : 35 ≤ length xs = rw e at h in
-        rw e (owner (take 32 (drop 1 xs)) (length-take 32 (drop 1 xs) ∙ rw length-drop (omega arith)) (bytes-take 32 (drop 1 xs) (bytes-drop 1 xs bs)))
-    by false e = rw e unowned
-
 -- THE FLAGS THAT ARE LEFT ARE PROPER
 pub left-proper : (k : Kind) (xs : List ℕ) → Bytes xs → headSize k ≤ length xs → Proper (flagsLeft k xs)
 left-proper k xs bs h =
     record {
-      base-fits = field-below 2 (drop (basePlace k) xs) (bytes-drop (basePlace k) xs bs) (omega (arith, base-last k, length-drop (basePlace k) xs));
-      owner-fits = owner-read k xs bs h;
+      base-fits = base-written k xs (owned k) refl bs h;
+      owner-fits = owner-written k xs (owned k) refl bs h;
       records-fit = left-canonical k xs bs;
     }
 
@@ -77,9 +60,6 @@ pub data Answered (xs : List ℕ) (r : Repaired) : Type 0 where
   no-bytes : xs ≡ [] → r ≡ record { bytes = []; lines = [] } → Answered xs r
   some-bytes : (k : Kind) → Answers xs r k → Answered xs r
 
-not-refused : (n : ℕ) (r : Repaired) → refused n ≡ ok r → ⊥
-not-refused n r e = let z : _≡_ {A = ℕ} 0 1 = cc in omega arith
-
 as-answered : (k : Kind) (xs : List ℕ) (r : Repaired) → kindOfByte (getD xs 0 0) ≡ Known k → repairedAs k xs ≡ ok r → Answers xs r k
 unfolding repairedAs
 as-answered k xs r q = by (leb (headSize k) (length xs)) refl
@@ -88,7 +68,7 @@ as-answered k xs r q = by (leb (headSize k) (length xs)) refl
     by true h e =
         let is : r ≡ record { bytes = bytesOf (flagsLeft k xs); lines = linesOf k xs } = cc in
         record { kind-is = q; head-inside = leb-true (headSize k) (length xs) h; bytes-are = ap (λ (x : Repaired). x .bytes) is; lines-are = ap (λ (x : Repaired). x .lines) is }
-    by false h e = absurd (not-refused 2 r e)
+    by false h e = absurd (refused-not-ok 2 r e)
 
 -- an answer is one of the two
 pub answered : (xs : List ℕ) (r : Repaired) → repaired xs ≡ ok r → Answered xs r
@@ -97,7 +77,7 @@ answered [] r e = no-bytes refl (cc)
 answered (b ∷ xs) r e = by (kindOfByte b) refl
   where
     by : (x : KindByte) → kindOfByte b ≡ x → Answered (b ∷ xs) r
-    by Unknown q = absurd (not-refused 1 r (sym (ap (λ (x : KindByte). repairedByte x (b ∷ xs)) q) ∙ e))
+    by Unknown q = absurd (refused-not-ok 1 r (sym (ap (λ (x : KindByte). repairedByte x (b ∷ xs)) q) ∙ e))
     by (Known k) q = some-bytes k (as-answered k (b ∷ xs) r q (sym (ap (λ (x : KindByte). repairedByte x (b ∷ xs)) q) ∙ e))
 
 -- what reading finds in the answer: no bytes, or the flags that are left

@@ -1,15 +1,13 @@
 -- How much room an answer needs: no more bytes than were given, and one line for every two bytes. Assumes nothing.
 use Prim.Native.Nat.{ℕ, suc, _+_, _*_, _^_, _≤_, _<_}
 use native.Mathlib.Omega.{arith}
-use mathlib.Core.Path.{_≡_, refl, ap}
+use mathlib.Core.Path.{_≡_, ap}
 use mathlib.Core.Bool.{Bool, true, false, cond}
 use mathlib.Core.Option.{Option, none, some}
 use mathlib.Core.List.{List, [], _∷_, _++_}
-use borrow.Author.Tests.{ltb-true}
-use lib.Dec.{ltb}
 use lib.ListN.{length, take, drop, length-append, length-take}
 use Rattle.fields.specs.Varint.{high, value, varint}
-use Rattle.fields.proofs.Varints.{length-pos, length-five}
+use Rattle.fields.proofs.Varints.{length-five}
 use Rattle.fields.proofs.RoundTrip.{Bytes}
 use Rattle.fields.proofs.Places.{value-below, length-below}
 use Rattle.records.specs.Tables.{At, _⦂_, put}
@@ -23,32 +21,18 @@ use Rattle.codec.proofs.RoundTrip.{Canonical}
 use Rattle.codec.proofs.Sizing.{length-record, length-records, length-bytes}
 use Rattle.repair.specs.Olds.{Old}
 use Rattle.repair.specs.Standing.{fits, mapOnto}
-use Rattle.repair.specs.Changes.{lineIf, keptLines, recordLines, linesAfter, cutLine, again, someAbove, dropped, keeping}
+use Rattle.repair.specs.Changes.{recordLines, linesAfter, cutLine, again, someAbove, dropped, keeping}
 use Rattle.repair.specs.Repairing.{Repaired, oldsIn, left, flagsLeft, kindLine, linesOf, repaired}
-use Rattle.repair.specs.declared.change.Change.{Change}
-use Rattle.repair.specs.declared.change.Change.the-variants.{ReEncoded, Moved, KindChanged}
+use Rattle.repair.specs.declared.change.Change.the-variants.{KindChanged}
 use Rattle.repair.proofs.Reading.{old-inv}
 use Rattle.repair.proofs.Chains.{Link, Chain, read-chain}
 use Rattle.repair.proofs.Columns.{line-if-short}
+use Rattle.repair.proofs.KeptLines.{record-few}
 use Rattle.repair.proofs.Told.{head-three}
 use Rattle.repair.proofs.Holding.{with}
 use Rattle.repair.proofs.AnswerRead.{left-canonical, left-proper, Answered, no-bytes, some-bytes, answered}
 
 -- ---- lines
-
--- a record has at most one line for every two of its bytes: one of three bytes is as short as it would be written
-kept-few : (moved : Bool) (o : Old) → 3 ≤ o .size → 2 * length (keptLines moved o) ≤ o .size
-kept-few moved o h = by (ltb (length (recordBytes (o .epoch ⦂ o .count))) (o .size)) refl
-  where
-    by : (b : Bool) → ltb (length (recordBytes (o .epoch ⦂ o .count))) (o .size) ≡ b → 2 * length (lineIf b (o .offset) ReEncoded ++ lineIf moved (o .offset) Moved) ≤ o .size
-    by true e =
-        let l = ltb-true (length (recordBytes (o .epoch ⦂ o .count))) (o .size) e in
-        omega (arith, length-record (o .epoch ⦂ o .count), length-pos (o .count), line-if-short moved (o .offset) Moved)
-    by false e = omega (arith, line-if-short moved (o .offset) Moved)
-
-record-few : (x : Option Change) (moved : Bool) (o : Old) → 3 ≤ o .size → 2 * length (recordLines x moved o) ≤ o .size
-record-few (some c) moved o h = omega arith
-record-few none moved o h = kept-few moved o h
 
 -- the lines of records that stand from a place on, and of the cut
 chain-few : (k : Kind) (d : List ℕ) (base : ℕ) (before : List ℕ) (at : ℕ) (os : List Old) (c : Option ℕ) → Chain k d at os c → at ≤ length d

@@ -4,21 +4,15 @@ use native.Mathlib.Nat.{add-zero}
 use native.Mathlib.Omega.{arith}
 use mathlib.Core.Path.{_≡_, refl, sym, ap, ap₂, _∙_}
 use mathlib.Core.Bool.{Bool, true, false}
-use mathlib.Core.Option.{Option, none, some}
 use mathlib.Core.List.{List, [], _∷_, _++_}
-use lib.Dec.{ltb}
 use lib.ListN.{length, set, length-append}
 use lib.Seq.{sets, length-sets}
 use Rattle.fields.proofs.Parts.{sets-append}
-use Rattle.records.specs.Tables.{_⦂_}
 use Rattle.records.proofs.Tables.{length-column, column-append}
-use Rattle.codec.specs.Bytes.{recordBytes}
-use Rattle.repair.specs.Olds.{Old}
-use Rattle.repair.specs.Changes.{Line, line, lineIf, changeNumber, keptLines, recordLines}
+use Rattle.repair.specs.Changes.{Line, line, lineIf, changeNumber}
 use Rattle.repair.specs.Calls.{offsetsOf, changesOf}
 use Rattle.repair.specs.Steps.{Listed}
 use Rattle.repair.specs.declared.change.Change.{Change}
-use Rattle.repair.specs.declared.change.Change.the-variants.{ReEncoded, Moved}
 
 -- ---- the two columns
 
@@ -102,12 +96,3 @@ module _ {all left : List Line} {at k : ℕ} {os₀ cs₀ os cs : List ℕ} (g :
 pub line-if-short : (b : Bool) (at : ℕ) (c : Change) → length (lineIf b at c) ≤ 1
 line-if-short true at c = omega arith
 line-if-short false at c = omega arith
-
-pub kept-short : (moved : Bool) (o : Old) → length (keptLines moved o) ≤ 2
-kept-short moved o =
-    let b : Bool = ltb (length (recordBytes (o .epoch ⦂ o .count))) (o .size) in
-    omega (arith, length-append (lineIf b (o .offset) ReEncoded) (lineIf moved (o .offset) Moved), line-if-short b (o .offset) ReEncoded, line-if-short moved (o .offset) Moved)
-
-pub record-short : (x : Option Change) (moved : Bool) (o : Old) → length (recordLines x moved o) ≤ 2
-record-short (some c) moved o = omega arith
-record-short none moved o = kept-short moved o

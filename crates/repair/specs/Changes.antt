@@ -54,7 +54,7 @@ abbrev pub dropped : ℕ → Bool → Old → Option Change
 dropped base replaced o =
     cond (ltb largest (o .count)) (some TooLarge) (cond (leb (o .epoch) base) (some NotAboveBase) (cond replaced (some Replaced) none))
 
--- a kept record may have two lines, re-encoded (its bytes are not as many as they would be written) before moved
+-- a kept record may have two lines, re-encoded (it has more bytes than are written for it) before moved
 abbrev pub keptLines : Bool → Old → List Line
 keptLines moved o =
     lineIf (ltb (length (recordBytes (o .epoch ⦂ o .count))) (o .size)) (o .offset) ReEncoded ++ lineIf moved (o .offset) Moved

@@ -12,7 +12,8 @@ use Rattle.repair.specs.Olds.{oldAt}
 use Rattle.repair.specs.Changes.{dropped, recordLines}
 use Rattle.repair.specs.Steps.{oldOf, linesFrom}
 use Rattle.repair.proofs.Getting.{is-cut, Large, is-large, large-turn, Fitting, is-fitting, fitting-turn}
-use Rattle.repair.proofs.Columns.{Going, going-start, going-more, going-last, going-done, record-short}
+use Rattle.repair.proofs.Columns.{Going, going-start, going-more, going-last, going-done}
+use Rattle.repair.proofs.KeptLines.{record-few}
 use Rattle.repair.proofs.Lines.{lines-end, lines-cut, lines-large, lines-fitting}
 use Rattle.repair.proofs.listing.list_records.Statement.{statement}
 use Rattle.repair.proofs.listing.list_records.Tie as tie
@@ -87,7 +88,7 @@ loop-again-2 c =
     let r = c .before .before .before .before .list-fitting .ensures in
     let step = lines-fitting (a .base) (a .places .now) (l .highest) (a .src .now) (l .at) t _ _ _ (fitting c) in
     let h = ap (λ (n : ℕ). recordLines x (ltb e (l .highest)) o ++ linesFrom (a .base) (a .places .now) n (v .0 .1 .1 .0) (a .src .now)) (sym (r .1)) in (
-      omega (arith, r .0 .behind, record-short x (ltb e (l .highest)) o, l .inv .0, u .0 .some-bytes, u .1),
+      omega (arith, r .0 .behind, record-few x (ltb e (l .highest)) o (u .0 .some-bytes), l .inv .0, u .0 .some-bytes, u .1),
       omega (arith, u .0 .inside, u .1),
       going-more (l .inv .2) _ _ _ _ _ (step ∙ h) (r .0),
     )
