@@ -1,5 +1,5 @@
 -- What proper flags are, read back from `proper`: its tests one by one, their tables, that their kind is the one that owner and records
--- tell, and that a head's owner is that of its flags.
+-- tell, and that a head's owner is that of its flags. And flags that stand at the start of two tables: they are proper, and are read back.
 -- Assumes nothing.
 use mathlib.Core.Path.{_≡_, refl, sym, ap, _∙_}
 use mathlib.Core.Bool.{Bool, true, false, _&&_, and-eq-true-iff}
@@ -11,12 +11,12 @@ use lib.Dec.{leb, eqb}
 use lib.ListN.{length, take}
 use lib.Seq.{length-take-le}
 use borrow.Author.Tests.{le-leb, leb-true, ne-eqb, eqb-false}
-use Rattle.records.specs.Tables.{recordsOf, epochsOf, ascending, Table, Above}
-use Rattle.records.specs.Flags.{Flags, owned, ownerIf, idOf, ownerOf, kindOf, headOf, agrees, proper}
+use Rattle.records.specs.Tables.{recordsOf, epochsOf, countsOf, ascending, Table, Above}
+use Rattle.records.specs.Flags.{Flags, flags, owned, ownerIf, idOf, ownerOf, kindOf, headOf, flagsOf, agrees, proper}
 use Rattle.records.specs.declared.head.Head.{Head}
 use Rattle.records.specs.declared.head.Kind.{Kind}
 use Rattle.records.specs.declared.head.Kind.the-variants.{SingleEpoch, MultiEpoch, SingleEpochOwned, MultiEpochOwned}
-use Rattle.records.proofs.Tables.{length-recordsOf, epochs-records}
+use Rattle.records.proofs.Tables.{length-recordsOf, epochs-records, records-back}
 use Rattle.records.proofs.Unions.{above-table}
 
 pub record IsProper (h : Head) (es cs : List ℕ) : Type 0 where
@@ -93,3 +93,14 @@ owner-head f = by (f .owner) (eqb (length (f .records)) 0) refl
     by none false e = rw e
     by (some o) true e = rw e
     by (some o) false e = rw e
+
+-- ---- flags whose records stand at the start of two tables
+
+module _ (f : Flags) (es cs : List ℕ) (epochs-first : take (length (f .records)) es ≡ epochsOf (f .records)) where
+  pub stand-proper : length (f .records) ≤ length es → length (f .records) ≤ length cs → ascending (f .base) (epochsOf (f .records)) ≡ true → proper (headOf f) es cs ≡ true
+  unfolding proper
+  stand-proper le lc a = simp (agrees-told (f .owner) (length (f .records)), le-leb _ _ le, le-leb _ _ lc) (ap (ascending (f .base)) epochs-first ∙ a)
+
+  pub stand-flags : take (length (f .records)) cs ≡ countsOf (f .records) → flagsOf (headOf f) es cs ≡ f
+  stand-flags counts-first =
+      (λ i. flags (f .base) (owner-head f i) (recordsOf (epochs-first i) (counts-first i))) ∙ ap (flags (f .base) (f .owner)) (records-back (f .records))

@@ -15,7 +15,7 @@ use Rattle.records.specs.declared.head.Kind.{Kind}
 use Rattle.repair.specs.Olds.{Old}
 use Rattle.repair.specs.Standing.{fits}
 use Rattle.repair.specs.Changes.{Line, again, someAbove, dropped, recordLines, keeping, linesAfter}
-use Rattle.repair.specs.Steps.{marks, higher, linesBy}
+use Rattle.repair.specs.Steps.{allEpochs, marks, higher, linesBy}
 use Rattle.repair.specs.declared.change.Change.{Change}
 use Rattle.repair.proofs.Chains.{Link, Chain}
 use Rattle.repair.proofs.Fitting.{Fits, fits-yes, Fate, too-large, too-low, comes-again, stays, fate, dropped-large, dropped-low, again-none, again-no, again-yes}
@@ -55,12 +55,12 @@ module _ (base e : ℕ) where
       marks-beside give (marked give base o t) os (s .1) ∙ mark-beside give t o (s .0)
 
   -- where one comes again, the table has an offset from the first record on
-  marks-later : (k : Kind) (d : List ℕ) (lo : ℕ) (os : List Old) (c : Option ℕ) (t : List ℕ) → 65536 ≤ length t → Chain k d lo os c → Short os → again base e os ≡ true
+  marks-later : (k : Kind) (d : List ℕ) (lo : ℕ) (os : List Old) (c : Option ℕ) (t : List ℕ) → allEpochs ≤ length t → Chain k d lo os c → Short os → again base e os ≡ true
       → lo ≤ getD (marks offset base t os) e 0
   unfolding marks
   marks-later k d lo [] c t l ch s h = absurd (no-true (sym h ∙ again-none base e))
   marks-later k d lo (o ∷ os) c t l ch s h =
-      let m : 65536 ≤ length (marked offset base o t) = omega (arith, marked-long (fits base o) t (o .epoch) (o .offset)) in
+      let m : allEpochs ≤ length (marked offset base o t) = omega (arith, marked-long (fits base o) t (o .epoch) (o .offset)) in
       by (again base e os) refl (marks-later k d (lo + o .size) os c (marked offset base o t) m (ch .1) (s .1))
     where
       by : (a : Bool) → again base e os ≡ a → (again base e os ≡ true → lo + o .size ≤ getD (marks offset base (marked offset base o t) os) e 0)
@@ -73,7 +73,7 @@ module _ (base e : ℕ) where
           omega (arith, marks-beside offset (marked offset base o t) os q, ch .0 .starts)
 
 -- the table has a record's offset exactly where it does not come again
-stands : (base : ℕ) (k : Kind) (d : List ℕ) (o : Old) (os : List Old) (c : Option ℕ) (t : List ℕ) → 65536 ≤ length t → Chain k d (o .offset) (o ∷ os) c → Short (o ∷ os) → Fits base o
+stands : (base : ℕ) (k : Kind) (d : List ℕ) (o : Old) (os : List Old) (c : Option ℕ) (t : List ℕ) → allEpochs ≤ length t → Chain k d (o .offset) (o ∷ os) c → Short (o ∷ os) → Fits base o
     → not (eqb (getD (marks offset base t (o ∷ os)) (o .epoch) 0) (o .offset)) ≡ again base (o .epoch) os
 unfolding marks
 stands base k d o os c t l ch s f = rw (fits-yes base o f) (by (again base (o .epoch) os) refl)
@@ -110,7 +110,7 @@ highest-none e = sym (le-ltb e 0 (omega arith))
 -- ---- the lines
 
 -- whether and why a record is dropped, by the table as by the definition
-dropped-same : (base : ℕ) (k : Kind) (d : List ℕ) (o : Old) (os : List Old) (c : Option ℕ) (t : List ℕ) → 65536 ≤ length t → Chain k d (o .offset) (o ∷ os) c → Short (o ∷ os)
+dropped-same : (base : ℕ) (k : Kind) (d : List ℕ) (o : Old) (os : List Old) (c : Option ℕ) (t : List ℕ) → allEpochs ≤ length t → Chain k d (o .offset) (o ∷ os) c → Short (o ∷ os)
     → dropped base (not (eqb (getD (marks offset base t (o ∷ os)) (o .epoch) 0) (o .offset))) o ≡ dropped base (again base (o .epoch) os) o
 dropped-same base k d o os c t l ch s = by (fate base o (again base (o .epoch) os))
   where
@@ -126,19 +126,19 @@ dropped-same base k d o os c t l ch s = by (fate base o (again base (o .epoch) o
     by (comes-again f q p) = fitting f
     by (stays f q p) = fitting f
 
-lines-same : (base : ℕ) (k : Kind) (d : List ℕ) (at : ℕ) (os : List Old) (c : Option ℕ) (t : List ℕ) (before : List ℕ) (h : ℕ) → 65536 ≤ length t → Chain k d at os c → Short os → Highest before h
+lines-same : (base : ℕ) (k : Kind) (d : List ℕ) (at : ℕ) (os : List Old) (c : Option ℕ) (t : List ℕ) (before : List ℕ) (h : ℕ) → allEpochs ≤ length t → Chain k d at os c → Short os → Highest before h
     → linesBy base (marks offset base t os) h os ≡ linesAfter base before os
 unfolding linesBy linesAfter marks
 lines-same base k d at [] c t before h l ch s g = refl
 lines-same base k d at (o ∷ os) c t before h l ch s g =
     let ch′ : Chain k d (o .offset) (o ∷ os) c = subst (λ (i : ℕ). Link d i o × Chain k d (i + o .size) os c) (sym (ch .0 .starts)) ch in
     let x = dropped base (again base (o .epoch) os) o in
-    let m : 65536 ≤ length (marked offset base o t) = omega (arith, marked-long (fits base o) t (o .epoch) (o .offset)) in
+    let m : allEpochs ≤ length (marked offset base o t) = omega (arith, marked-long (fits base o) t (o .epoch) (o .offset)) in
     ap₂ (λ (y : Option Change) (b : Bool). recordLines y b o ++ linesBy base (marks offset base (marked offset base o t) os) (higher y o h) os) (dropped-same base k d o os c t l ch′ s) (sym (g (o .epoch)))
     ∙ ap (λ (ls : List Line). recordLines x (someAbove (o .epoch) before) o ++ ls)
     (lines-same base k d (at + o .size) os c (marked offset base o t) (keeping x o before) (higher x o h) m (ch .1) (s .1) (highest-kept x o before h g))
 
 -- THE LINES BY THE TABLE ARE THOSE OF THE DEFINITION
-pub by-table : (base : ℕ) (k : Kind) (d : List ℕ) (at : ℕ) (os : List Old) (c : Option ℕ) (t : List ℕ) → 65536 ≤ length t → Chain k d at os c → Short os
+pub by-table : (base : ℕ) (k : Kind) (d : List ℕ) (at : ℕ) (os : List Old) (c : Option ℕ) (t : List ℕ) → allEpochs ≤ length t → Chain k d at os c → Short os
     → linesBy base (marks (λ (o : Old). o .offset) base t os) 0 os ≡ linesAfter base [] os
 by-table base k d at os c t l ch s = lines-same base k d at os c t [] 0 l ch s highest-none

@@ -17,7 +17,7 @@ use Rattle.records.specs.declared.head.Kind.{Kind}
 use Rattle.codec.proofs.RoundTrip.{Canonical}
 use Rattle.repair.specs.Olds.{Old}
 use Rattle.repair.specs.Standing.{fits, mapOnto, mapOf}
-use Rattle.repair.specs.Steps.{marks, gathered, Blank}
+use Rattle.repair.specs.Steps.{allEpochs, marks, gathered, Blank}
 use Rattle.repair.proofs.Chains.{Chain}
 use Rattle.repair.proofs.Marks.{marked-long}
 use Rattle.repair.proofs.Gathering.{gathered-end, gathered-skip, gathered-take}
@@ -37,7 +37,7 @@ module _ {A : Type 0} (base e : ℕ) (give : Old → ℕ) (f : ℕ → A) (read 
       by true true q = ap (λ (i : ℕ). f (getD (set t (o .epoch) (give o)) i 0)) (eqb-true e (o .epoch) q) ∙ ap f (getD-set-same t (o .epoch) (give o) 0 h)
       by true false q = ap f (getD-set-other t (o .epoch) e (give o) 0 (λ d. let z : _≡_ {A = Bool} true false = sym (eq-eqb e (o .epoch) d) ∙ q in let y : _≡_ {A = ℕ} 0 1 = cc in omega arith))
 
-  marks-read : (k : Kind) (d : List ℕ) (at : ℕ) (os : List Old) (c : Option ℕ) (t : List ℕ) (m : List At) → 1 ≤ at → Chain k d at os c → Short os → 65536 ≤ length t
+  marks-read : (k : Kind) (d : List ℕ) (at : ℕ) (os : List Old) (c : Option ℕ) (t : List ℕ) (m : List At) → 1 ≤ at → Chain k d at os c → Short os → allEpochs ≤ length t
       → f (getD t e 0) ≡ read m → f (getD (marks give base t os) e 0) ≡ read (mapOnto base m os)
   unfolding marks mapOnto
   marks-read k d at [] c t m h ch s l q = q

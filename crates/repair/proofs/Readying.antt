@@ -5,25 +5,25 @@ use native.Mathlib.Omega.{arith}
 use mathlib.Core.Path.{_≡_, refl, sym, ap, ap₂, _∙_}
 use mathlib.Core.Bool.{Bool, true, false, cond}
 use mathlib.Core.List.{List, []}
-use borrow.Author.Tests.{lt-ltb, le-leb}
+use borrow.Author.Tests.{lt-ltb}
 use lib.Dec.{ltb}
 use lib.ListN.{length, getD, take, drop, replicate, length-replicate}
 use Rattle.fields.specs.Big.{said}
 use Rattle.fields.proofs.RoundTrip.{Bytes}
-use Rattle.records.specs.Tables.{At, epochsOf, countsOf, recordsOf, ascending, Placed}
-use Rattle.records.specs.Flags.{flags, owned, multi, ownerIf, headFor, headOf, agrees, proper}
+use Rattle.records.specs.Tables.{At, epochsOf, countsOf, Placed}
+use Rattle.records.specs.Flags.{owned, multi, ownerIf, headFor, headOf, agrees}
 use Rattle.records.specs.declared.head.Kind.{Kind}
 use Rattle.records.specs.declared.head.Kind.the-variants.{SingleEpoch, SingleEpochOwned}
 use Rattle.records.specs.declared.head.Head.{Head}
-use Rattle.records.proofs.Tables.{records-back, length-epochsOf, length-countsOf, over-sets, over-first, placed-long}
-use Rattle.records.proofs.Proper.{agrees-told, owner-head}
+use Rattle.records.proofs.Tables.{length-epochsOf, length-countsOf, over-sets, over-first, placed-long}
+use Rattle.records.proofs.Proper.{stand-proper, stand-flags}
 use Rattle.codec.specs.Bytes.{headSize}
 use Rattle.codec.specs.Reading.{baseIn, ownerIn}
 use Rattle.codec.proofs.RoundTrip.{Canonical}
 use Rattle.repair.specs.Olds.{Old, Olds}
 use Rattle.repair.specs.Standing.{mapOnto}
 use Rattle.repair.specs.Repairing.{oldsIn, extra, left, flagsLeft}
-use Rattle.repair.specs.Steps.{marks, gathered, kindLeft, Blank, Standing, Ready}
+use Rattle.repair.specs.Steps.{allEpochs, marks, gathered, kindLeft, Blank, Standing, Ready}
 use Rattle.repair.proofs.Reading.{rest}
 use Rattle.repair.proofs.Chains.{Chain, read-chain}
 use Rattle.repair.proofs.Told.{head-three}
@@ -71,15 +71,10 @@ module _ (k : Kind) (xs : List ℕ) (h : Head) (e : h ≡ headOf (flagsLeft k xs
   many = length (left k xs)
 
   pub ready : Canonical (baseIn k xs) (left k xs) → many ≤ length es → many ≤ length cs → take many es ≡ epochsOf (left k xs) → take many cs ≡ countsOf (left k xs) → Ready k xs h es cs
-  unfolding proper
   ready c le lc te tc =
       record {
-        is-proper =
-            rw e
-            (simp (agrees-told (ownerIn k xs) many, le-leb many (length es) le, le-leb many (length cs) lc) (ap (ascending (baseIn k xs)) te ∙ canonical-ascends (baseIn k xs) (left k xs) c));
-        is-left =
-            rw e
-            ((λ z. flags (baseIn k xs) (owner-head (flagsLeft k xs) z) (recordsOf (te z) (tc z))) ∙ ap (flags (baseIn k xs) (ownerIn k xs)) (records-back (left k xs)));
+        is-proper = rw e (stand-proper (flagsLeft k xs) es cs te le lc (canonical-ascends (baseIn k xs) (left k xs) c));
+        is-left = rw e (stand-flags (flagsLeft k xs) es cs te tc);
       }
 
   -- records that were placed at the start of two tables
@@ -116,7 +111,7 @@ module _ (k : Kind) (xs : List ℕ) (m : multi k ≡ false) where
 
 -- ---- kinds 1 and 3
 
-pub blank-zeros : (n : ℕ) → 65536 ≤ n → Blank (replicate n 0)
+pub blank-zeros : (n : ℕ) → allEpochs ≤ n → Blank (replicate n 0)
 blank-zeros n h = record { wide = omega (arith, length-replicate {A = ℕ} n 0); zeros = zero-at n }
   where
     zero-at : (n i : ℕ) → _≡_ {A = ℕ} (getD (replicate n 0) i 0) 0
@@ -158,7 +153,7 @@ module _ (k : Kind) (xs : List ℕ) (m : multi k ≡ true) (bs : Bytes xs) (long
       }
 
   -- the head of what was drawn together, and its tables
-  module _ (es₀ : List ℕ) (wide : 65536 ≤ length es₀) (n : ℕ) (es′ cs′ : List ℕ) (p : Placed (gathered ps cs (base + 1) (65535 - base)) 0 n es₀ cs es′ cs′)
+  module _ (es₀ : List ℕ) (wide : allEpochs ≤ length es₀) (n : ℕ) (es′ cs′ : List ℕ) (p : Placed (gathered ps cs (base + 1) (65535 - base)) 0 n es₀ cs es′ cs′)
       (k′ : Kind) (ek : k′ ≡ kindLeft k n) (h : Head) (eh : h ≡ headFor (baseIn k′ xs) (ownerIn k′ xs) n) where
     counted : n ≡ length (left k xs)
     counted = omega (arith, p .behind, ap (length {A = At}) drawn-is)

@@ -8,7 +8,7 @@ ghost use lib.Dec.{ltb, eqb};
 ghost use lib.ListN.{length, set};
 ghost use Rattle.repair.specs.Changes.{changeNumber, line, lineIf, keptLines, recordLines, dropped};
 ghost use Rattle.repair.specs.Repairing.{linesOf};
-ghost use Rattle.repair.specs.Steps.{oldOf, higher, linesFrom, Listed, Standing};
+ghost use Rattle.repair.specs.Steps.{allEpochs, oldOf, higher, linesFrom, Listed, Standing};
 use crate::change::Change;
 use crate::old::Got;
 use crate::old::read_old;
@@ -140,7 +140,7 @@ fn list_records(
     changes: &mut [u8],
     from: usize,
 ) -> usize
-    requires { ⌜ (from ≤ start) × (start ≤ length (now src)) × (65536 ≤ length (now places)) ⌝ }
+    requires { ⌜ (from ≤ start) × (start ≤ length (now src)) × (allEpochs ≤ length (now places)) ⌝ }
     ensures { λ r. ⌜ Listed (linesFrom base (now (places .entry)) 0 start (now (src .entry))) from r (now (offsets .entry)) (now (changes .entry)) (now (offsets .exit)) (now (changes .exit)) ⌝ }
 {
     let mut at = start;

@@ -6,6 +6,7 @@ ghost use Rattle.fields.specs.Big.{said};
 ghost use Rattle.fields.specs.Varint.{found, notCanonical};
 ghost use Rattle.repair.specs.Olds.{oldAt};
 ghost use Rattle.repair.specs.Steps.{gotOf};
+use crate::padded::TOO_LARGE;
 use crate::padded::capped_value;
 use crate::padded::end_of;
 use fields::Judged;
@@ -27,7 +28,7 @@ fn read_padded(src: &[u8], at: usize, epoch: u16) -> Got
 {
     let next = end_of(src, at + 2);
     let count = capped_value(src, at + 2, next);
-    if count <= 4294967295 {
+    if count < TOO_LARGE {
         return Got::Fits {
             epoch,
             count: count as u32,

@@ -5,6 +5,9 @@ ghost use lib.ListN.{length, take, drop};
 ghost use Rattle.fields.specs.Varint.{high, value};
 ghost use Rattle.repair.specs.Steps.{capped};
 
+// The first count that is too large.
+pub const TOO_LARGE: u64 = 4294967296;
+
 // The place behind the varint at `at`, which ends inside the bytes.
 pub fn end_of(src: &[u8], at: usize) -> usize
     requires { ⌜ high (drop at (now src)) < length (drop at (now src)) ⌝ }
@@ -20,17 +23,17 @@ pub fn end_of(src: &[u8], at: usize) -> usize
     k
 }
 
-// The same number, or 2^32 where it is larger.
+// The same number, or the first too large where it is larger.
 fn cap(n: u64) -> u64
     ensures { λ r. ⌜ r ≡ capped n ⌝ }
 {
-    if n <= 4294967295 {
+    if n < TOO_LARGE {
         return n;
     }
-    4294967296
+    TOO_LARGE
 }
 
-// What the groups from `at` up to `end` say as one whole number, or 2^32 where that is larger. From the last group down, so that
+// What the groups from `at` up to `end` say as one whole number, or the first too large where that is larger. From the last group down, so that
 // no group can push another out.
 pub fn capped_value(src: &[u8], at: usize, end: usize) -> u64
     requires { ⌜ (at ≤ end) × (end ≤ length (now src)) ⌝ }

@@ -9,8 +9,9 @@ ghost use Rattle.records.specs.Answers.{ok};
 ghost use Rattle.codec.specs.Bytes.{headSize};
 ghost use Rattle.repair.specs.Repairing.{repairedAs};
 ghost use Rattle.repair.specs.Calls.{shown, after, repairedInto};
-ghost use Rattle.repair.specs.Steps.{kindLeft, Blank, Standing, Ready};
+ghost use Rattle.repair.specs.Steps.{allEpochs, kindLeft, Blank, Standing, Ready};
 use crate::listing::list_changes;
+use crate::marking::EPOCHS;
 use crate::marking::gather;
 use crate::marking::mark;
 use codec::Verdict;
@@ -114,7 +115,7 @@ fn repair_by(
     changes: &mut [u8],
 ) -> Outcome
     requires { ⌜ (multi kind ≡ true) × (headSize kind ≤ length (now src)) ⌝ }
-    requires { ⌜ Blank (now places) × Blank (now counts) × (65536 ≤ length (now epochs)) ⌝ }
+    requires { ⌜ Blank (now places) × Blank (now counts) × (allEpochs ≤ length (now epochs)) ⌝ }
     ensures { λ r. ⌜ shown r (now (out .exit)) (now (offsets .exit)) (now (changes .exit)) ≡ after (repairedAs kind (now (src .entry))) (now (out .entry)) (now (offsets .entry)) (now (changes .entry)) ⌝ }
 {
     let start = codec::head_size(kind);
@@ -146,9 +147,9 @@ fn repair_multi(
     requires { ⌜ (multi kind ≡ true) × (headSize kind ≤ length (now src)) ⌝ }
     ensures { λ r. ⌜ shown r (now (out .exit)) (now (offsets .exit)) (now (changes .exit)) ≡ after (repairedAs kind (now (src .entry))) (now (out .entry)) (now (offsets .entry)) (now (changes .entry)) ⌝ }
 {
-    let mut places = [0usize; 65536];
-    let mut epochs = [0u16; 65536];
-    let mut counts = [0u32; 65536];
+    let mut places = [0usize; EPOCHS];
+    let mut epochs = [0u16; EPOCHS];
+    let mut counts = [0u32; EPOCHS];
     repair_by(
         kind,
         src,

@@ -5,14 +5,12 @@ use mathlib.Core.Bool.{true}
 use mathlib.Core.List.{List}
 use Prim.Native.Nat.{ℕ}
 use native.Mathlib.Omega.{arith}
-use lib.Dec.{leb}
 use lib.ListN.{length, take}
-use borrow.Author.Tests.{le-leb}
-use Rattle.records.specs.Tables.{recordsOf, epochsOf, countsOf, ascending, over}
-use Rattle.records.specs.Flags.{Flags, flags, agrees, proper}
+use Rattle.records.specs.Tables.{epochsOf, countsOf, ascending, over}
+use Rattle.records.specs.Flags.{Flags}
 use Rattle.records.specs.Answers.{After, placed}
-use Rattle.records.proofs.Tables.{over-first, over-holds, length-epochsOf, length-countsOf, records-back}
-use Rattle.records.proofs.Proper.{proper-inv, proper-ascends, proper-long, agrees-told, owner-head}
+use Rattle.records.proofs.Tables.{over-first, over-holds, length-epochsOf, length-countsOf}
+use Rattle.records.proofs.Proper.{proper-inv, proper-ascends, proper-long, stand-proper, stand-flags}
 use Rattle.steps.specs.Held.{Held, holding, properHeld, flagsIn}
 
 -- held flags are proper, and these
@@ -25,12 +23,6 @@ pub record Stands (h : Held) (f : Flags) : Type 0 where
 -- the head and tables that a call left
 abbrev pub heldIn : After → Held
 heldIn a = holding (a .head) (a .epochs) (a .counts)
-
--- proper, by its tests
-proper-by : (h : Held) → agrees (h .head .kind) (h .head .records) ≡ true → leb (h .head .records) (length (h .epochs)) ≡ true
-    → leb (h .head .records) (length (h .counts)) ≡ true → ascending (h .head .base) (take (h .head .records) (h .epochs)) ≡ true → properHeld h ≡ true
-unfolding proper
-proper-by h k e c a = simp (k, e, c, a)
 
 module _ (f : Flags) (es cs : List ℕ) where
   abbrev n : ℕ
@@ -46,9 +38,10 @@ module _ (f : Flags) (es cs : List ℕ) where
   pub placed-stands : ascending (f .base) (epochsOf (f .records)) ≡ true → Stands (heldIn (placed f es cs)) f
   placed-stands h =
       record {
-        are-proper = proper-by (heldIn (placed f es cs)) (agrees-told (f .owner) n) (le-leb n _ (omega (arith, length-epochsOf (f .records), over-holds (epochsOf (f .records)) es)))
-            (le-leb n _ (omega (arith, length-countsOf (f .records), over-holds (countsOf (f .records)) cs))) (ap (ascending (f .base)) epochs-first ∙ h);
-        are = (λ i. flags (f .base) (owner-head f i) (recordsOf (epochs-first i) (counts-first i))) ∙ ap (flags (f .base) (f .owner)) (records-back (f .records));
+        are-proper =
+            stand-proper f _ _ epochs-first (omega (arith, length-epochsOf (f .records), over-holds (epochsOf (f .records)) es))
+            (omega (arith, length-countsOf (f .records), over-holds (countsOf (f .records)) cs)) h;
+        are = stand-flags f _ _ epochs-first counts-first;
       }
 
 -- ---- what stands

@@ -25,7 +25,7 @@ returns : tie.Need-returns
 returns c =
     let a = c .before .before .before .before .args in
     let p = c .before .before .before .before .pre in
-    padded-fits (a .src .now) (a .at) (p .0) (p .1 .1) (a .epoch) (c .before .before .end-of .result) (c .before .capped-value .result) (p .1 .0) (c .before .before .end-of .ensures) (c .before .capped-value .ensures) (c .if1 .taken)
+    padded-fits (a .src .now) (a .at) (p .0) (p .1 .1) (a .epoch) (c .before .before .end-of .result) (c .before .capped-value .result) (p .1 .0) (c .before .before .end-of .ensures) (c .before .capped-value .ensures) (omega (arith, c .if1 .taken))
 
 returns-2 : tie.Need-returns-2
 returns-2 c =

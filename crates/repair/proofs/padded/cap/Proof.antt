@@ -6,7 +6,7 @@ use Rattle.repair.proofs.padded.cap.Statement.{statement}
 use Rattle.repair.proofs.padded.cap.Tie as tie
 
 returns : tie.Need-returns
-returns c = sym (capped-fits (c .before .args .n) (c .if1 .taken))
+returns c = sym (capped-fits (c .before .args .n) (omega (arith, c .if1 .taken)))
 
 returns-2 : tie.Need-returns-2
 returns-2 c = sym (capped-large (c .before .args .n) (omega (arith, c .if1 .left)))
