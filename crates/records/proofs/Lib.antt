@@ -3,7 +3,7 @@ pub mod Tables
 pub mod Rising
 pub mod Halving
 pub mod Unions
-pub mod Dropping
+pub mod Sliding
 pub mod Proper
 pub mod Answers
 pub mod Only

@@ -3,11 +3,10 @@
 -- Assumes nothing.
 use mathlib.Core.Path.{_≡_, refl, sym, ap, _∙_, subst}
 use mathlib.Core.List.{List, [], _∷_, _++_, append-assoc, append-nil}
-use Prim.Native.Nat.{ℕ, suc, _+_, _-_, _≤_, _<_}
-use native.Mathlib.Nat.{not-suc-le-zero}
+use Prim.Native.Nat.{ℕ, _+_, _-_, _≤_, _<_}
 use native.Mathlib.Omega.{arith}
-use lib.ListN.{length, take, drop, set, length-append, length-drop, take-append-drop}
-use lib.Seq.{length-take-le, take-append-le, take-take, drop-at}
+use lib.ListN.{length, take, drop, length-append, length-drop, take-append-drop}
+use lib.Seq.{length-take-le, take-append-le, take-take, drop-drop, drop-at, drop-append-seam, sets, sets-eq}
 use Rattle.records.specs.Tables.{recordsOf, epochsOf, countsOf, over}
 use Rattle.rows.specs.Rows.{Row, idsOf, partsOf, Tables, tables, rowsOf, rowsIn, overRows, setRow, Room}
 use Rattle.rows.proofs.Columns.{length-ids, ids-append, epochsIn, bytesIn, length-epochs, length-bytes, epochs-in-append, bytes-in-append, three, take-rows, columns}
@@ -34,24 +33,23 @@ module _ {ℓ} {A : Type ℓ} where
       let e = length-drop (length xs) old in
       omega arith
 
-  half-step : (ys : List A) (x : A) (zs old : List A) → length (ys ++ (x ∷ zs)) ≤ length old
-      → set (half (suc (length ys)) (ys ++ (x ∷ zs)) old) (length ys) x ≡ half (length ys) (ys ++ (x ∷ zs)) old
-  half-step [] x zs [] h = absurd (not-suc-le-zero h)
-  half-step [] x zs (o ∷ old) h = refl
-  half-step (y ∷ ys) x zs [] h = absurd (not-suc-le-zero h)
-  half-step (y ∷ ys) x zs (o ∷ old) h = ap (λ (l : List A). o ∷ l) (half-step ys x zs old (omega arith))
-
-  -- the last of what is left is placed
-  half-put : (k : ℕ) (xs ys : List A) (x : A) (zs old : List A) → xs ≡ ys ++ (x ∷ zs) → k ≡ length ys + 1 → length xs ≤ length old
-      → set (half k xs old) (k - 1) x ≡ half (k - 1) xs old
-  half-put k xs ys x zs old e n h =
-      let place : k - 1 ≡ length ys = omega arith in
-      let next : k ≡ suc (length ys) = omega arith in
-      rw (place, next, e) (half-step ys x zs old (rw (← e) h))
-
   half-first : (i k : ℕ) (xs old : List A) → i ≤ k → k ≤ length old → take i (half k xs old) ≡ take i old
   half-first i k xs old h g =
       take-append-le i (take k old) (drop k (over xs old)) (rw (length-take-le k old g) h) ∙ take-take i k old h
+
+  -- the last run of what is left is placed
+  half-run : (at k : ℕ) (xs ys vs zs old : List A) → xs ≡ ys ++ (vs ++ zs) → length ys ≡ at → k ≡ at + length vs → length xs ≤ length old
+      → sets (half k xs old) at vs ≡ half at xs old
+  half-run at k xs ys vs zs old e n m h =
+      let rest = drop (length xs) old in
+      let l : length xs ≡ at + (length vs + length zs) = ap (length {A = A}) e ∙ length-append ys (vs ++ zs) ∙ rw (n, length-append vs zs) in
+      let w = half-long k xs old (omega arith) h in
+      let q : over xs old ≡ ys ++ (vs ++ (zs ++ rest)) = ap (λ (u : List A). u ++ rest) e ∙ append-assoc ys (vs ++ zs) rest ∙ ap (λ (u : List A). ys ++ u) (append-assoc vs zs rest) in
+      let d : drop k (over xs old) ≡ zs ++ rest = rw (q, m, ← drop-drop (length vs) at (ys ++ (vs ++ (zs ++ rest))), drop-at ys (vs ++ (zs ++ rest)) at n) (drop-append-seam vs (zs ++ rest)) in
+      let f : drop (at + length vs) (half k xs old) ≡ zs ++ rest = rw (← m) (drop-at (take k old) (drop k (over xs old)) k (length-take-le k old (omega arith)) ∙ d) in
+      sets-eq vs (half k xs old) at (omega arith)
+      ∙ append-assoc (take at (half k xs old)) vs (drop (at + length vs) (half k xs old))
+      ∙ rw (half-first at k xs old (omega arith) (omega arith), f, ← drop-at ys (vs ++ (zs ++ rest)) at n, ← q)
 
   -- what is left stands where it is to stand
   half-stays : (k : ℕ) (xs ys zs old : List A) → xs ≡ ys ++ zs → length ys ≡ k → ys ≡ take k old → half k xs old ≡ over xs old
@@ -61,12 +59,25 @@ module _ {ℓ} {A : Type ℓ} where
       ap (λ (l : List A). l ++ drop k (over xs old)) (sym e)
       ∙ ap (λ (l : List A). ys ++ l) (ap (drop k) q ∙ drop-at ys (zs ++ rest) k h) ∙ sym q
 
+  -- of a column of rows
+  column-run : {at k : ℕ} (column : List Row → List A) → ((rs ss : List Row) → column (rs ++ ss) ≡ column rs ++ column ss) → ((rs : List Row) → length (column rs) ≡ length rs)
+      → {all : List Row} (rest rs written : List Row) (old : List A) → all ≡ rest ++ (rs ++ written) → length rest ≡ at → k ≡ at + length rs → length all ≤ length old
+      → sets (half k (column all) old) at (column rs) ≡ half at (column all) old
+  column-run {at} {k} column append long {all} rest rs written old e n m h =
+      half-run at k (column all) (column rest) (column rs) (column written) old
+      (ap column e ∙ append rest (rs ++ written) ∙ ap (λ (u : List A). column rest ++ u) (append rs written))
+      (long rest ∙ n) (omega (arith, long rs)) (omega (arith, long all))
+
 -- ---- the three tables
 
 -- the tables with the rows behind the first k placed
 abbrev halfRows : ℕ → List Row → Tables → Tables
 halfRows k rs t =
     tables (half k (idsOf rs) (t .ids)) (half k (epochsIn rs) (t .epochs)) (half k (bytesIn rs) (t .bytes))
+
+-- rows at the places from k on, and all else untouched
+abbrev pub setRows : Tables → ℕ → List Row → Tables
+setRows t k rs = tables (sets (t .ids) k (idsOf rs)) (sets (t .epochs) k (epochsIn rs)) (sets (t .bytes) k (bytesIn rs))
 
 -- `left` of all rows are still to be placed, in the first k places
 pub record Backing (all left : List Row) (k : ℕ) (t₀ t : Tables) : Type 0 where
@@ -120,6 +131,23 @@ module _ {all left : List Row} {k : ℕ} {t₀ t : Tables} (b : Backing all left
       (half-first i k (bytesIn all) (t₀ .bytes) h (omega (arith, b .room .bytes-long)) j)))
       ∙ sym (take-rows i t₀)
 
+  -- the last run of what is left is placed
+  pub backing-run : {at : ℕ} {t′ : Tables} (rest rs : List Row) → left ≡ rest ++ rs → k ≡ at + length rs → t′ ≡ setRows t at rs → Backing all rest at t₀ t′
+  backing-run {at} {t′} rest rs e n s =
+      let place : length rest ≡ at = omega (arith, b .reached, ap (length {A = Row}) e, length-append rest rs) in
+      let all-is : all ≡ rest ++ (rs ++ b .written) = b .parts ∙ ap (λ (l : List Row). l ++ b .written) e ∙ append-assoc rest rs (b .written) in
+      record {
+        written = rs ++ b .written;
+        parts = all-is;
+        reached = sym place;
+        room = b .room;
+        stands = s ∙ ap (λ (u : Tables). setRows u at rs) (b .stands)
+            ∙ three
+            (column-run idsOf ids-append length-ids rest rs (b .written) (t₀ .ids) all-is place n (b .room .ids-long))
+            (column-run epochsIn epochs-in-append length-epochs rest rs (b .written) (t₀ .epochs) all-is place n (b .room .epochs-long))
+            (column-run bytesIn bytes-in-append length-bytes rest rs (b .written) (t₀ .bytes) all-is place n (b .room .bytes-long));
+      }
+
   module _ (rest : List Row) (r : Row) (e : left ≡ rest ++ (r ∷ [])) where
     some-left : k ≡ length rest + 1
     some-left = b .reached ∙ ap (length {A = Row}) e ∙ length-append rest (r ∷ [])
@@ -134,21 +162,7 @@ module _ {all left : List Row} {k : ℕ} {t₀ t : Tables} (b : Backing all left
     -- it is placed
     pub backing-step : {t′ : Tables} → t′ ≡ setRow t (k - 1) r → Backing all rest (k - 1) t₀ t′
     unfolding idsOf partsOf epochsOf countsOf
-    backing-step {t′} s =
-        let n = some-left in
-        let place : k - 1 ≡ length rest = omega arith in
-        let all-is : all ≡ rest ++ (r ∷ b .written) = b .parts ∙ ap (λ (l : List Row). l ++ b .written) e ∙ append-assoc rest (r ∷ []) (b .written) in
-        record {
-          written = r ∷ b .written;
-          parts = all-is;
-          reached = place;
-          room = b .room;
-          stands = s ∙ ap (λ (u : Tables). setRow u (k - 1) r) (b .stands)
-              ∙ three
-              (half-put k (idsOf all) (idsOf rest) (r .identifier) (idsOf (b .written)) (t₀ .ids) (ap idsOf all-is ∙ ids-append rest (r ∷ b .written)) (omega (arith, length-ids rest)) (omega (arith, length-ids all, b .room .ids-long)))
-              (half-put k (epochsIn all) (epochsIn rest) (r .part .epoch) (epochsIn (b .written)) (t₀ .epochs) (ap epochsIn all-is ∙ epochs-in-append rest (r ∷ b .written)) (omega (arith, length-epochs rest)) (omega (arith, length-epochs all, b .room .epochs-long)))
-              (half-put k (bytesIn all) (bytesIn rest) (r .part .bytes) (bytesIn (b .written)) (t₀ .bytes) (ap bytesIn all-is ∙ bytes-in-append rest (r ∷ b .written)) (omega (arith, length-bytes rest)) (omega (arith, length-bytes all, b .room .bytes-long)));
-        }
+    backing-step s = let n = some-left in backing-run rest (r ∷ []) e (omega arith) s
 
   -- what is left stands where it is to stand
   pub backing-stays : left ≡ rowsIn k t₀ → t ≡ overRows all t₀

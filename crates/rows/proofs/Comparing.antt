@@ -187,3 +187,25 @@ compared-under i a b m n = order-behind i (a ∷ []) (b ∷ []) ∙ order-one a 
 pub compared-parts : (o : Order) (i j : List ℕ) (a b m n : ℕ) → length i ≡ length j → order i j ≡ o → compared (row i a m) (row j b n) ≡ andThen o (by a b Equal)
 compared-parts o i j a b m n h e =
     order-then i j (a ∷ []) (b ∷ []) h ∙ ap (andThen (order i j)) (order-one a b) ∙ ap (λ (p : Order). andThen p (by a b Equal)) e
+
+-- ---- how rows stand
+
+pub self-same : (a : Row) → compared a a ≡ Equal
+self-same a = order-self (key a)
+
+pub flipped : (a b : Row) (o : Order) → compared a b ≡ o → compared b a ≡ flip o
+flipped a b o h = order-flip (key a) (key b) ∙ ap flip h
+
+pub less-trans : (a b c : Row) → compared a b ≡ Less → compared b c ≡ Less → compared a c ≡ Less
+less-trans a b c = order-trans (key a) (key b) (key c)
+
+-- rows of one pair stand alike
+pub right-same : (c a x : Row) → compared a x ≡ Equal → compared c a ≡ compared c x
+right-same c a x h = let p = compared-same a x h in rw (p .0, p .1)
+
+pub left-same : (c a x : Row) → compared a x ≡ Equal → compared a c ≡ compared x c
+left-same c a x h = let p = compared-same a x h in rw (p .0, p .1)
+
+-- the same row, but for its bytes
+pub row-same : (a b : Row) (m n : ℕ) → compared a b ≡ Equal → m ≡ n → row (a .identifier) (a .part .epoch) m ≡ row (b .identifier) (b .part .epoch) n
+row-same a b m n h e = let p = compared-same a b h in rw (p .0, p .1, e)

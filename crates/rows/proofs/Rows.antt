@@ -16,6 +16,7 @@ use Rattle.rows.specs.Order.{isLess}
 use Rattle.rows.specs.Rows.{Row, row, compared, leads, ascends, Tables, tables, rowsOf, rowsIn, rowAt, roomIn, properRows, Room, Proper}
 use Rattle.rows.specs.declared.order.Order.{Order}
 use Rattle.rows.specs.declared.order.Order.the-variants.{Less, Equal, Greater}
+use Rattle.rows.proofs.Comparing.{less-trans, left-same}
 
 -- ---- the place of a row
 
@@ -97,7 +98,7 @@ room-less m p r =
 
 -- ---- ascending rows
 
-is-less : (o : Order) → isLess o ≡ true → o ≡ Less
+pub is-less : (o : Order) → isLess o ≡ true → o ≡ Less
 is-less Less h = refl
 is-less Equal h = let z : _≡_ {A = ℕ} 0 1 = cc in absurd (omega arith)
 is-less Greater h = let z : _≡_ {A = ℕ} 0 1 = cc in absurd (omega arith)
@@ -106,6 +107,15 @@ is-less Greater h = let z : _≡_ {A = ℕ} 0 1 = cc in absurd (omega arith)
 abbrev pub Before : Row → List Row → Type 0
 Before a [] = Unit {0}
 Before a (b ∷ l) = compared a b ≡ Less
+
+pub before-trans : (a b : Row) (l : List Row) → compared a b ≡ Less → Before b l → Before a l
+before-trans a b [] e h = tt
+before-trans a b (c ∷ l) e h = less-trans a b c e h
+
+-- rows of one pair are before the same rows
+pub before-same : (a b : Row) (l : List Row) → compared a b ≡ Equal → Before b l → Before a l
+before-same a b [] e h = tt
+before-same a b (c ∷ l) e h = left-same c a b e ∙ h
 
 pub asc-none : ascends [] ≡ true
 unfolding ascends
@@ -131,7 +141,7 @@ asc-drop [] (suc i) h = h
 asc-drop (a ∷ l) (suc i) h = asc-drop l i (asc-tail a l h)
 
 module _ {n : ℕ} {t : Tables} (r : Room n t) (i : ℕ) where
-  asc-at : i + 1 < n → ascends (drop i (rowsIn n t)) ≡ (isLess (compared (rowAt t i) (rowAt t (i + 1))) && ascends (drop (i + 1) (rowsIn n t)))
+  pub asc-at : i + 1 < n → ascends (drop i (rowsIn n t)) ≡ (isLess (compared (rowAt t i) (rowAt t (i + 1))) && ascends (drop (i + 1) (rowsIn n t)))
   unfolding ascends
   asc-at h = rw (rows-on r i (omega arith), rows-on r (i + 1) h)
 

@@ -5,31 +5,12 @@ use mathlib.Core.Bool.{true}
 use mathlib.Core.List.{List, [], _∷_}
 use Prim.Native.Nat.{ℕ}
 use native.Mathlib.Omega.{arith}
-use Rattle.rows.specs.Rows.{Row, row, key, compared, ascends}
+use Rattle.rows.specs.Rows.{Row, row, compared, ascends}
 use Rattle.rows.specs.declared.order.Order.{Order}
 use Rattle.rows.specs.declared.order.Order.the-variants.{Less, Equal, Greater}
-use Rattle.rows.proofs.Comparing.{flip, order-flip, order-trans, compared-same}
-use Rattle.rows.proofs.Rows.{Before, asc-before, asc-tail, asc-cons}
+use Rattle.rows.proofs.Comparing.{flipped, less-trans, right-same, left-same, row-same}
+use Rattle.rows.proofs.Rows.{Before, before-same, asc-before, asc-tail, asc-cons}
 use Rattle.sums.specs.Joins.{capped, plus, placed, addRow}
-
--- ---- how rows stand
-
-pub flipped : (a b : Row) (o : Order) → compared a b ≡ o → compared b a ≡ flip o
-flipped a b o h = order-flip (key a) (key b) ∙ ap flip h
-
-pub less-trans : (a b c : Row) → compared a b ≡ Less → compared b c ≡ Less → compared a c ≡ Less
-less-trans a b c = order-trans (key a) (key b) (key c)
-
--- rows of one pair stand alike
-pub right-same : (c a x : Row) → compared a x ≡ Equal → compared c a ≡ compared c x
-right-same c a x h = let p = compared-same a x h in rw (p .0, p .1)
-
-pub left-same : (c a x : Row) → compared a x ≡ Equal → compared a c ≡ compared x c
-left-same c a x h = let p = compared-same a x h in rw (p .0, p .1)
-
--- the same row, but for its bytes
-row-same : (a b : Row) (m n : ℕ) → compared a b ≡ Equal → m ≡ n → row (a .identifier) (a .part .epoch) m ≡ row (b .identifier) (b .part .epoch) n
-row-same a b m n h e = let p = compared-same a b h in rw (p .0, p .1, e)
 
 -- ---- a row added
 
@@ -140,11 +121,6 @@ unfolding addRow
 before-add a b [] h k = h
 before-add a b (c ∷ l) h k = add-cases (Before a) b c l (λ e. h) (λ e. h) (λ e. k)
 
--- two rows of one pair as one are before what either is before
-before-plus : (a x : Row) (l : List Row) → compared a x ≡ Equal → Before x l → Before (plus a x) l
-before-plus a x [] e h = tt
-before-plus a x (c ∷ l) e h = left-same c a x e ∙ h
-
 pub add-ascends : (r : Row) (l : List Row) → ascends l ≡ true → ascends (addRow r l) ≡ true
 unfolding addRow
 add-ascends r [] s = asc-cons r [] tt s
@@ -152,5 +128,5 @@ add-ascends r (b ∷ l) s =
     let ih = add-ascends r l (asc-tail b l s) in
     add-cases (λ (m : List Row). ascends m ≡ true) r b l
     (λ e. asc-cons r (b ∷ l) e s)
-    (λ e. asc-cons (plus r b) l (before-plus r b l e (asc-before b l s)) (asc-tail b l s))
+    (λ e. asc-cons (plus r b) l (before-same (plus r b) b l e (asc-before b l s)) (asc-tail b l s))
     (λ e. asc-cons b (addRow r l) (before-add b r l (flipped r b Greater e) (asc-before b l s)) ih)

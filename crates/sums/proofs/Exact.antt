@@ -15,12 +15,12 @@ use Rattle.rows.specs.Rows.{Row, compared, ascends}
 use Rattle.rows.specs.Removals.{Removal, nothing, basic, sectioned, rowsOfRemoval, totalRows, total}
 use Rattle.rows.specs.declared.order.Order.{Order}
 use Rattle.rows.specs.declared.order.Order.the-variants.{Less, Equal, Greater}
-use Rattle.rows.proofs.Comparing.{compared-same}
+use Rattle.rows.proofs.Comparing.{compared-same, right-same}
 use Rattle.rows.proofs.Rows.{asc-tail}
 use Rattle.rows.proofs.Removals.{total-cons, total-none}
 use Rattle.sums.specs.Joins.{plus, addRow, joined}
 use Rattle.sums.specs.Sums.{unknown, ofZeros, withoutZeros, sum, isEqual, bytesAt, fits, exact}
-use Rattle.sums.proofs.Adding.{add-cases, add-none, right-same}
+use Rattle.sums.proofs.Adding.{add-cases, add-none}
 use Rattle.sums.proofs.Joining.{AllAfter, all-after}
 use Rattle.sums.proofs.Losing.{basic-later, basic-cases}
 

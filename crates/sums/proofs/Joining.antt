@@ -8,9 +8,10 @@ use native.Mathlib.Omega.{arith}
 use lib.ListN.{length}
 use Rattle.rows.specs.Rows.{Row, compared, ascends}
 use Rattle.rows.specs.declared.order.Order.the-variants.{Less, Equal, Greater}
+use Rattle.rows.proofs.Comparing.{flipped, less-trans, right-same}
 use Rattle.rows.proofs.Rows.{asc-before, asc-tail}
 use Rattle.sums.specs.Joins.{plus, addRow, joined}
-use Rattle.sums.proofs.Adding.{flipped, less-trans, right-same, add-at, add-none, add-before, add-comm, add-fused, add-cases, add-ascends}
+use Rattle.sums.proofs.Adding.{add-at, add-none, add-before, add-comm, add-fused, add-cases, add-ascends}
 
 pub joined-nothing : (ys : List Row) → joined [] ys ≡ ys
 unfolding joined

@@ -7,11 +7,11 @@ use native.Mathlib.Omega.{arith}
 use lib.ListN.{length, getD, length-append}
 use Rattle.rows.specs.Rows.{Row, row, compared, ascends, Tables, rowsIn, rowAt, overRows, setRow, Room, Proper}
 use Rattle.rows.specs.declared.order.Order.the-variants.{Less, Equal, Greater}
+use Rattle.rows.proofs.Comparing.{flipped}
 use Rattle.rows.proofs.Rows.{length-rows, rows-last, room-less, proper-first}
 use Rattle.rows.proofs.Backing.{Backing, backing-start, backing-fits, backing-first, backing-room, backing-step, backing-stays}
 use Rattle.sums.specs.Joins.{capped, joined, Last}
 use Rattle.sums.specs.declared.join.LastRow.{LastRow}
-use Rattle.sums.proofs.Adding.{flipped}
 use Rattle.sums.proofs.Joining.{AllBefore, all-before, all-later, all-and-last, joined-none, more-left, last-left, last-right, last-both}
 
 -- the rows before the last are before it

@@ -7,16 +7,15 @@ use Prim.Native.Nat.{ℕ}
 use lib.ListN.{length}
 use Rattle.records.specs.Answers.{Answer, ok}
 use Rattle.records.proofs.Answers.{refused-not-ok}
-use Rattle.rows.specs.Rows.{Row, compared, ascends, Tables, roomIn, overRows}
+use Rattle.rows.specs.Rows.{Row, ascends, Tables, roomIn, overRows}
 use Rattle.rows.specs.Removals.{Removal, nothing, basic, sectioned, removalOf, proper, rowsOfRemoval, stateOf}
-use Rattle.rows.specs.declared.order.Order.the-variants.{Less}
 use Rattle.rows.specs.declared.removed.Removed.{Removed}
 use Rattle.rows.specs.declared.removed.Removed.the-variants.{None, Basic, Sectioned}
-use Rattle.rows.proofs.Rows.{Before, asc-none, asc-before, asc-tail, asc-cons, proper-rows}
+use Rattle.rows.proofs.Rows.{Before, before-trans, asc-none, asc-before, asc-tail, asc-cons, proper-rows}
 use Rattle.rows.proofs.Over.{removal-over, proper-over}
 use Rattle.sums.specs.Sums.{unknown, ofZeros, withoutZeros, sum}
 use Rattle.sums.specs.Calls.{After, kept, placing, summed}
-use Rattle.sums.proofs.Adding.{less-trans, add-ascends}
+use Rattle.sums.proofs.Adding.{add-ascends}
 use Rattle.sums.proofs.Joining.{joined-ascends}
 use Rattle.sums.proofs.Losing.{basic-cases}
 
@@ -25,12 +24,8 @@ use Rattle.sums.proofs.Losing.{basic-cases}
 before-without : (a : Row) (l : List Row) → ascends l ≡ true → Before a l → Before a (withoutZeros l)
 unfolding withoutZeros
 before-without a [] s h = tt
-before-without a (b ∷ l) s h = go (ofZeros b) (before-without a l (asc-tail b l s) (further a b l h (asc-before b l s)))
+before-without a (b ∷ l) s h = go (ofZeros b) (before-without a l (asc-tail b l s) (before-trans a b l h (asc-before b l s)))
   where
-    further : (a b : Row) (l : List Row) → compared a b ≡ Less → Before b l → Before a l
-    further a b [] h k = tt
-    further a b (c ∷ l) h k = less-trans a b c h k
-
     go : (z : Bool) → Before a (withoutZeros l) → Before a (cond z (withoutZeros l) (b ∷ withoutZeros l))
     go true k = k
     go false k = h
