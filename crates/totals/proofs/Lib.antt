@@ -1,0 +1,27 @@
+-- What the proofs share, and the crates above cite. Assumes nothing.
+pub mod ByWords
+pub mod Totals
+pub mod Counts
+pub mod Named
+pub mod Accepted
+pub mod Fitting
+pub mod Recounted
+pub mod OnlyNamed
+pub mod Commuting
+pub mod Unchanged
+pub mod Reading
+pub mod Only
+pub mod Places
+pub mod Tabled
+pub mod UnderOwner
+pub mod Judgements
+pub mod Lengths
+pub mod Verdicts
+pub mod Written
+pub mod GivenFlags
+pub mod TakenRows
+pub mod Runs
+pub mod Taking
+pub mod AddingCounts
+pub mod AddingRows
+pub mod Marked

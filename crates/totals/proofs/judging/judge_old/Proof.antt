@@ -1,0 +1,72 @@
+-- `totals::judging::judge_old` meets its contract: what was judged and what is left to judge make the whole. Assumes nothing.
+use mathlib.Core.Path.{_≡_, ap, _∙_}
+use Prim.Native.Nat.{_-_, _≤_}
+use native.Mathlib.Omega.{arith}
+use borrow.Author.Needs.{needs}
+use mathlib.Core.List.{List}
+use lib.ListN.{length, drop, getD}
+use Rattle.rows.specs.Rows.{Row, row, tables, rowsIn}
+use Rattle.rows.proofs.Comparing.{self-same}
+use Rattle.totals.specs.Table.{totalAt}
+use Rattle.totals.specs.Steps.{under}
+use Rattle.totals.specs.declared.finding.Spot.{Spot}
+use Rattle.totals.proofs.Totals.{total-same}
+use Rattle.totals.proofs.UnderOwner.{under-on, under-end}
+use Rattle.totals.proofs.Judgements.{OldsJudged, olds-start, olds-short, olds-step, olds-end}
+use Rattle.totals.proofs.judging.judge_old.Statement.{statement}
+use Rattle.totals.proofs.judging.judge_old.Tie as tie
+
+abbrev Inv-loop : tie.InvT-loop
+Inv-loop owners epochs totals n owner old-epochs old-counts gone₀ i₀ gone i =
+    let os = under owner old-epochs old-counts in
+    (i ≤ length old-epochs) × (gone ≤ i) × OldsJudged os (drop i os) (rowsIn n (tables owners epochs totals)) gone
+
+abbrev μ-loop : tie.MeasureT-loop
+μ-loop owners epochs totals n owner old-epochs old-counts gone₀ i₀ gone i = length old-epochs - i
+
+-- the old row at hand, and the total that was found for it
+abbrev old : tie.After-look-up Inv-loop μ-loop → Row
+old c = let a = c .before .before .before .before .before .before .before .before .before .args in let i = c .before .before .before .before .loop .i in row (a .owner) (getD (a .old-epochs .now) i 0) (getD (a .old-counts .now) i 0)
+
+abbrev table : tie.After-look-up Inv-loop μ-loop → List Row
+table c = let a = c .before .before .before .before .before .before .before .before .before .args in rowsIn (a .n) (tables (a .owners .now) (a .epochs .now) (a .totals .now))
+
+found : (c : tie.After-look-up Inv-loop μ-loop) → c .look-up .result .total ≡ totalAt (old c) (table c)
+found c = ap (λ (s : Spot). s .total) (c .look-up .ensures) ∙ total-same _ (old c) (table c) (self-same (old c))
+
+short : tie.Need-returns Inv-loop μ-loop
+short c =
+    let l = c .before .before .before .before .before .loop in
+    olds-short (old (c .before)) _ (under-on _ (c .before .before .before .before .before .before .before .before .before .before .pre .1) (l .i) (c .before .before .before .before .loop-test .taken)) (l .inv .2) (rw (← found (c .before)) (c .if1 .taken))
+
+loop-again : tie.Need-loop-again Inv-loop μ-loop
+loop-again c =
+    let l = c .before .before .before .before .before .before .loop in
+    let t = c .before .before .before .before .before .loop-test .taken in
+    let o = old (c .before .before) in
+    let held : o .part .bytes ≤ totalAt o (table (c .before .before)) = rw (← found (c .before .before)) (c .before .if1 .left) in (
+      omega arith,
+      omega (arith, l .inv .1, c .one-if .ensures .1),
+      olds-step o _ (under-on _ (c .before .before .before .before .before .before .before .before .before .before .before .pre .1) (l .i) t) (l .inv .2) held (c .one-if .ensures .0 ∙ rw (found (c .before .before))),
+    )
+
+pub judge-old-spec : {M : Type 1} → statement M
+judge-old-spec =
+    tie.close
+    (tie.spec
+    Inv-loop
+    μ-loop
+    (λ c. (omega arith, omega arith, olds-start _ _))
+    (λ c. search needs)
+    (λ c. omega (arith, c .before .loop-test .taken, c .before .before .before .before .before .before .before .pre .1 .even))
+    (λ c. omega (arith, c .shared-slice-known5 .given (c .before .before .loop .i)))
+    (λ c. search needs)
+    (λ c. c .before .before .loop-test .taken)
+    (λ c κs. c .before .before .before .before .before .before .before .before .pre .0)
+    short
+    (λ c κs. search needs)
+    (λ c. omega (arith, c .before .before .before .before .before .loop-test .taken, c .before .before .before .before .before .before .loop .inv .1, c .one-if .ensures .1, c .before .before .before .before .before .before .before .before .before .before .before .good))
+    (λ c. omega (arith, c .before .before .before .before .before .loop-test .taken, c .before .before .before .before .before .before .before .before .before .before .before .good))
+    (λ c. omega (arith, c .before .before .before .before .before .loop-test .taken))
+    loop-again
+    (λ c. olds-end (under-end _ (c .before .before .before .before .before .before .pre .1) _ (c .loop-test .left)) (c .before .loop .inv .2)))

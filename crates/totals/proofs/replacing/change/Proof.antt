@@ -1,0 +1,39 @@
+-- `totals::replacing::change` meets its contract: refused as it was judged, or written. Assumes nothing.
+use mathlib.Core.Path.{sym, ap, _∙_}
+use borrow.Author.Needs.{needs}
+use Rattle.rows.specs.Rows.{Tables, tables}
+use Rattle.totals.specs.Steps.{judged}
+use Rattle.totals.proofs.Written.{refused-change}
+use Rattle.totals.proofs.replacing.change.Statement.{statement}
+use Rattle.totals.proofs.replacing.change.Tie as tie
+
+-- the table lent
+abbrev lent : tie.Start → Tables
+lent c = tables (c .args .owners .now) (c .args .epochs .now) (c .args .totals .now)
+
+write-requires : tie.Need-write-requires
+write-requires c κs =
+    let p = c .before .before .before .before .before .before .before .before .before .before .before .before .before .before .before .before .pre in
+    (p .0, (p .1 .0, (p .1 .1, sym (ap judged (c .before .before .before .before .count .given .1)) ∙ c .before .before .before .before .before .before .judge .ensures)))
+
+pub change-spec : {M : Type 1} → statement M
+change-spec =
+    tie.close
+    (tie.spec
+    (λ c κs. search needs)
+    (λ c. search needs)
+    (λ c. search needs)
+    (λ c. search needs)
+    write-requires
+    (λ c. search needs)
+    (λ c. search needs)
+    (λ c. search needs)
+    (λ c. refused-change 14 _ (lent (c .before .before .before .before .before .before .before .before .before .before .before .before)) (sym (ap judged (c .enum-told .given .1)) ∙ c .before .before .judge .ensures))
+    (λ c. search needs)
+    (λ c. search needs)
+    (λ c. search needs)
+    (λ c. refused-change 6 _ (lent (c .before .before .before .before .before .before .before .before .before .before .before .before)) (sym (ap judged (c .enum-told2 .given .1)) ∙ c .before .before .judge .ensures))
+    (λ c. search needs)
+    (λ c. search needs)
+    (λ c. search needs)
+    (λ c. c .before .before .before .before .before .write .ensures))

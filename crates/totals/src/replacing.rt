@@ -1,0 +1,225 @@
+// Replacing one element's flags: the table is judged and counted first, then written.
+ghost use mathlib.Core.Path.{_≡_};
+ghost use mathlib.Core.Bool.{true, _&&_};
+ghost use Rattle.records.specs.Tables.{Table};
+ghost use Rattle.rows.specs.Rows.{tables, rowsIn};
+ghost use Rattle.totals.specs.Replacing.{changed};
+ghost use Rattle.records.specs.Answers.{ok};
+ghost use Rattle.totals.specs.Steps.{under, judged, countedRows, namedBy, Standing};
+ghost use Rattle.totals.specs.Calls.{shown, placing, given, properGiven, replacing};
+use crate::judging::Judged;
+use crate::judging::judge_new;
+use crate::judging::judge_old;
+use crate::table;
+use crate::writing::add_rows;
+use crate::writing::take_rows;
+use records::Head;
+use records::Refusal;
+
+// The new number of rows, or a refusal; 14 is told by a name of its own.
+pub enum Replaced {
+    Rows(usize),
+    IndexMismatch,
+    Refused(Refusal),
+}
+
+// Judges a change of the first n rows: how many rows there are afterwards, or why it is refused.
+fn judge(
+    owners: &[[u8; 32]],
+    epochs: &[u16],
+    totals: &[u64],
+    n: usize,
+    old_owner: [u8; 32],
+    old_epochs: &[u16],
+    old_counts: &[u32],
+    new_owner: [u8; 32],
+    new_epochs: &[u16],
+    new_counts: &[u32],
+) -> Judged
+    requires { ⌜ Standing 0 n (tables (now owners) (now epochs) (now totals)) ⌝ }
+    requires { ⌜ Table (now «old_epochs») (now «old_counts») ⌝ }
+    requires { ⌜ Table (now «new_epochs») (now «new_counts») ⌝ }
+    ensures { λ r. ⌜ judged r ≡ countedRows (changed (under «old_owner» (now («old_epochs» .entry)) (now («old_counts» .entry))) (under «new_owner» (now («new_epochs» .entry)) (now («new_counts» .entry))) (rowsIn n (tables (now (owners .entry)) (now (epochs .entry)) (now (totals .entry))))) ⌝ }
+{
+    match judge_old(owners, epochs, totals, n, old_owner, old_epochs, old_counts) {
+        Judged::Mismatch => Judged::Mismatch,
+        Judged::TooLarge => Judged::TooLarge,
+        Judged::Number(gone) => match judge_new(
+            owners,
+            epochs,
+            totals,
+            n,
+            old_owner,
+            old_epochs,
+            old_counts,
+            new_owner,
+            new_epochs,
+            new_counts,
+        ) {
+            Judged::Mismatch => Judged::Mismatch,
+            Judged::TooLarge => Judged::TooLarge,
+            Judged::Number(made) => Judged::Number(n - gone + made),
+        },
+    }
+}
+
+// Writes a change that was judged, where its `count` rows have room.
+fn write(
+    owners: &mut [[u8; 32]],
+    epochs: &mut [u16],
+    totals: &mut [u64],
+    n: usize,
+    old_owner: [u8; 32],
+    old_epochs: &[u16],
+    old_counts: &[u32],
+    new_owner: [u8; 32],
+    new_epochs: &[u16],
+    new_counts: &[u32],
+    count: usize,
+) -> Replaced
+    requires { ⌜ Standing 0 n (tables (now owners) (now epochs) (now totals)) ⌝ }
+    requires { ⌜ Table (now «old_epochs») (now «old_counts») ⌝ }
+    requires { ⌜ Table (now «new_epochs») (now «new_counts») ⌝ }
+    requires { ⌜ ok count ≡ countedRows (changed (under «old_owner» (now «old_epochs») (now «old_counts»)) (under «new_owner» (now «new_epochs») (now «new_counts»)) (rowsIn n (tables (now owners) (now epochs) (now totals)))) ⌝ }
+    ensures { λ r. ⌜ shown r (tables (now (owners .exit)) (now (epochs .exit)) (now (totals .exit))) ≡ placing (changed (under «old_owner» (now («old_epochs» .entry)) (now («old_counts» .entry))) (under «new_owner» (now («new_epochs» .entry)) (now («new_counts» .entry))) (rowsIn n (tables (now (owners .entry)) (now (epochs .entry)) (now (totals .entry))))) (tables (now (owners .entry)) (now (epochs .entry)) (now (totals .entry))) ⌝ }
+{
+    if table::fit(count, owners, epochs, totals) {
+        let left = take_rows(owners, epochs, totals, n, old_owner, old_epochs, old_counts);
+        add_rows(
+            owners,
+            epochs,
+            totals,
+            left,
+            new_owner,
+            new_epochs,
+            new_counts,
+            count,
+        );
+        return Replaced::Rows(count);
+    }
+    Replaced::Refused(Refusal::NoRoom)
+}
+
+// Changes the first n rows: judged and counted first, then refused or written.
+fn change(
+    owners: &mut [[u8; 32]],
+    epochs: &mut [u16],
+    totals: &mut [u64],
+    n: usize,
+    old_owner: [u8; 32],
+    old_epochs: &[u16],
+    old_counts: &[u32],
+    new_owner: [u8; 32],
+    new_epochs: &[u16],
+    new_counts: &[u32],
+) -> Replaced
+    requires { ⌜ Standing 0 n (tables (now owners) (now epochs) (now totals)) ⌝ }
+    requires { ⌜ Table (now «old_epochs») (now «old_counts») ⌝ }
+    requires { ⌜ Table (now «new_epochs») (now «new_counts») ⌝ }
+    ensures { λ r. ⌜ shown r (tables (now (owners .exit)) (now (epochs .exit)) (now (totals .exit))) ≡ placing (changed (under «old_owner» (now («old_epochs» .entry)) (now («old_counts» .entry))) (under «new_owner» (now («new_epochs» .entry)) (now («new_counts» .entry))) (rowsIn n (tables (now (owners .entry)) (now (epochs .entry)) (now (totals .entry))))) (tables (now (owners .entry)) (now (epochs .entry)) (now (totals .entry))) ⌝ }
+{
+    match judge(
+        owners,
+        epochs,
+        totals,
+        n,
+        old_owner,
+        old_epochs,
+        old_counts,
+        new_owner,
+        new_epochs,
+        new_counts,
+    ) {
+        Judged::Mismatch => Replaced::IndexMismatch,
+        Judged::TooLarge => Replaced::Refused(Refusal::Overflow),
+        Judged::Number(count) => write(
+            owners,
+            epochs,
+            totals,
+            n,
+            old_owner,
+            old_epochs,
+            old_counts,
+            new_owner,
+            new_epochs,
+            new_counts,
+            count,
+        ),
+    }
+}
+
+// Whether flags are absent or proper.
+fn is_good(present: bool, head: Head, epochs: &[u16], counts: &[u32]) -> bool
+    ensures { λ r. ⌜ r ≡ properGiven present head (now (epochs .entry)) (now (counts .entry)) ⌝ }
+{
+    if present {
+        return records::is_proper(head, epochs, counts);
+    }
+    true
+}
+
+// An owner, and how many records are named under it.
+pub struct Named {
+    pub owner: [u8; 32],
+    pub records: usize,
+}
+
+// What flags name: nothing where they are absent; 32 zero bytes stand for no owner.
+fn names_of(present: bool, head: Head) -> Named
+    ensures { λ r. ⌜ r ≡ namedBy present head ⌝ }
+{
+    if present {
+        let owner = head.owner_id();
+        let id = owner.id;
+        return Named {
+            owner: id,
+            records: head.records,
+        };
+    }
+    Named {
+        owner: [0u8; 32],
+        records: 0,
+    }
+}
+
+// Replaces one element's old flags by new ones in a table of totals, either of which may be absent; answers the new number of rows.
+pub fn replace(
+    rows: usize,
+    owners: &mut [[u8; 32]],
+    epochs: &mut [u16],
+    totals: &mut [u64],
+    old_present: bool,
+    old: Head,
+    old_epochs: &[u16],
+    old_counts: &[u32],
+    new_present: bool,
+    new: Head,
+    new_epochs: &[u16],
+    new_counts: &[u32],
+) -> Replaced
+    ensures { λ r. ⌜ shown r (tables (now (owners .exit)) (now (epochs .exit)) (now (totals .exit))) ≡ replacing rows (tables (now (owners .entry)) (now (epochs .entry)) (now (totals .entry))) (properGiven «old_present» old (now («old_epochs» .entry)) (now («old_counts» .entry)) && properGiven «new_present» new (now («new_epochs» .entry)) (now («new_counts» .entry))) (given «old_present» old (now («old_epochs» .entry)) (now («old_counts» .entry))) (given «new_present» new (now («new_epochs» .entry)) (now («new_counts» .entry))) ⌝ }
+{
+    if table::is_proper(rows, owners, epochs, totals) {
+        if is_good(old_present, old, old_epochs, old_counts) {
+            if is_good(new_present, new, new_epochs, new_counts) {
+                let taken = names_of(old_present, old);
+                let added = names_of(new_present, new);
+                let old_owner = taken.owner;
+                let new_owner = added.owner;
+                return change(
+                    owners,
+                    epochs,
+                    totals,
+                    rows,
+                    old_owner,
+                    &old_epochs[..taken.records],
+                    &old_counts[..taken.records],
+                    new_owner,
+                    &new_epochs[..added.records],
+                    &new_counts[..added.records],
+                );
+            }
+        }
+    }
+    Replaced::Refused(Refusal::BadTable)
+}
