@@ -1,0 +1,58 @@
+// A table of structs, taken apart into three columns and put together from them.
+ghost use mathlib.Core.Path.{_≡_};
+ghost use Prim.Native.Nat.{_≤_};
+ghost use lib.ListN.{length};
+ghost use Rattle.records.specs.Tables.{over};
+ghost use Rattle.rows.specs.Rows.{tables, rowsIn, overRows, Room};
+ghost use Rattle.totals_index.specs.Structs.{columns, structs};
+
+// A row of the table: who paid, in which epoch, and how many bytes in all.
+#[repr(C)]
+pub struct Total {
+    pub owner: [u8; 32],
+    pub epoch: u16,
+    pub total: u64,
+}
+
+// Copies the first n rows of the table to the start of three columns.
+pub fn take_apart(
+    table: &[Total],
+    n: usize,
+    owners: &mut [[u8; 32]],
+    epochs: &mut [u16],
+    totals: &mut [u64],
+)
+    requires { ⌜ (n ≤ length (now table)) × Room n (tables (now owners) (now epochs) (now totals)) ⌝ }
+    ensures { λ _. ⌜ tables (now (owners .exit)) (now (epochs .exit)) (now (totals .exit)) ≡ overRows (rowsIn n (columns (now (table .entry)))) (tables (now (owners .entry)) (now (epochs .entry)) (now (totals .entry))) ⌝ }
+{
+    let mut i: usize = 0;
+    while i < n {
+        let row = table[i];
+        owners[i] = row.owner;
+        epochs[i] = row.epoch;
+        totals[i] = row.total;
+        i += 1;
+    }
+}
+
+// Copies the first n rows of three columns to the start of the table.
+pub fn put_together(
+    table: &mut [Total],
+    n: usize,
+    owners: &[[u8; 32]],
+    epochs: &[u16],
+    totals: &[u64],
+)
+    requires { ⌜ (n ≤ length (now table)) × Room n (tables (now owners) (now epochs) (now totals)) ⌝ }
+    ensures { λ _. ⌜ now (table .exit) ≡ over (structs (rowsIn n (tables (now (owners .entry)) (now (epochs .entry)) (now (totals .entry))))) (now (table .entry)) ⌝ }
+{
+    let mut at: usize = 0;
+    while at < n {
+        table[at] = Total {
+            owner: owners[at],
+            epoch: epochs[at],
+            total: totals[at],
+        };
+        at += 1;
+    }
+}
