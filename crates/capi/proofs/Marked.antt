@@ -12,9 +12,10 @@ use Rattle.rows.specs.Rows.{Tables}
 use Rattle.rows.specs.declared.removed.Removed.the-variants.{None, Basic, Sectioned}
 use Rattle.sums.specs.Calls.{kept as keptSum}
 use Rattle.splitting.specs.Calls.{kept as keptSplit}
+use Rattle.totals.specs.Calls.{kept as keptTotals}
 use Rattle.repair.specs.Calls.{kept as keptRepair}
 use Rattle.capi.specs.Given.{isTrue, isKind, kindFound, isStrategy, strategyGiven, isRemoval, removedGiven}
-use Rattle.capi.specs.Told.{flagsLeft, flagsTold, countTold, truthTold, bytesLeft, bytesTold, sumLeft, sumTold, splitLeft, splitTold, repairLeft, repairTold}
+use Rattle.capi.specs.Told.{flagsLeft, flagsTold, countTold, truthTold, bytesLeft, bytesTold, sumLeft, sumTold, splitLeft, splitTold, totalsLeft, totalsTold, repairLeft, repairTold}
 
 -- 0 to 3 are the four kinds, and no other byte is one
 pub kinds :
@@ -58,6 +59,9 @@ module _ (n : ℕ) where
       → splitTold (keptSplit n kt vt)
       ≡ splitLeft (record { refusal = n; key = record { kind = 0; bytes = 0; rows = 0 }; value = record { kind = 0; bytes = 0; rows = 0 }; visited = 0 }) kt vt
   split-refused kt vt = refl
+
+  pub totals-refused : (t : Tables) → totalsTold (keptTotals n t) ≡ totalsLeft (record { refusal = n; count = 0 }) t
+  totals-refused t = refl
 
   pub repair-refused : (out os cs : List ℕ) → repairTold (keptRepair n out os cs) ≡ repairLeft (record { refusal = n; bytes = 0; lines = 0 }) out os cs
   repair-refused out os cs = refl

@@ -16,9 +16,11 @@ use Rattle.sums.specs.Calls.{After as AfterSum, told as toldSum, shown as shown
 use Rattle.sums.specs.declared.sum.Summed.{Summed}
 use Rattle.splitting.specs.Calls.{After as AfterSplit, told as toldSplit, shown as shownSplit}
 use Rattle.splitting.specs.declared.split.Splitting.{Splitting}
+use Rattle.totals.specs.Calls.{After as AfterTotals, told as toldTotals, shown as shownTotals}
+use Rattle.totals.specs.declared.replacing.Replaced.{Replaced}
 use Rattle.repair.specs.Calls.{After as AfterRepair, sizes, shown as shownRepair}
 use Rattle.repair.specs.declared.repairing.Outcome.{Outcome}
-use Rattle.capi.specs.Told.{flagsLeft, flagsAnswer, flagsTold, countTold, bytesLeft, bytesTold, sumLeft, sumAnswer, sumTold, splitLeft, splitAnswer, splitTold, repairLeft, repairAnswer, repairTold}
+use Rattle.capi.specs.Told.{flagsLeft, flagsAnswer, flagsTold, countTold, bytesLeft, bytesTold, sumLeft, sumAnswer, sumTold, splitLeft, splitAnswer, splitTold, totalsLeft, totalsTold, repairLeft, repairAnswer, repairTold}
 use Rattle.capi.specs.declared.types.CFlags.{CFlags}
 use Rattle.capi.specs.declared.types.CCount.{CCount}
 use Rattle.capi.specs.declared.types.CSum.{CSum}
@@ -55,6 +57,9 @@ sum-told r a t x h k = ap (λ (z : CSum). sumLeft z t) h ∙ ap sumTold k
 
 pub split-told : (r : CSplit) (a : Splitting) (kt vt : Tables) (x : AfterSplit) → r ≡ splitAnswer (toldSplit a) → shownSplit a kt vt ≡ x → splitLeft r kt vt ≡ splitTold x
 split-told r a kt vt x h k = ap (λ (z : CSplit). splitLeft z kt vt) h ∙ ap splitTold k
+
+pub totals-told : (r : CCount) (a : Replaced) (t : Tables) (x : AfterTotals) → r ≡ countTold (toldTotals a) → shownTotals a t ≡ x → totalsLeft r t ≡ totalsTold x
+totals-told r a t x h k = ap (λ (z : CCount). totalsLeft z t) h ∙ ap totalsTold k
 
 pub repair-told : (r : CRepaired) (a : Outcome) (out os cs : List ℕ) (x : AfterRepair) → r ≡ repairAnswer (sizes a) → shownRepair a out os cs ≡ x → repairLeft r out os cs ≡ repairTold x
 repair-told r a out os cs x h k = ap (λ (z : CRepaired). repairLeft z out os cs) h ∙ ap repairTold k

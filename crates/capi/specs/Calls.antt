@@ -16,8 +16,9 @@ use Rattle.rows.specs.Rows.{Tables}
 use Rattle.rows.specs.Calls.{hasRemoval, totalRemoved}
 use Rattle.sums.specs.Calls.{After as AfterSum, kept as keptSum, summed}
 use Rattle.splitting.specs.Calls.{After as AfterSplit, kept as keptSplit, splitRemoved}
+use Rattle.totals.specs.Calls.{After as AfterTotals, kept as keptTotals, given, properGiven, replacing}
 use Rattle.removal.specs.Calls.{combinedRemoved, optionalCombinedRemoved}
-use Rattle.capi.specs.Given.{isTrue, isKind, headGiven, isStrategy, strategyGiven, canMerge, isRemoval, removedGiven}
+use Rattle.capi.specs.Given.{isTrue, isKind, isKindIf, headGiven, isStrategy, strategyGiven, canMerge, isRemoval, removedGiven}
 use Rattle.capi.specs.declared.types.CHead.{CHead}
 use Rattle.capi.specs.declared.types.CRemoval.{CRemoval}
 use Rattle.capi.specs.declared.types.CId.{CId}
@@ -75,6 +76,14 @@ hasRemovalC x t = cond (isRemoval (x .kind)) (hasRemoval (removedGiven x) t) (re
 -- `petasunok_total_removed_bytes`
 abbrev pub totalRemovedC : CRemoval → Tables → Answer ℕ
 totalRemovedC x t = cond (isRemoval (x .kind)) (totalRemoved (removedGiven x) t) (refused 11)
+
+-- `petasunok_totals_replace`
+abbrev pub totalsReplacedC : ℕ → Tables → ℕ → CHead → List ℕ → List ℕ → ℕ → CHead → List ℕ → List ℕ → AfterTotals
+totalsReplacedC n t op old oes ocs np new nes ncs =
+    cond (isKindIf (isTrue op) old && isKindIf (isTrue np) new)
+    (replacing n t (properGiven (isTrue op) (headGiven old) oes ocs && properGiven (isTrue np) (headGiven new) nes ncs)
+    (given (isTrue op) (headGiven old) oes ocs) (given (isTrue np) (headGiven new) nes ncs))
+    (keptTotals 11 t)
 
 -- ---- the head alone
 

@@ -42,6 +42,10 @@ isKind b = known (kindOfByte b)
 abbrev pub headGiven : CHead → Head
 headGiven h = record { kind = kindFound (kindOfByte (h .kind)); base = h .base; owner = h .owner; records = h .records }
 
+-- whether flags are absent or their byte is that of a kind; absent ones are not looked at
+abbrev pub isKindIf : Bool → CHead → Bool
+isKindIf present h = cond present (isKind (h .kind)) true
+
 -- the changes, if given
 abbrev pub changesGiven : ℕ → ℕ → ℕ → Changes
 changesGiven given count size = cond (isTrue given) (Given count size) NotGiven

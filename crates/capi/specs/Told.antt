@@ -15,6 +15,7 @@ use Rattle.rows.specs.declared.removed.Removed.{Removed}
 use Rattle.rows.specs.declared.removed.Removed.the-variants.{None, Basic, Sectioned}
 use Rattle.sums.specs.Calls.{After as AfterSum}
 use Rattle.splitting.specs.Calls.{Told, After as AfterSplit}
+use Rattle.totals.specs.Calls.{After as AfterTotals}
 use Rattle.repair.specs.Calls.{Sizes, After as AfterRepair}
 use Rattle.capi.specs.declared.types.CHead.{CHead}
 use Rattle.capi.specs.declared.types.CFlags.{CFlags}
@@ -143,6 +144,21 @@ splitAnswer (refused r) = record { refusal = r; key = removalTold None; value = 
 -- the same with the lent tables
 abbrev pub splitTold : AfterSplit → SplitLeft
 splitTold a = splitLeft (splitAnswer (a .answer)) (a .key-rows) (a .value-rows)
+
+-- ---- totals
+
+-- all that a change of totals leaves
+pub record TotalsLeft : Type 0 where
+  pub answer : CCount
+  pub rows : Tables
+
+-- what was answered and left
+abbrev pub totalsLeft : CCount → Tables → TotalsLeft
+totalsLeft a t = record { answer = a; rows = t }
+
+-- the number of rows, or a refusal's, with the lent table
+abbrev pub totalsTold : AfterTotals → TotalsLeft
+totalsTold a = totalsLeft (countTold (a .answer)) (a .rows)
 
 -- ---- repairs
 

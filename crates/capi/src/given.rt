@@ -1,6 +1,6 @@
 // What C gives, as the calls take it. A byte that names no kind, removal or strategy is found before a call is made.
 ghost use mathlib.Core.Path.{_≡_};
-ghost use Rattle.capi.specs.Given.{isTrue, isKind, kindFound, headGiven, changesGiven, isStrategy, strategyGiven, canMerge, isRemoval, removedGiven};
+ghost use Rattle.capi.specs.Given.{isTrue, isKind, isKindIf, kindFound, headGiven, changesGiven, isStrategy, strategyGiven, canMerge, isRemoval, removedGiven};
 ghost use Rattle.records.specs.Flags.{kindOfByte};
 use crate::types::CHead;
 use crate::types::CRemoval;
@@ -27,6 +27,16 @@ pub fn is_kind(byte: u8) -> bool
         KindByte::Known(_) => true,
         KindByte::Unknown => false,
     }
+}
+
+// Whether flags are absent or their byte is that of a kind; absent ones are not looked at.
+pub fn is_kind_if(present: bool, flags: CHead) -> bool
+    ensures { λ r. ⌜ r ≡ isKindIf present flags ⌝ }
+{
+    if present {
+        return is_kind(flags.kind);
+    }
+    true
 }
 
 // The kind of a byte; any, where it has none.
@@ -86,13 +96,10 @@ pub fn strategy(byte: u8) -> MergingOwnersStrategy
 pub fn can_merge(present: bool, ours: CHead, theirs: CHead, strategy: u8) -> bool
     ensures { λ r. ⌜ r ≡ canMerge present ours theirs strategy ⌝ }
 {
-    if present {
-        if is_kind(ours.kind) {
-            return is_kind(theirs.kind) & is_strategy(strategy);
-        }
-        return false;
+    if is_kind_if(present, ours) {
+        return is_kind(theirs.kind) & is_strategy(strategy);
     }
-    is_kind(theirs.kind) & is_strategy(strategy)
+    false
 }
 
 // Whether a byte is that of a removal.

@@ -7,6 +7,7 @@ mod reading;
 mod removals;
 mod removing;
 mod repairing;
+mod replacing;
 mod told;
 mod types;
 mod writing;

@@ -6,6 +6,7 @@ ghost use Rattle.records.specs.Answers.{ok, refused, shown, counted};
 ghost use Rattle.rows.specs.Calls.{told, totalled};
 ghost use Rattle.sums.specs.Calls.{told as toldSum};
 ghost use Rattle.splitting.specs.Calls.{told as toldSplit};
+ghost use Rattle.totals.specs.Calls.{told as toldTotals};
 ghost use Rattle.repair.specs.Calls.{sizes};
 ghost use Rattle.rows.specs.declared.removed.Removed.the-variants.{None};
 ghost use Rattle.capi.specs.Told.{headTold, flagsAnswer, countTold, truthTold, ownerTold, ownerIdTold, removalTold, sumAnswer, splitAnswer, repairAnswer};
@@ -32,6 +33,7 @@ use rows::StorageRemovedBytes;
 use rows::Total;
 use splitting::Splitting;
 use sums::Summed;
+use totals::Replaced;
 
 // A head, its kind a byte.
 pub fn head(h: Head) -> CHead
@@ -115,6 +117,17 @@ pub fn total(answer: Total) -> CCount
     match answer {
         Total::Bytes(n) => some_number(n as u64),
         Total::Refused(refusal) => no_number(refusal.number()),
+    }
+}
+
+// A number of rows, or a refusal.
+pub fn replaced(answer: Replaced) -> CCount
+    ensures { λ r. ⌜ r ≡ countTold (toldTotals answer) ⌝ }
+{
+    match answer {
+        Replaced::Rows(n) => some_number(n as u64),
+        Replaced::IndexMismatch => no_number(14),
+        Replaced::Refused(refusal) => no_number(refusal.number()),
     }
 }
 

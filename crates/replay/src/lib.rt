@@ -14,7 +14,7 @@ pub enum Verdict {
     NoQuestion,
 }
 
-// Makes the call of a number, 1 to 23; answers the place in the reply behind what it answers.
+// Makes the call of a number, 1 to 24; answers the place in the reply behind what it answers.
 fn make(call: u8, question: &[u8], reply: &[u8]) -> usize {
     match call {
         1..=5 => reads::deserialize(call, question, reply),
@@ -33,6 +33,7 @@ fn make(call: u8, question: &[u8], reply: &[u8]) -> usize {
         21 => heads::owner_id(question, reply),
         22 => heads::type_byte(question, reply),
         23 => repairs::repair(question, reply),
+        24 => replay_totals::totals_replace(question, reply),
         _ => BEYOND,
     }
 }

@@ -31,6 +31,7 @@ pub fn print_name(call: usize) {
         20 => say(b"base_epoch"),
         21 => say(b"owner_id"),
         22 => say(b"type_byte"),
-        _ => say(b"repair"),
+        23 => say(b"repair"),
+        _ => say(b"totals_replace"),
     }
 }

@@ -3,7 +3,7 @@ use crate::names::print_name;
 use libc::STDOUT_FILENO;
 
 // The places of a tally: one for each call number, and place 0.
-pub const CALLS: usize = 24;
+pub const CALLS: usize = 25;
 
 // The most faults that are named.
 const NAMED: u64 = 10;

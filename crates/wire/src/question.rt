@@ -36,6 +36,13 @@ pub fn take_u32(src: &[u8], at: &mut usize) -> u32 {
     high * 65536 + low
 }
 
+// A number of eight bytes.
+fn take_u64(src: &[u8], at: &mut usize) -> u64 {
+    let high = take_u32(src, at) as u64;
+    let low = take_u32(src, at) as u64;
+    high * 4294967296 + low
+}
+
 // A truth value: 0 for no, and anything else for yes.
 pub fn take_bool(src: &[u8], at: &mut usize) -> bool {
     take_u8(src, at) != 0
@@ -110,6 +117,17 @@ pub fn take_counts<'a>(src: &[u8], at: &mut usize, counts: &'a mut [u32]) -> &'a
         k += 1;
     }
     &mut counts[..n]
+}
+
+// A table of totals; answers its places.
+pub fn take_totals<'a>(src: &[u8], at: &mut usize, totals: &'a mut [u64]) -> &'a mut [u64] {
+    let n = take_places(src, at, totals.len());
+    let mut k: usize = 0;
+    while k < n {
+        totals[k] = take_u64(src, at);
+        k += 1;
+    }
+    &mut totals[..n]
 }
 
 // A table of offsets; answers its places.

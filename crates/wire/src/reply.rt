@@ -45,6 +45,12 @@ pub fn tell_u32(reply: &[u8], at: usize, n: u32) -> usize {
     tell_u16(reply, low, (n % 65536) as u16)
 }
 
+// A number in eight bytes.
+fn tell_u64(reply: &[u8], at: usize, n: u64) -> usize {
+    let low = tell_u32(reply, at, (n / 4294967296) as u32);
+    tell_u32(reply, low, (n % 4294967296) as u32)
+}
+
 // A number of places or bytes in two bytes.
 pub fn tell_len(reply: &[u8], at: usize, n: usize) -> usize {
     if n < 65536 {
@@ -92,6 +98,17 @@ fn tell_counts(reply: &[u8], at: usize, counts: &[u32]) -> usize {
     to
 }
 
+// A table of totals.
+fn tell_totals(reply: &[u8], at: usize, totals: &[u64]) -> usize {
+    let mut to = tell_len(reply, at, totals.len());
+    let mut k: usize = 0;
+    while k < totals.len() {
+        to = tell_u64(reply, to, totals[k]);
+        k += 1;
+    }
+    to
+}
+
 // A table of offsets.
 pub fn tell_offsets(reply: &[u8], at: usize, offsets: &[usize]) -> usize {
     let mut to = tell_len(reply, at, offsets.len());
@@ -128,6 +145,18 @@ pub fn tell_rows(
     bytes: &[u32],
 ) -> usize {
     tell_tables(reply, tell_ids(reply, at, ids), epochs, bytes)
+}
+
+// The tables of rows of totals.
+pub fn tell_totals_rows(
+    reply: &[u8],
+    at: usize,
+    owners: &[[u8; 32]],
+    epochs: &[u16],
+    totals: &[u64],
+) -> usize {
+    let to = tell_epochs(reply, tell_ids(reply, at, owners), epochs);
+    tell_totals(reply, to, totals)
 }
 
 // A refusal's number.

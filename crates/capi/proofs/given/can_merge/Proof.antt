@@ -4,10 +4,6 @@ use borrow.Author.Needs.{needs}
 use Rattle.capi.proofs.given.can_merge.Statement.{statement}
 use Rattle.capi.proofs.given.can_merge.Tie as tie
 
-returns : tie.Need-returns
-returns c =
-    simp (c .before .before .before .before .if1 .taken, sym (c .before .before .before .is-kind .ensures) ∙ c .before .before .if2 .taken, c .before .is-kind2 .ensures, c .is-strategy .ensures)
-
 pub can-merge-spec : {M : Type 1} → statement M
 can-merge-spec =
     tie.close
@@ -15,8 +11,5 @@ can-merge-spec =
     (λ c κs. search needs)
     (λ c κs. search needs)
     (λ c κs. search needs)
-    returns
-    (λ c. simp (c .before .before .if1 .taken, sym (c .before .is-kind .ensures) ∙ c .if2 .left))
-    (λ c κs. search needs)
-    (λ c κs. search needs)
-    (λ c. simp (c .before .before .if1 .left, c .before .is-kind3 .ensures, c .is-strategy2 .ensures)))
+    (λ c. simp (sym (c .before .before .before .is-kind-if .ensures) ∙ c .before .before .if1 .taken, c .before .is-kind .ensures, c .is-strategy .ensures))
+    (λ c. simp (sym (c .before .is-kind-if .ensures) ∙ c .if1 .left)))

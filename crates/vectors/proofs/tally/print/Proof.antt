@@ -8,7 +8,7 @@ abbrev Inv-loop : tie.InvT-loop
 Inv-loop agree differ call₀ t4 call = Unit {0}
 
 abbrev μ-loop : tie.MeasureT-loop
-μ-loop agree differ call₀ t4 call = 24 - call
+μ-loop agree differ call₀ t4 call = 25 - call
 
 pub print-spec : {M : Type 1} → statement M
 print-spec =
