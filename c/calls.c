@@ -6,7 +6,7 @@ const size_t widths[PARTS] = {
     [BYTES] = 1, [OTHER_BYTES] = 1, [OURS_EPOCHS] = 2, [OURS_COUNTS] = 4, [THEIRS_EPOCHS] = 2, [THEIRS_COUNTS] = 4,
     [REMOVAL_IDS] = 32, [REMOVAL_EPOCHS] = 2, [REMOVAL_BYTES] = 4, [OUT] = 1, [EPOCHS] = 2, [COUNTS] = 4,
     [LEFT_IDS] = 32, [LEFT_EPOCHS] = 2, [LEFT_BYTES] = 4, [VALUE_IDS] = 32, [VALUE_EPOCHS] = 2, [VALUE_BYTES] = 4,
-    [OFFSETS] = sizeof(size_t), [CHANGES] = 1,
+    [OFFSETS] = sizeof(size_t), [CHANGES] = 1, [TOTAL_OWNERS] = 32, [TOTAL_EPOCHS] = 2, [TOTALS] = 8,
 };
 
 /* ---- answers of every sort as one */
@@ -33,6 +33,7 @@ OF(repaired, petasunok_repaired, .refusal = a.refusal, .count = a.bytes, .lines 
 #define LEFT PART(LEFT_IDS), PART(LEFT_EPOCHS), PART(LEFT_BYTES)
 #define VALUE PART(VALUE_IDS), PART(VALUE_EPOCHS), PART(VALUE_BYTES)
 #define ROOM PART(EPOCHS), PART(COUNTS)
+#define TABLE_OF_TOTALS g->rows, PART(TOTAL_OWNERS), PART(TOTAL_EPOCHS), PART(TOTALS)
 #define CALL(name, of, arguments) \
     static told name(const given *g) { return of(petasunok_##name arguments); }
 
@@ -59,6 +60,7 @@ CALL(base_epoch, of_count, (g->ours))
 CALL(owner_id, of_maybe_owner, (g->ours))
 CALL(type_byte, of_count, (g->ours))
 CALL(repair, of_repaired, (PART(BYTES), PART(OUT), PART(OFFSETS), PART(CHANGES)))
+CALL(totals_replace, of_count, (TABLE_OF_TOTALS, g->present, OURS, g->theirs_present, THEIRS))
 
 #define READS (BIT(BYTES) | ROOM_TABLES)
 #define MERGES (OURS_TABLES | THEIRS_TABLES | ROOM_TABLES)
@@ -94,6 +96,8 @@ const call calls[CALLS] = {
     {"owner_id", owner_id, MAYBE_OWNER, 0, TAKES_OURS, BIT(11)},
     {"type_byte", type_byte, NUMBER, 0, TAKES_OURS, BIT(11)},
     {"repair", repair, REPAIRED, BIT(BYTES) | BIT(OUT) | LINE_TABLES, 0, BIT(1) | BIT(2) | BIT(10)},
+    {"totals_replace", totals_replace, TABLE, OURS_TABLES | THEIRS_TABLES | TOTAL_TABLES,
+     TAKES_OURS | TAKES_THEIRS | TAKES_ROWS | TAKES_PRESENT | TAKES_THEIRS_PRESENT, BIT(6) | BIT(10) | BIT(11) | BIT(14)},
 };
 
 /* ---- what holds of every answer */
@@ -114,7 +118,7 @@ int same_told(const told *a, const told *b) {
 
 size_t places(const told *answer, int part) {
     if (answer->refusal != 0) return 0;
-    if (part == OUT) return (size_t)answer->count;
+    if (part == OUT || (BIT(part) & TOTAL_TABLES)) return (size_t)answer->count;
     if (BIT(part) & ROOM_TABLES) return answer->head.records;
     if (BIT(part) & LEFT_TABLES) return answer->removal.rows;
     if (BIT(part) & VALUE_TABLES) return answer->value.rows;
@@ -127,7 +131,7 @@ const char *malformed(const call *c, const given *g, const told *answer) {
     int holds_flags = c->answer == FLAGS || c->answer == HEAD || c->answer == MAYBE_OWNER;
     int i;
     if (answer->refusal != 0) {
-        if (answer->refusal > 11 || !(c->refusals & BIT(answer->refusal))) return "a refusal that this call does not give";
+        if (answer->refusal > LAST_REFUSAL || !(c->refusals & BIT(answer->refusal))) return "a refusal that this call does not give";
         nothing.refusal = answer->refusal;
         return same_told(answer, &nothing) ? NULL : "more than the number in a refused answer";
     }

@@ -15,6 +15,7 @@ enum {
     LEFT_IDS, LEFT_EPOCHS, LEFT_BYTES, /* the key's rows of a split, and the left removal of a sum */
     VALUE_IDS, VALUE_EPOCHS, VALUE_BYTES,
     OFFSETS, CHANGES,
+    TOTAL_OWNERS, TOTAL_EPOCHS, TOTALS,
     PARTS
 };
 
@@ -27,15 +28,21 @@ enum {
 #define LEFT_TABLES (BIT(LEFT_IDS) | BIT(LEFT_EPOCHS) | BIT(LEFT_BYTES))
 #define VALUE_TABLES (BIT(VALUE_IDS) | BIT(VALUE_EPOCHS) | BIT(VALUE_BYTES))
 #define LINE_TABLES (BIT(OFFSETS) | BIT(CHANGES))
-#define WRITTEN_TABLES (BIT(OUT) | ROOM_TABLES | LEFT_TABLES | VALUE_TABLES | LINE_TABLES)
+#define TOTAL_TABLES (BIT(TOTAL_OWNERS) | BIT(TOTAL_EPOCHS) | BIT(TOTALS))
+#define WRITTEN_TABLES (BIT(OUT) | ROOM_TABLES | LEFT_TABLES | VALUE_TABLES | LINE_TABLES | TOTAL_TABLES)
 
 /* The values that a call takes beside its tables. */
-#define TAKES_OURS 1u
-#define TAKES_THEIRS 2u
-#define TAKES_REMOVAL 4u
-#define TAKES_LEFT 8u
-#define TAKES_STRATEGY 16u
-#define TAKES_PRESENT 32u
+#define TAKES_STRATEGY 1u
+#define TAKES_OURS 2u
+#define TAKES_THEIRS 4u
+#define TAKES_REMOVAL 8u
+#define TAKES_LEFT 16u
+#define TAKES_ROWS 32u
+#define TAKES_PRESENT 64u
+#define TAKES_THEIRS_PRESENT 128u
+
+/* The largest number of a refusal. */
+#define LAST_REFUSAL PETASUNOK_INDEX_MISMATCH
 
 typedef struct {
     void *at;
@@ -45,19 +52,21 @@ typedef struct {
 /* Everything that a call may be given. */
 typedef struct {
     part parts[PARTS];
-    petasunok_head ours, theirs;
+    petasunok_head ours, theirs; /* also the old flags and the new ones */
     petasunok_removal removal, left;
+    size_t rows; /* of a table of totals */
     petasunok_id id;
     uint32_t amount, key;  /* amount: also the value's bytes of a split */
     uint16_t epoch, version; /* epoch: also the number of changes */
     uint8_t strategy, present, yes, size; /* yes: has_owner and owned; present: also whether changes are given */
+    uint8_t theirs_present;
 } given;
 
 /* Everything that a call may answer; what it does not have is 0. */
 typedef struct {
     uint32_t refusal;
     uint8_t present, which;
-    uint64_t count; /* also the bytes of a repair */
+    uint64_t count; /* also the bytes of a repair, and the rows of a table of totals */
     petasunok_head head;
     petasunok_removal removal, value; /* removal: a sum, or the key's of a split */
     size_t visited, lines;
@@ -65,7 +74,7 @@ typedef struct {
 } told;
 
 /* What sort of answer a call gives. */
-enum { FLAGS, HEAD, NUMBER, WHOSE, MAYBE_OWNER, SUM, SPLIT, REPAIRED };
+enum { FLAGS, HEAD, NUMBER, WHOSE, MAYBE_OWNER, SUM, SPLIT, REPAIRED, TABLE };
 
 /* The calls, in the header's order. */
 enum {
@@ -75,6 +84,7 @@ enum {
     SPLIT_REMOVED, ADD_ASSIGN, HAS_REMOVAL, TOTAL_REMOVED,
     NEW_SINGLE_EPOCH, SET_OWNER_ID, BASE_EPOCH, OWNER_ID, TYPE_BYTE,
     REPAIR,
+    TOTALS_REPLACE,
     CALLS
 };
 

@@ -19,7 +19,7 @@ static long seconds;
 static unsigned long long rounds;
 static int current; /* the call of this round */
 static given input; /* and what it is given */
-static unsigned long long tally[CALLS][12];
+static unsigned long long tally[CALLS][LAST_REFUSAL + 1];
 
 /* ---- findings */
 
@@ -49,6 +49,7 @@ static void found(const char *what) {
     if (c->takes & TAKES_THEIRS) print_head("theirs", &input.theirs);
     if (c->takes & TAKES_REMOVAL) print_removal("removal", &input.removal);
     if (c->takes & TAKES_LEFT) print_removal("left", &input.left);
+    if (c->takes & TAKES_ROWS) fprintf(stderr, "  rows %zu, theirs present %u\n", input.rows, input.theirs_present);
     fprintf(stderr, "  amount %u key %u strategy %u present %u version %u epoch %u\n", input.amount, input.key, input.strategy,
             input.present, input.version, input.epoch);
     for (i = 0; i < PARTS; i++)
@@ -114,7 +115,7 @@ static void one_round(void) {
     int bad;
     make_input(&input, current);
     bad = improper(c, &input);
-    if (!bad) note_left(&input);
+    if (!bad) note_before(&input);
     make_roomy(&roomy);
     wide = c->run(&roomy);
     answer = ask(c, &input, &fault);
@@ -134,7 +135,7 @@ static void print_summary(void) {
     int which, refusal;
     for (which = 0; which < CALLS; which++) {
         printf("%-32s answered %llu", calls[which].name, tally[which][0]);
-        for (refusal = 1; refusal < 12; refusal++)
+        for (refusal = 1; refusal <= LAST_REFUSAL; refusal++)
             if (tally[which][refusal] > 0) printf(", refused %d: %llu", refusal, tally[which][refusal]);
         printf("\n");
     }

@@ -29,8 +29,8 @@ void keep_answer(int which, const given *g, const told *answer);
 /* Whether some kind, strategy, count or table is not proper, so that the call has to refuse with 11. */
 int improper(const call *c, const given *g);
 
-/* Notes what the left removal of a sum has, since the sum is written over it. */
-void note_left(const given *g);
+/* Notes what the left removal of a sum and a table of totals have, since the answer is written over them. */
+void note_before(const given *g);
 
 /* What an accepted answer, which stands in these tables, breaks of the laws of its call, or null. */
 const char *broken_law(int which, const given *g, const told *answer);

@@ -24,9 +24,17 @@ typedef struct {
     size_t len;
 } held_bytes;
 
+typedef struct {
+    uint8_t owners[MOST][32];
+    uint16_t epochs[MOST];
+    uint64_t totals[MOST];
+    size_t rows;
+} held_totals;
+
 static held_flags flags[STORED];
 static held_removal removals[STORED];
 static held_bytes encodings[STORED];
+static held_totals tables[STORED];
 
 /* ---- random numbers */
 
@@ -113,6 +121,51 @@ static void random_removal(held_removal *r) {
     }
 }
 
+/* A total, often one that a count brings to 0 or past 64 bits. */
+static uint64_t some_total(void) {
+    uint64_t total = once_in(4) ? UINT64_MAX - some_count() : once_in(8) ? any() : some_count();
+    return total == 0 ? 1 : total;
+}
+
+/* A table of totals that need not come from elements. */
+static void random_totals(held_totals *t) {
+    held_removal r;
+    size_t i;
+    random_removal(&r);
+    t->rows = r.removal.rows;
+    memcpy(t->owners, r.ids, sizeof t->owners);
+    memcpy(t->epochs, r.epochs, sizeof t->epochs);
+    for (i = 0; i < t->rows; i++) t->totals[i] = some_total();
+}
+
+/* A count around what a total has, or around what it can still take. */
+static uint32_t count_for_total(uint64_t total) {
+    uint64_t count = once_in(3) ? UINT64_MAX - total : total;
+    if (once_in(3)) count += below(3) - 1;
+    return count > UINT32_MAX || once_in(8) ? some_count() : (uint32_t)count;
+}
+
+/* Flags whose records name rows of a table from some row on, and epochs between them; where that cannot be, any flags. */
+static void flags_of_rows(held_flags *f, const held_totals *t) {
+    size_t i = t->rows > 0 ? below(t->rows) : 0;
+    const uint8_t *owner = t->owners[i];
+    random_flags(f);
+    if (t->rows == 0 || t->epochs[i] == 0) return;
+    f->head.kind = owner[31] == 0 && !once_in(4) ? 1 : 3;
+    f->head.base = (uint16_t)(t->epochs[i] - 1);
+    f->head.records = 0;
+    memcpy(f->head.owner, owner, 32);
+    for (; i < t->rows && memcmp(t->owners[i], owner, 32) == 0 && (f->head.records == 0 || !once_in(3)); i++) {
+        if (f->head.records > 0 && once_in(8)) continue;
+        f->epochs[f->head.records] = t->epochs[i];
+        f->counts[f->head.records++] = count_for_total(t->totals[i]);
+        if (f->head.records == MOST || t->epochs[i] == 65535 || !once_in(6)) continue;
+        if (i + 1 < t->rows && memcmp(t->owners[i + 1], owner, 32) == 0 && t->epochs[i + 1] == t->epochs[i] + 1) continue;
+        f->epochs[f->head.records] = (uint16_t)(t->epochs[i] + 1);
+        f->counts[f->head.records++] = some_count();
+    }
+}
+
 /* A byte, a bit, the end, or a piece in the middle is changed. */
 static void damage(held_bytes *b) {
     static const uint8_t odd[] = {0, 1, 4, 127, 128, 129, 255};
@@ -143,6 +196,7 @@ void open_store(void) {
         random_flags(&flags[i]);
         random_removal(&removals[i]);
         encode(&encodings[i], &flags[i]);
+        random_totals(&tables[i]);
     }
 }
 
@@ -194,6 +248,19 @@ static void give_removal(given *g, petasunok_removal *removal, int ids, const he
     give(g, ids, changed.ids, rows, length_for(rows) + more);
     give(g, ids + 1, changed.epochs, rows, length_for(rows) + more);
     give(g, ids + 2, changed.bytes, rows, length_for(rows) + more);
+}
+
+/* Lends a table of totals, with `more` places behind its rows. */
+static void give_totals(given *g, const held_totals *t, size_t more) {
+    held_totals changed = *t;
+    size_t rows = t->rows;
+    if (once_in(24) && rows > 0) changed.epochs[below(rows)] = some_epoch();
+    if (once_in(24) && rows > 0) changed.totals[below(rows)] = once_in(2) ? 0 : some_total();
+    if (once_in(24) && rows > 0) some_owner(changed.owners[below(rows)], below(OWNERS));
+    g->rows = count_for(rows);
+    give(g, TOTAL_OWNERS, changed.owners, rows, length_for(rows) + more);
+    give(g, TOTAL_EPOCHS, changed.epochs, rows, length_for(rows) + more);
+    give(g, TOTALS, changed.totals, rows, length_for(rows) + more);
 }
 
 /* Incoming flags that go with ours: mostly at an epoch of ours or behind the base, and of the same owner. */
@@ -282,6 +349,20 @@ static void give_room(given *g, const call *c) {
         if (c->parts & BIT(i)) give(g, i, NULL, 0, (once_in(6) ? some_room() : room) * (i == OUT ? 8 : 1));
 }
 
+/* Lends a table of totals, old flags that mostly name rows of it, and new ones that are mostly of the same owner. */
+static void give_change(given *g) {
+    const held_totals *t = &tables[below(STORED)];
+    held_flags old, new;
+    flags_of_rows(&old, t);
+    if (once_in(2)) flags_of_rows(&new, t);
+    else incoming(&new, &old);
+    if (once_in(4)) random_flags(&new);
+    if (once_in(8)) new = old;
+    give_totals(g, t, some_room());
+    give_flags(g, &g->ours, OURS_EPOCHS, &old);
+    give_flags(g, &g->theirs, THEIRS_EPOCHS, &new);
+}
+
 void make_input(given *g, int which) {
     const call *c = &calls[which];
     const held_removal *r = &removals[below(STORED)];
@@ -298,12 +379,14 @@ void make_input(given *g, int which) {
     if (c->takes & TAKES_THEIRS) give_flags(g, &g->theirs, THEIRS_EPOCHS, once_in(6) ? &flags[below(STORED)] : &theirs);
     if (c->takes & TAKES_REMOVAL) give_removal(g, &g->removal, REMOVAL_IDS, r, 0);
     if (c->takes & TAKES_LEFT) give_removal(g, &g->left, LEFT_IDS, &removals[below(STORED)], some_room());
+    if (c->takes & TAKES_ROWS) give_change(g);
     g->amount = some_count();
     g->key = once_in(2) ? 0 : some_count();
     g->epoch = some_epoch();
     g->version = (uint16_t)(once_in(16) ? any() : below(2));
     g->strategy = some_byte(3);
     g->present = (uint8_t)(once_in(4) ? any() : below(3));
+    g->theirs_present = (uint8_t)(once_in(4) ? any() : below(3));
     g->yes = (uint8_t)(once_in(4) ? any() : below(3));
     g->size = (uint8_t)any();
     some_owner(g->id.bytes, below(OWNERS));
@@ -327,10 +410,22 @@ static void keep_removal(const given *g, const petasunok_removal *removal, int i
     memcpy(r->of.counts, g->parts[OURS_COUNTS].at, g->ours.records * 4);
 }
 
+/* Keeps the rows of a table of totals. */
+static void keep_totals(const given *g, size_t rows) {
+    held_totals *t = &tables[below(STORED)];
+    if (rows > MOST) return;
+    t->rows = rows;
+    memcpy(t->owners, g->parts[TOTAL_OWNERS].at, rows * 32);
+    memcpy(t->epochs, g->parts[TOTAL_EPOCHS].at, rows * 2);
+    memcpy(t->totals, g->parts[TOTALS].at, rows * 8);
+}
+
 void keep_answer(int which, const given *g, const told *answer) {
     size_t slot = below(STORED);
     if (once_in(4)) random_flags(&flags[below(STORED)]);
     if (once_in(8)) random_removal(&removals[below(STORED)]);
+    if (once_in(400)) random_totals(&tables[below(STORED)]);
+    if (calls[which].answer == TABLE) keep_totals(g, (size_t)answer->count);
     if (calls[which].answer == SPLIT) keep_removal(g, &answer->value, VALUE_IDS, 1);
     if (calls[which].answer == SUM) keep_removal(g, &answer->removal, LEFT_IDS, 0);
     if (calls[which].answer == FLAGS && answer->present && answer->head.records <= MOST) {

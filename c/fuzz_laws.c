@@ -24,26 +24,41 @@ static int proper_flags(const given *g, const petasunok_head *head, int epochs) 
     return head->records > 0;
 }
 
-static int proper_rows(const given *g, const petasunok_removal *removal, int ids) {
+/* Whether so many rows stand in three tables, and their pairs ascend. */
+static int ascending(const given *g, int ids, size_t rows) {
     uint8_t(*owners)[32] = g->parts[ids].at;
     const uint16_t *epochs = g->parts[ids + 1].at;
     size_t i;
-    if (removal->kind != 2) return removal->kind < 2;
     for (i = 0; i < 3; i++)
-        if (removal->rows > g->parts[ids + i].len) return 0;
-    for (i = 1; i < removal->rows; i++) {
+        if (rows > g->parts[ids + i].len) return 0;
+    for (i = 1; i < rows; i++) {
         int order = memcmp(owners[i - 1], owners[i], 32);
         if (order > 0 || (order == 0 && epochs[i - 1] >= epochs[i])) return 0;
     }
     return 1;
 }
 
+static int proper_rows(const given *g, const petasunok_removal *removal, int ids) {
+    return removal->kind == 2 ? ascending(g, ids, removal->rows) : removal->kind < 2;
+}
+
+static int proper_totals(const given *g, size_t rows) {
+    const uint64_t *totals = g->parts[TOTALS].at;
+    size_t i;
+    if (!ascending(g, TOTAL_OWNERS, rows)) return 0;
+    for (i = 0; i < rows; i++)
+        if (totals[i] == 0) return 0;
+    return 1;
+}
+
 int improper(const call *c, const given *g) {
     int absent = (c->takes & TAKES_PRESENT) && g->present == 0;
+    int theirs_absent = (c->takes & TAKES_THEIRS_PRESENT) && g->theirs_present == 0;
     if ((c->takes & TAKES_STRATEGY) && g->strategy > 2) return 1;
     if ((c->takes & TAKES_OURS) && !absent && g->ours.kind > 3) return 1;
     if ((c->parts & OURS_TABLES) && !absent && !proper_flags(g, &g->ours, OURS_EPOCHS)) return 1;
-    if ((c->takes & TAKES_THEIRS) && !proper_flags(g, &g->theirs, THEIRS_EPOCHS)) return 1;
+    if ((c->takes & TAKES_THEIRS) && !theirs_absent && !proper_flags(g, &g->theirs, THEIRS_EPOCHS)) return 1;
+    if ((c->takes & TAKES_ROWS) && !proper_totals(g, g->rows)) return 1;
     if ((c->takes & TAKES_REMOVAL) && !proper_rows(g, &g->removal, REMOVAL_IDS)) return 1;
     return (c->takes & TAKES_LEFT) && !proper_rows(g, &g->left, LEFT_IDS);
 }
@@ -59,6 +74,68 @@ static uint64_t total(const given *g, const petasunok_removal *removal, int ids,
         if (bytes[i] == UINT32_MAX) *full = 1;
     }
     return sum;
+}
+
+/* ---- tables of totals, and what elements count */
+
+/* More rows than a lent table has. */
+#define MOST_ROWS 1024
+
+/* A table apart from what is lent. */
+typedef struct {
+    uint8_t owners[MOST_ROWS][32];
+    uint16_t epochs[MOST_ROWS];
+    uint64_t totals[MOST_ROWS];
+    size_t rows;
+} table;
+
+static void copy_table(table *to, const given *g, size_t rows) {
+    to->rows = rows;
+    if (rows == 0) return;
+    memcpy(to->owners, g->parts[TOTAL_OWNERS].at, rows * 32);
+    memcpy(to->epochs, g->parts[TOTAL_EPOCHS].at, rows * 2);
+    memcpy(to->totals, g->parts[TOTALS].at, rows * 8);
+}
+
+static int same_table(const table *a, const table *b) {
+    return a->rows == b->rows && memcmp(a->owners, b->owners, a->rows * 32) == 0 && memcmp(a->epochs, b->epochs, a->rows * 2) == 0
+        && memcmp(a->totals, b->totals, a->rows * 8) == 0;
+}
+
+static uint64_t total_at(const table *t, const uint8_t *owner, uint16_t epoch) {
+    size_t i;
+    for (i = 0; i < t->rows; i++)
+        if (t->epochs[i] == epoch && memcmp(t->owners[i], owner, 32) == 0) return t->totals[i];
+    return 0;
+}
+
+/* What an element's flags count, under whom. */
+typedef struct {
+    const uint8_t *owner;
+    const uint16_t *epochs;
+    const uint32_t *counts;
+    size_t records;
+} element;
+
+static element element_of(const given *g, const petasunok_head *head, int epochs, uint8_t present) {
+    static const uint8_t zeros[32];
+    element e = {owned(head) ? head->owner : zeros, g->parts[epochs].at, g->parts[epochs + 1].at, present ? head->records : 0};
+    return e;
+}
+
+static element old_of(const given *g) {
+    return element_of(g, &g->ours, OURS_EPOCHS, g->present);
+}
+
+static element new_of(const given *g) {
+    return element_of(g, &g->theirs, THEIRS_EPOCHS, g->theirs_present);
+}
+
+static uint64_t count_at(const element *e, const uint8_t *owner, uint16_t epoch) {
+    size_t i;
+    for (i = 0; i < e->records; i++)
+        if (e->epochs[i] == epoch && memcmp(e->owner, owner, 32) == 0) return e->counts[i];
+    return 0;
 }
 
 /* ---- the laws of each sort of call */
@@ -144,10 +221,12 @@ static const char *splitting(const given *g, const told *answer) {
 }
 
 static uint64_t left_total;
+static table before;
 
-void note_left(const given *g) {
+void note_before(const given *g) {
     int full = 0;
     left_total = total(g, &g->left, LEFT_IDS, &full);
+    copy_table(&before, g, g->rows);
 }
 
 /* A sum is proper; from version 1 on nothing is lost where nothing is cut. */
@@ -158,6 +237,75 @@ static const char *adding_up(const given *g, const told *answer) {
     both = left_total + total(g, &g->removal, REMOVAL_IDS, &right_full);
     if (g->version == 0 && g->left.kind == 1) return all <= both ? NULL : "a sum has too much";
     return full || all == both ? NULL : "bytes were lost in a sum";
+}
+
+/* Whether some total is less than the old flags' count. */
+static int mismatched(const given *g) {
+    element old = old_of(g);
+    size_t i;
+    for (i = 0; i < old.records; i++)
+        if (total_at(&before, old.owner, old.epochs[i]) < old.counts[i]) return 1;
+    return 0;
+}
+
+/* The total that a change makes of one; 64 bits hold it where the change is accepted. */
+static uint64_t changed(const given *g, const uint8_t *owner, uint16_t epoch) {
+    element old = old_of(g), new = new_of(g);
+    return total_at(&before, owner, epoch) - count_at(&old, owner, epoch) + count_at(&new, owner, epoch);
+}
+
+/* Whether some total would pass 64 bits: it is less than what was added. */
+static int too_large(const given *g) {
+    element new = new_of(g);
+    size_t i;
+    for (i = 0; i < new.records; i++)
+        if (changed(g, new.owner, new.epochs[i]) < new.counts[i]) return 1;
+    return 0;
+}
+
+/* Whether a table has the total that a change makes, for each pair of rows and records. */
+static int has_changed(const given *g, const table *t, uint8_t (*owners)[32], const uint16_t *epochs, size_t rows) {
+    size_t i;
+    for (i = 0; i < rows; i++)
+        if (total_at(t, owners[i], epochs[i]) != changed(g, owners[i], epochs[i])) return 0;
+    return 1;
+}
+
+/* Puts the old flags back for the new ones, which has to give the table as it was. */
+static const char *putting_back(const given *g, const table *after) {
+    static table back;
+    given other = *g;
+    told answer;
+    back = *after;
+    other.rows = after->rows;
+    other.parts[TOTAL_OWNERS] = (part){back.owners, MOST_ROWS};
+    other.parts[TOTAL_EPOCHS] = (part){back.epochs, MOST_ROWS};
+    other.parts[TOTALS] = (part){back.totals, MOST_ROWS};
+    other.ours = g->theirs;
+    other.theirs = g->ours;
+    other.present = g->theirs_present;
+    other.theirs_present = g->present;
+    memcpy(&other.parts[OURS_EPOCHS], &g->parts[THEIRS_EPOCHS], 2 * sizeof(part));
+    memcpy(&other.parts[THEIRS_EPOCHS], &g->parts[OURS_EPOCHS], 2 * sizeof(part));
+    answer = calls[TOTALS_REPLACE].run(&other);
+    back.rows = (size_t)answer.count;
+    return answer.refusal == 0 && same_table(&back, &before) ? NULL : "what was changed back is not the table before";
+}
+
+/* A changed table is proper, and has at every pair the total less the old count plus the new. */
+static const char *changing(const given *g, const told *answer) {
+    static table after;
+    element new = new_of(g);
+    size_t i;
+    if (!proper_totals(g, (size_t)answer->count)) return "a changed table is not proper";
+    copy_table(&after, g, (size_t)answer->count);
+    if (mismatched(g)) return "more was taken than a total has";
+    if (too_large(g)) return "a total passes 64 bits";
+    if (!has_changed(g, &after, before.owners, before.epochs, before.rows)) return "a row that was there has another total";
+    if (!has_changed(g, &after, after.owners, after.epochs, after.rows)) return "a row that is there has another total";
+    for (i = 0; i < new.records; i++)
+        if (total_at(&after, new.owner, new.epochs[i]) != changed(g, new.owner, new.epochs[i])) return "a new record is not in the table";
+    return putting_back(g, &after);
 }
 
 /* An owner that stands is that of an encoding that is read and owned. */
@@ -247,6 +395,7 @@ const char *broken_law(int which, const given *g, const told *answer) {
     if (which == ADD_ASSIGN) return adding_up(g, answer);
     if (which == HAS_REMOVAL || which == TOTAL_REMOVED) return telling(which, g, answer);
     if (which == REPAIR) return repairing(g, answer);
+    if (which == TOTALS_REPLACE) return changing(g, answer);
     return which >= NEW_SINGLE_EPOCH ? heading(which, g, answer) : NULL;
 }
 
@@ -258,6 +407,9 @@ const char *broken_refusal(int which, const given *g, uint32_t refusal) {
     if (refusal == 4 && g->theirs.base >= g->ours.base) return "4, and the incoming base is not lower";
     if (refusal == 5 && merge && which <= OPTIONAL_ADDED && !(owned(&g->ours) && owned(&g->theirs) && g->strategy == 0))
         return "5 without two owners";
+    if (refusal == 14 && !mismatched(g)) return "14, and no total is less than the old count";
+    if (refusal == 6 && which == TOTALS_REPLACE && mismatched(g)) return "6, and it is 14";
+    if (refusal == 6 && which == TOTALS_REPLACE && !too_large(g)) return "6, and no total passes 64 bits";
     if (refusal == 8 && !(has_records(&g->ours) && g->amount > 4294967292u)) return "8, and the removal is not too large";
     if (refusal == 9 && total(g, &g->removal, REMOVAL_IDS, &full) <= UINT32_MAX) return "9, and the total is not too large";
     return merge && refusal >= 4 && refusal <= 7 && which % 2 == OPTIONAL_ADDED % 2 && g->present == 0 ? "absent ours was looked at" : NULL;

@@ -1,4 +1,5 @@
-/* Storage flags of a GroveDB store: reading, writing, merging and repairing them, and splitting and adding up what was removed.
+/* Storage flags of a GroveDB store: reading, writing, merging and repairing them, splitting and adding up what was removed, and keeping
+ * totals per owner and epoch.
  *
  * Every function is proved: on any input it ends, in an answer or in a refusal, and equals a short definition (docs/STATEMENTS.md).
  * A refusal is one of the numbers below; then everything else in the answer is 0, and nothing that was lent has changed. An answer
@@ -26,12 +27,13 @@ extern "C" {
 #define PETASUNOK_NON_CANONICAL 3         /* a count that is too large or not minimal, or epochs that do not rise */
 #define PETASUNOK_DIFFERENT_BASE_EPOCH 4  /* the incoming base is below ours */
 #define PETASUNOK_DIFFERENT_OWNERS 5      /* the owners differ, or a removal is not under our owner */
-#define PETASUNOK_OVERFLOW 6              /* a count would pass 32 bits, or a section takes more than its record holds */
+#define PETASUNOK_OVERFLOW 6              /* a count would pass 32 bits or a total 64, or a section takes more than its record holds */
 #define PETASUNOK_NO_STORAGE_AT_EPOCH 7   /* a section's epoch is not the base and has no record */
 #define PETASUNOK_REMOVAL_TOO_LARGE 8     /* a value split of flags with records, more than 4,294,967,292 bytes */
 #define PETASUNOK_TOTAL_TOO_LARGE 9       /* a total passes 32 bits */
 #define PETASUNOK_NO_ROOM 10              /* the answer needs more room than was lent */
 #define PETASUNOK_BAD_TABLE 11            /* flags or rows that are not proper, or a kind or strategy that does not exist */
+#define PETASUNOK_INDEX_MISMATCH 14       /* a total is less than what the old flags count there; 12 and 13 are not given */
 
 /* The kinds of flags. */
 #define PETASUNOK_SINGLE_EPOCH 0
@@ -265,6 +267,24 @@ petasunok_count petasunok_type_byte(petasunok_head head);
 petasunok_repaired petasunok_repair(
     const uint8_t *src, size_t src_len, uint8_t *out, size_t out_len,
     size_t *offsets, size_t offsets_len, uint8_t *changes, size_t changes_len);
+
+/* ---- totals */
+
+/* Replaces an element's old flags by new ones in a table of totals, and answers how many rows there are then: 11, 14, 6, 10. Where
+ * `old_present` or `new_present` is 0, those flags are absent and not looked at.
+ *
+ * The table stands in the first `rows` places of three slices: owners, which are 32 zero bytes for unowned flags, epochs, and totals. Rows
+ * ascend by owner, then epoch; no pair stands twice, and no total is 0. Each record's count in the old flags is taken from the total at
+ * their owner and its epoch, and each in the new flags is added there. A total that comes to 0 loses its row, and a pair that had none gets
+ * one; all other rows keep their totals. So the table of no elements has no rows, and a table that is the recount of all elements stays so
+ * as they are changed. 6 is for a total that would pass 64 bits. Room for as many rows more as the new flags have records is always
+ * enough. */
+petasunok_count petasunok_totals_replace(
+    size_t rows, uint8_t (*owners)[32], size_t owners_len, uint16_t *epochs, size_t epochs_len, uint64_t *totals, size_t totals_len,
+    uint8_t old_present, petasunok_head old_flags,
+    const uint16_t *old_epochs, size_t old_epochs_len, const uint32_t *old_counts, size_t old_counts_len,
+    uint8_t new_present, petasunok_head new_flags,
+    const uint16_t *new_epochs, size_t new_epochs_len, const uint32_t *new_counts, size_t new_counts_len);
 
 #ifdef __cplusplus
 }

@@ -110,10 +110,28 @@ static const char *or_else(const char *text, const char *other) {
     return text != NULL ? text : other;
 }
 
+/* How much more one number is than another, if it is. */
+static size_t more_than(size_t room, size_t rows) {
+    return room > rows ? room - rows : 0;
+}
+
+static int is_none(const char *flags) {
+    return strcmp(flags, "none") == 0;
+}
+
+/* Lends flags, and says whether they are there. Absent ones have a kind that does not exist, more records than any table, and no tables. */
+static uint8_t give_maybe(given *g, petasunok_head *head, int epochs, const char *flags, const lending *l) {
+    give_flags(g, head, epochs, is_none(flags) ? "255@9/A" : flags, l->more, l->side);
+    if (!is_none(flags)) return 1;
+    head->records = SIZE_MAX;
+    lend_null(g, epochs);
+    lend_null(g, epochs + 1);
+    return 0;
+}
+
 /* Lends everything that an example gives. */
 static void build(const example *e, given *g, const lending *l) {
     const call *c = &calls[e->call];
-    size_t left_more;
     int i;
     memset(g, 0, sizeof *g);
     g->amount = e->amount;
@@ -122,8 +140,8 @@ static void build(const example *e, given *g, const lending *l) {
     g->strategy = e->strategy;
     if (c->parts & BIT(BYTES)) give_bytes(g, BYTES, e->ours, l->side);
     if (c->parts & BIT(OTHER_BYTES)) give_bytes(g, OTHER_BYTES, e->theirs, l->side);
-    if (c->takes & TAKES_OURS) give_flags(g, &g->ours, OURS_EPOCHS, e->ours, l->more, l->side);
-    if (c->takes & TAKES_THEIRS) give_flags(g, &g->theirs, THEIRS_EPOCHS, e->theirs, l->more, l->side);
+    if (c->takes & TAKES_OURS) g->present = give_maybe(g, &g->ours, OURS_EPOCHS, e->ours, l);
+    if (c->takes & TAKES_THEIRS) g->theirs_present = give_maybe(g, &g->theirs, THEIRS_EPOCHS, e->theirs, l);
     if (c->takes & TAKES_REMOVAL) give_removal(g, &g->removal, REMOVAL_IDS, or_else(e->removal, "none"), l->more, l->side);
     for (i = 0; i < PARTS; i++) {
         if (!(c->parts & WRITTEN_TABLES & BIT(i))) continue;
@@ -132,14 +150,11 @@ static void build(const example *e, given *g, const lending *l) {
     }
     if (c->takes & TAKES_LEFT) {
         give_removal(g, &g->left, LEFT_IDS, e->left, 0, l->side);
-        left_more = l->room[LEFT_IDS] > g->left.rows ? l->room[LEFT_IDS] - g->left.rows : 0;
-        give_removal(g, &g->left, LEFT_IDS, e->left, left_more, l->side);
+        give_removal(g, &g->left, LEFT_IDS, e->left, more_than(l->room[LEFT_IDS], g->left.rows), l->side);
     }
-    if (!e->absent) g->present = 1;
-    else {
-        g->ours.records = SIZE_MAX;
-        lend_null(g, OURS_EPOCHS);
-        lend_null(g, OURS_COUNTS);
+    if (c->takes & TAKES_ROWS) {
+        give_totals(g, e->totals, 0, l->side);
+        give_totals(g, e->totals, more_than(l->room[TOTALS], g->rows), l->side);
     }
 }
 
@@ -163,7 +178,7 @@ static void check_room(const example *e, const told *answer) {
         if (!(calls[e->call].parts & WRITTEN_TABLES & BIT(i)) || places(answer, i) == 0) continue;
         build(e, &g, &exact);
         g.parts[i].len = places(answer, i) - 1;
-        if (g.parts[i].len < g.left.rows) continue; /* the left removal itself does not fit: 11, see check_short */
+        if (g.parts[i].len < g.left.rows + g.rows) continue; /* the left removal or the totals do not fit: 11, see check_short */
         check_call(e->call, &g, "c/test_cases.c", e->line, "room one short", "refused 10");
     }
 }
@@ -179,23 +194,32 @@ static void check_short(const example *e) {
         counted = BIT(i) & OURS_TABLES ? g.ours.records
             : BIT(i) & THEIRS_TABLES ? g.theirs.records
             : BIT(i) & REMOVAL_TABLES ? g.removal.rows
-            : BIT(i) & LEFT_TABLES ? g.left.rows : 0;
+            : BIT(i) & LEFT_TABLES ? g.left.rows
+            : BIT(i) & TOTAL_TABLES ? g.rows : 0;
         if (!(calls[e->call].parts & BIT(i)) || counted == 0 || counted == SIZE_MAX) continue;
         g.parts[i].len = counted - 1;
         check_call(e->call, &g, "c/test_cases.c", e->line, "a count one past its table", "refused 11");
     }
 }
 
+/* The values that an example gives, but for absent flags. */
+static unsigned given_by(const example *e) {
+    unsigned takes = calls[e->call].takes;
+    if ((takes & TAKES_OURS) && is_none(e->ours)) takes &= ~TAKES_OURS;
+    if ((takes & TAKES_THEIRS) && is_none(e->theirs)) takes &= ~TAKES_THEIRS;
+    return takes;
+}
+
 /* Kinds, removals and strategies that do not exist: 11. */
 static void check_values(const example *e) {
     lending l = lending_of(ENOUGH, 0, AT_THE_END);
-    unsigned takes = calls[e->call].takes;
+    unsigned takes = given_by(e);
     unsigned bit;
     given g;
     int i;
-    for (bit = TAKES_OURS; bit <= TAKES_STRATEGY; bit *= 2) {
+    for (bit = TAKES_STRATEGY; bit <= TAKES_LEFT; bit *= 2) {
         for (i = 0; i < 2; i++) {
-            if (!(takes & bit) || (bit == TAKES_OURS && e->absent)) continue;
+            if (!(takes & bit)) continue;
             build(e, &g, &l);
             if (bit == TAKES_OURS) g.ours.kind = i == 0 ? 4 : 255;
             if (bit == TAKES_THEIRS) g.theirs.kind = i == 0 ? 4 : 255;
@@ -212,29 +236,32 @@ static void check_most(const example *e) {
     lending l = lending_of(ENOUGH, 0, AT_THE_END);
     unsigned bit;
     given g;
-    for (bit = TAKES_OURS; bit <= TAKES_LEFT; bit *= 2) {
-        if (!(calls[e->call].takes & bit) || (bit == TAKES_OURS && e->absent)) continue;
+    for (bit = TAKES_OURS; bit <= TAKES_ROWS; bit *= 2) {
+        if (!(given_by(e) & bit)) continue;
         build(e, &g, &l);
         if (bit == TAKES_OURS) g.ours.records = SIZE_MAX;
         if (bit == TAKES_THEIRS) g.theirs.records = SIZE_MAX;
         if (bit == TAKES_REMOVAL) g.removal.rows = SIZE_MAX;
         if (bit == TAKES_LEFT) g.left.rows = SIZE_MAX;
+        if (bit == TAKES_ROWS) g.rows = SIZE_MAX;
         g.removal.kind = g.left.kind = PETASUNOK_SECTIONED_REMOVAL;
         check_call(e->call, &g, "c/test_cases.c", e->line, "more records or rows than any table has", "refused 11");
     }
 }
 
-/* A merge tells the same in its optional form, by whatever truth value ours is there. */
+/* A merge tells the same in its optional form, by whatever truth value ours is there; a change of totals, whatever says so of both. */
 static void check_optional(const example *e) {
     static const uint8_t yes[] = {1, 2, 255};
+    int merge = e->call == COMBINE_ADDED || e->call == COMBINE_REMOVED;
     lending l = lending_of(ENOUGH, 1, AT_THE_END);
     given g;
     int i;
-    if (e->call != COMBINE_ADDED && e->call != COMBINE_REMOVED) return;
+    if (!merge && e->call != TOTALS_REPLACE) return;
     for (i = 0; i < 3; i++) {
         build(e, &g, &l);
-        g.present = yes[i];
-        check_call(e->call + 1, &g, "c/test_cases.c", e->line, "the optional form", e->told);
+        if (g.present) g.present = yes[i];
+        if (g.theirs_present) g.theirs_present = yes[2 - i];
+        check_call(e->call + merge, &g, "c/test_cases.c", e->line, "another truth value", e->told);
     }
 }
 
@@ -263,7 +290,7 @@ static const char *const with_nulls[CALLS] = {
     [READ_MULTI_OWNED] = "refused 2", [SERIALIZE] = "refused 10", [SERIALIZED_SIZE] = "3",
     [COMBINE_OWNER_ID] = "whose 0", [COMBINE_ADDED] = "0@5", [OPTIONAL_ADDED] = "0@5", [COMBINE_REMOVED] = "0@5",
     [OPTIONAL_REMOVED] = "0@5", [SPLIT_REMOVED] = "none, none, visited 0", [ADD_ASSIGN] = "none", [HAS_REMOVAL] = "0",
-    [TOTAL_REMOVED] = "0", [REPAIR] = "",
+    [TOTAL_REMOVED] = "0", [REPAIR] = "", [TOTALS_REPLACE] = "totals",
 };
 
 /* Every pointer null; then each alone, beside tables that are not read and room that is not needed. */
@@ -358,8 +385,8 @@ static void check_seen(void) {
     snprintf(got, sizeof got, "%02X", changes_seen);
     check(changes_seen == 0xFE, __FILE__, __LINE__, "the changes of repairs", got, "FE");
     for (which = 0; which < CALLS; which++) {
-        snprintf(got, sizeof got, "%03X", seen[which]);
-        snprintf(expected, sizeof expected, "%03X", calls[which].refusals | 1);
+        snprintf(got, sizeof got, "%04X", seen[which]);
+        snprintf(expected, sizeof expected, "%04X", calls[which].refusals | 1);
         check(seen[which] == (calls[which].refusals | 1), __FILE__, __LINE__, calls[which].name, got, expected);
     }
 }

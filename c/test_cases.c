@@ -1,5 +1,5 @@
-/* The examples that c/test.c holds the library against: document 01's P1 to P14, its boundaries, every refusal of every call, and every
- * change of a repair. */
+/* The examples that c/test.c holds the library against: document 01's P1 to P14, its boundaries, every refusal of every call, every change
+ * of a repair, and what can become of a table of totals. */
 #include "test_cases.h"
 #include "calls.h"
 
@@ -10,7 +10,9 @@
 #define IMPROPER(flags) \
     WRITE(flags, "refused 11", "refused 11"), ADD(flags, "0@9", 1, 0, "refused 11"), ADD("0@0", flags, 1, 0, "refused 11"), \
     ABSENT_ADD(flags, "refused 11"), TAKE(flags, "0@9", "none", 0, "refused 11"), TAKE("0@0", flags, "none", 0, "refused 11"), \
-    ABSENT_TAKE(flags, "none", "refused 11"), PART_OFF(flags, 0, 0, "refused 11")
+    ABSENT_TAKE(flags, "none", "refused 11"), PART_OFF(flags, 0, 0, "refused 11"), \
+    REPLACE("totals", flags, "0@9", "refused 11"), REPLACE("totals", "0@0", flags, "refused 11"), \
+    REPLACE("totals", "none", flags, "refused 11"), REPLACE("totals", flags, "none", "refused 11")
 #define OWNER(first, second, rule, answer) \
     {LINE, .call = COMBINE_OWNER_ID, .ours = first, .theirs = second, .strategy = rule, .told = answer}
 #define ADD(first, second, more, rule, answer) \
@@ -18,9 +20,9 @@
 #define TAKE(first, second, rows, rule, answer) \
     {LINE, .call = COMBINE_REMOVED, .ours = first, .theirs = second, .removal = rows, .strategy = rule, .told = answer}
 #define ABSENT_ADD(second, answer) \
-    {LINE, .call = OPTIONAL_ADDED, .ours = "255@9/A", .theirs = second, .amount = 9, .absent = 1, .told = answer}
+    {LINE, .call = OPTIONAL_ADDED, .ours = "none", .theirs = second, .amount = 9, .told = answer}
 #define ABSENT_TAKE(second, rows, answer) \
-    {LINE, .call = OPTIONAL_REMOVED, .ours = "255@9/A", .theirs = second, .removal = rows, .absent = 1, .told = answer}
+    {LINE, .call = OPTIONAL_REMOVED, .ours = "none", .theirs = second, .removal = rows, .told = answer}
 #define PART_OFF(flags, of_key, of_value, answer) \
     {LINE, .call = SPLIT_REMOVED, .ours = flags, .key = of_key, .amount = of_value, .told = answer}
 #define PLUS(first, second, at, answer) {LINE, .call = ADD_ASSIGN, .left = first, .removal = second, .version = at, .told = answer}
@@ -28,6 +30,10 @@
 #define TOTAL(rows, has, total) \
     {LINE, .call = HAS_REMOVAL, .removal = rows, .told = has}, {LINE, .call = TOTAL_REMOVED, .removal = rows, .told = total}
 #define REPAIR_OLD(bytes, answer) {LINE, .call = REPAIR, .ours = bytes, .told = answer}
+#define REPLACE(table, first, second, answer) \
+    {LINE, .call = TOTALS_REPLACE, .totals = table, .ours = first, .theirs = second, .told = answer}
+#define BAD_TOTALS(table) \
+    REPLACE(table, "none", "none", "refused 11"), REPLACE(table, "0@5", "0@9", "refused 11"), REPLACE(table, "1@5 7:1", "1@5 7:1", "refused 11")
 #define BAD_ROWS(rows) \
     TOTAL(rows, "refused 11", "refused 11"), PLUS_BOTH(rows, "none", "refused 11"), PLUS_BOTH("none", rows, "refused 11"), \
     TAKE("0@5", "0@9", rows, 0, "refused 11"), ABSENT_TAKE("0@5", rows, "refused 11")
@@ -255,5 +261,83 @@ const example examples[] = {
     /* no record is left */
     REPAIR_OLD("010005", "000005, 0 kind changed"),
     REPAIR_OLD("03" Z "0005" "000501" "00", "02" Z "0005, 0 kind changed, 35 not above base, 38 tail cut"),
+
+    /* totals: the same owner, with rows that go, stay and are made */
+    REPLACE("totals A/7:10 A/9:5", "3@5/A 7:10 9:5", "3@5/A 7:4 8:6", "totals A/7:4 A/8:6"),
+    REPLACE("totals A/7:110 A/9:105", "3@5/A 7:10 9:5", "3@5/A 7:4 8:6", "totals A/7:104 A/8:6 A/9:100"),
+    REPLACE("totals 0/9:1 A/7:110 B/7:1", "3@5/A 7:10", "3@6/A 7:20", "totals 0/9:1 A/7:120 B/7:1"),
+    /* other owners, also such as differ in the last byte only */
+    REPLACE("totals A/7:10 B/7:1", "3@5/A 7:10", "3@5/B 7:10", "totals B/7:11"),
+    REPLACE("totals A/7:1 B/7:10", "3@5/B 7:10", "3@5/A 7:10", "totals A/7:11"),
+    REPLACE("totals A/7:10 a/7:3", "3@5/A 7:4", "3@5/a 7:4", "totals A/7:6 a/7:7"),
+    REPLACE("totals A/7:10", "3@5/A 7:4", "3@5/a 7:4", "totals A/7:6 a/7:4"),
+    /* one unowned, and both; owner bytes of unowned flags are not read, and an owner of 32 zeros is told like none */
+    REPLACE("totals 0/7:10 A/7:1", "1@5 7:10", "3@5/A 7:10", "totals A/7:11"),
+    REPLACE("totals 0/7:1 A/7:10", "3@5/A 7:10", "1@5 7:10", "totals 0/7:11"),
+    REPLACE("totals 0/7:300", "1@5 7:300", "1@5 7:350", "totals 0/7:350"),
+    REPLACE("totals 0/7:300 A/7:1", "1@5/A 7:300", "1@5/B 7:350", "totals 0/7:350 A/7:1"),
+    REPLACE("totals 0/7:300", "1@5 7:300", "3@5/0 7:5", "totals 0/7:5"),
+    /* either absent, or both */
+    REPLACE("totals", "none", "3@5/A 7:10 9:5", "totals A/7:10 A/9:5"),
+    REPLACE("totals z/2:1 A/7:10", "none", "1@5 7:3", "totals 0/7:3 z/2:1 A/7:10"),
+    REPLACE("totals A/7:10 A/9:5", "3@5/A 7:10 9:5", "none", "totals"),
+    REPLACE("totals A/7:10 A/9:5", "3@5/A 7:4 9:4", "none", "totals A/7:6 A/9:1"),
+    REPLACE("totals", "none", "none", "totals"),
+    REPLACE("totals A/7:10 A/9:5 B/0:18446744073709551615", "none", "none", "totals A/7:10 A/9:5 B/0:18446744073709551615"),
+    /* equal flags change nothing, and flags without records name nothing */
+    REPLACE("totals A/7:10 A/9:5", "3@5/A 7:10 9:5", "3@5/A 7:10 9:5", "totals A/7:10 A/9:5"),
+    REPLACE("totals A/7:18446744073709551615", "3@5/A 7:4294967295", "3@5/A 7:4294967295", "totals A/7:18446744073709551615"),
+    REPLACE("totals A/5:1", "0@5", "2@5/A", "totals A/5:1"),
+    REPLACE("totals A/5:1", "2@5/A", "0@5", "totals A/5:1"),
+    REPLACE("totals", "none", "2@5/A", "totals"),
+    REPLACE("totals A/7:10", "3@5/A 7:10", "2@5/A", "totals"),
+    REPLACE("totals", "2@5/A", "3@5/A 7:10", "totals A/7:10"),
+    /* counts of 0 change nothing, where there is a row and where there is none */
+    REPLACE("totals", "none", "1@5 7:0", "totals"),
+    REPLACE("totals 0/7:1", "none", "1@5 6:0 7:0 8:0", "totals 0/7:1"),
+    REPLACE("totals", "1@5 7:0", "none", "totals"),
+    REPLACE("totals 0/7:1", "1@5 6:0 7:1 8:0", "1@5 6:0 7:0 9:0", "totals"),
+    /* rows go at the front, in the middle and at the end */
+    REPLACE("totals A/1:1 A/2:2 A/3:3 A/4:4", "3@0/A 1:1", "none", "totals A/2:2 A/3:3 A/4:4"),
+    REPLACE("totals A/1:1 A/2:2 A/3:3 A/4:4", "3@0/A 2:2 3:3", "none", "totals A/1:1 A/4:4"),
+    REPLACE("totals A/1:1 A/2:2 A/3:3 A/4:4", "3@0/A 1:1 3:3", "none", "totals A/2:2 A/4:4"),
+    REPLACE("totals A/1:1 A/2:2 A/3:3 A/4:4", "3@0/A 4:4", "none", "totals A/1:1 A/2:2 A/3:3"),
+    /* rows are made at the front, in the middle and at the end */
+    REPLACE("totals B/3:3 B/5:5", "none", "1@0 1:7", "totals 0/1:7 B/3:3 B/5:5"),
+    REPLACE("totals B/3:3 B/5:5", "none", "3@0/B 2:7 4:8 6:9", "totals B/2:7 B/3:3 B/4:8 B/5:5 B/6:9"),
+    REPLACE("totals B/3:3 B/5:5", "none", "3@0/C 1:7 65535:8", "totals B/3:3 B/5:5 C/1:7 C/65535:8"),
+    /* as many go as are made, fewer, and more */
+    REPLACE("totals A/1:1 A/2:2 B/1:1", "3@0/A 1:1 2:2", "3@0/C 1:1 2:2", "totals B/1:1 C/1:1 C/2:2"),
+    REPLACE("totals A/1:1 B/1:1 C/1:1", "3@0/C 1:1", "1@0 1:1 2:2", "totals 0/1:1 0/2:2 A/1:1 B/1:1"),
+    REPLACE("totals A/1:1 A/2:2 A/3:3 B/1:1", "3@0/A 1:1 2:2 3:3", "3@0/B 2:4", "totals B/1:1 B/2:4"),
+    /* the largest total: 6 behind it, but not where enough is taken before */
+    REPLACE("totals 0/7:18446744069414584320", "none", "1@5 7:4294967295", "totals 0/7:18446744073709551615"),
+    REPLACE("totals 0/7:18446744069414584321", "none", "1@5 7:4294967295", "refused 6"),
+    REPLACE("totals 0/7:18446744073709551615", "none", "1@5 7:0", "totals 0/7:18446744073709551615"),
+    REPLACE("totals 0/7:18446744073709551615", "none", "1@5 7:1", "refused 6"),
+    REPLACE("totals 0/7:18446744073709551615", "1@5 7:5", "1@5 7:5", "totals 0/7:18446744073709551615"),
+    REPLACE("totals 0/7:18446744073709551615", "1@5 7:5", "1@5 7:6", "refused 6"),
+    REPLACE("totals 0/7:9 A/7:18446744073709551615", "1@5 7:5", "3@5/A 7:5", "refused 6"),
+    REPLACE("totals 0/6:9 0/7:18446744073709551615", "1@5 6:5", "1@5 7:5", "refused 6"),
+    /* 14: one short, no row, another owner's or epoch's row, the last record */
+    REPLACE("totals 0/7:4", "1@5 7:5", "none", "refused 14"),
+    REPLACE("totals", "1@5 7:1", "none", "refused 14"),
+    REPLACE("totals 0/7:9 a/7:9", "3@5/A 7:1", "none", "refused 14"),
+    REPLACE("totals 0/6:9 0/8:9", "1@5 7:1", "none", "refused 14"),
+    REPLACE("totals 0/6:9 0/7:9 0/8:9", "1@5 6:9 7:8 8:10", "none", "refused 14"),
+    REPLACE("totals 0/7:4", "1@5 7:5", "1@5 7:5", "refused 14"),
+    /* 11 before 14, 14 before 6, and 6 before 10: each is refused also without room for the new row */
+    REPLACE("totals A/7:1", "3@5/A 7:2", "1@5", "refused 11"),
+    REPLACE("totals A/7:1 A/7:1", "3@5/A 7:2", "3@5/A 7:1", "refused 11"),
+    REPLACE("totals A/7:18446744073709551615 A/8:0", "0@5", "3@5/A 7:1", "refused 11"),
+    REPLACE("totals A/7:1 A/9:18446744073709551615", "3@5/A 7:2", "3@5/A 8:1 9:1", "refused 14"),
+    REPLACE("totals A/9:18446744073709551615", "0@5", "3@5/A 8:1 9:1", "refused 6"),
+    BAD_TOTALS("totals A/7:1 A/7:1"),
+    BAD_TOTALS("totals A/7:1 A/6:1"),
+    BAD_TOTALS("totals B/7:1 A/8:1"),
+    BAD_TOTALS("totals a/7:1 A/8:1"),
+    BAD_TOTALS("totals A/7:0"),
+    BAD_TOTALS("totals A/7:0 A/8:1"),
+    BAD_TOTALS("totals A/7:1 A/8:0"),
 };
 const size_t examples_len = sizeof examples / sizeof *examples;

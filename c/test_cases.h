@@ -5,18 +5,19 @@
 #include <stddef.h>
 #include <stdint.h>
 
-/* A call with what it is given (as texts, see texts.h) and what it has to tell. */
+/* A call with what it is given (as texts, see texts.h) and what it has to tell. Flags "none" are absent; what stands in their place is not to
+ * be looked at. */
 typedef struct {
     int line;
     int call;
-    const char *ours;    /* flags; bytes for the calls that read bytes */
-    const char *theirs;
+    const char *ours;    /* flags, the old ones of a change of totals; bytes for the calls that read bytes */
+    const char *theirs;  /* also the new ones of a change of totals */
     const char *removal; /* the right one of a sum */
     const char *left;
+    const char *totals;
     uint32_t amount, key;
     uint16_t version;
     uint8_t strategy;
-    int absent; /* ours is not there; what stands in its place is not to be looked at */
     const char *told;
 } example;
 

@@ -11,7 +11,8 @@
 
 void owner_of(char letter, uint8_t *owner) {
     int i;
-    for (i = 0; i < 32; i++) owner[i] = (uint8_t)(letter == '0' ? 0 : letter == 'z' ? i + 1 : letter);
+    for (i = 0; i < 32; i++) owner[i] = (uint8_t)(letter == '0' ? 0 : letter == 'z' ? i + 1 : letter == 'a' ? 'A' : letter);
+    if (letter == 'a') owner[31]++;
 }
 
 /* The value of a hex digit. */
@@ -52,26 +53,54 @@ void give_flags(given *g, petasunok_head *head, int epochs, const char *text, si
     give_table(g, epochs + 1, counts, head->records, more, side);
 }
 
-void give_removal(given *g, petasunok_removal *removal, int ids, const char *text, size_t more, int side) {
+/* Rows of an owner, an epoch and a number. */
+typedef struct {
     uint8_t owners[MOST][32];
     uint16_t epochs[MOST];
+    uint64_t numbers[MOST];
+    size_t len;
+} rows;
+
+static rows rows_of(const char *text) {
+    rows r = {.len = 0};
+    char *rest = (char *)text;
+    for (; *rest == ' '; r.len++) {
+        owner_of(rest[1], r.owners[r.len]);
+        r.epochs[r.len] = (uint16_t)strtoul(rest + 3, &rest, 10);
+        r.numbers[r.len] = strtoull(rest + 1, &rest, 10);
+    }
+    return r;
+}
+
+/* Lends the owners and epochs of rows. */
+static void give_pairs(given *g, int owners, const rows *r, size_t more, int side) {
+    give_table(g, owners, r->owners, r->len, more, side);
+    give_table(g, owners + 1, r->epochs, r->len, more, side);
+}
+
+void give_totals(given *g, const char *text, size_t more, int side) {
+    rows r = rows_of(text + strlen("totals"));
+    g->rows = r.len;
+    give_pairs(g, TOTAL_OWNERS, &r, more, side);
+    give_table(g, TOTALS, r.numbers, r.len, more, side);
+}
+
+void give_removal(given *g, petasunok_removal *removal, int ids, const char *text, size_t more, int side) {
+    rows r = {.len = 0};
     uint32_t bytes[MOST];
-    char *rest;
+    size_t i;
     memset(removal, 0, sizeof *removal);
     if (strncmp(text, "basic ", 6) == 0) {
         removal->kind = PETASUNOK_BASIC_REMOVAL;
         removal->bytes = (uint32_t)strtoul(text + 6, NULL, 10);
     } else if (strncmp(text, "rows", 4) == 0) {
         removal->kind = PETASUNOK_SECTIONED_REMOVAL;
-        for (rest = (char *)text + 4; *rest == ' ';) {
-            owner_of(rest[1], owners[removal->rows]);
-            epochs[removal->rows] = (uint16_t)strtoul(rest + 3, &rest, 10);
-            bytes[removal->rows++] = (uint32_t)strtoul(rest + 1, &rest, 10);
-        }
+        r = rows_of(text + 4);
+        removal->rows = r.len;
     }
-    give_table(g, ids, owners, removal->rows, more, side);
-    give_table(g, ids + 1, epochs, removal->rows, more, side);
-    give_table(g, ids + 2, bytes, removal->rows, more, side);
+    for (i = 0; i < r.len; i++) bytes[i] = (uint32_t)r.numbers[i];
+    give_pairs(g, ids, &r, more, side);
+    give_table(g, ids + 2, bytes, r.len, more, side);
 }
 
 /* ---- to a text */
@@ -90,7 +119,7 @@ static void put(const char *form, ...) {
 
 /* The letter of an owner, or ? where it has none. */
 static char letter_of(const uint8_t *owner) {
-    static const char letters[] = "0zABCDEFGHIJKLMNOPQRSTUVWXYZ";
+    static const char letters[] = "0zaABCDEFGHIJKLMNOPQRSTUVWXYZ";
     uint8_t bytes[32];
     const char *letter;
     for (letter = letters; *letter != 0; letter++) {
@@ -153,6 +182,16 @@ static void put_repaired(const given *g, const told *answer) {
     }
 }
 
+/* The rows of a table of totals. */
+static void put_totals(const given *g, const told *answer) {
+    uint8_t(*owners)[32] = g->parts[TOTAL_OWNERS].at;
+    const uint16_t *epochs = g->parts[TOTAL_EPOCHS].at;
+    const uint64_t *totals = g->parts[TOTALS].at;
+    size_t i;
+    put("totals");
+    for (i = 0; i < answer->count; i++) put(" %c/%u:%llu", letter_of(owners[i]), epochs[i], (unsigned long long)totals[i]);
+}
+
 /* The removals of a split, and the number of records visited. */
 static void put_split(const given *g, const told *answer) {
     put_removal(g, &answer->removal, LEFT_IDS);
@@ -170,6 +209,7 @@ const char *text_of(const call *c, const given *g, const told *answer) {
     else if (c->answer == SUM) put_removal(g, &answer->removal, LEFT_IDS);
     else if (c->answer == SPLIT) put_split(g, answer);
     else if (c->answer == REPAIRED) put_repaired(g, answer);
+    else if (c->answer == TABLE) put_totals(g, answer);
     else if (!answer->present) put("none");
     else if (c->answer == FLAGS) put_flags(g, answer);
     else if (c->answer == MAYBE_OWNER) put("owner %c", letter_of(answer->id.bytes));

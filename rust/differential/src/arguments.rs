@@ -7,10 +7,10 @@ usage: differential [--rounds N] [--seed S] [--only CALL] [--first]
        differential vectors
 
 Compares every call of the static library, and of the crate over it, with the original Rust: boundaries, random questions, histories, and
-all strings of up to 3 bytes by all five readers. The original has no repair; that call is compared with a model.
-  --rounds N   so many rounds of random questions; a round has 23 of them, and every eighth a history
+all strings of up to 3 bytes by all five readers. The original has no repair and no totals; these calls are compared with models.
+  --rounds N   so many rounds of random questions; a round has 29 of them, and every eighth a history and one of totals
   --seed S     the number that decides them; `time` takes the clock's
-  --only CALL  compares only this call, or only `histories`
+  --only CALL  compares only this call (totals_replace with its histories), or only `histories`
   --first      stops at the first difference
   vectors      writes the list of stored answers to standard output
 Status: 0 no difference but intended ones, 1 a difference, 2 other arguments than these.";

@@ -1,6 +1,6 @@
 //! Our answers, at the C boundary, as they come: also the fields of a refused answer, and bytes that name nothing.
 use crate::guarded::{given, Lent, LentRows, LentTables};
-use crate::question::{Merge, Question, Reader, Reply, Split};
+use crate::question::{Change, Merge, Question, Reader, Reply, Split};
 use crate::values::*;
 use petasunok::sys;
 
@@ -36,6 +36,10 @@ macro_rules! fill {
     }};
 }
 
+/// What guards the bytes of rows, and what offsets and totals.
+const GUARD: u32 = 0xa5a5_a5a5;
+const WIDE_GUARD: u64 = 0xa5a5_a5a5_a5a5_a5a5;
+
 /// Asks the library.
 pub fn ask(question: &Question) -> Reply {
     match question {
@@ -54,7 +58,7 @@ pub fn ask(question: &Question) -> Reply {
         Question::CombineRemoved(merge) => combine_removed(merge),
         Question::Split(split) => self::split(split),
         Question::AddAssign { ours, rhs, version } => {
-            let mut lent = LentRows::new(&ours.rows);
+            let mut lent = LentRows::new(&ours.rows, GUARD);
             let answer = ask!(petasunok_add_assign; number ours.state, into_rows lent, rows rhs, number *version);
             Reply::Sum { answer, rows: lent.back() }
         }
@@ -68,6 +72,7 @@ pub fn ask(question: &Question) -> Reply {
         Question::OwnerId { head } => owner_id(*head),
         Question::TypeByte { head } => number(ask!(petasunok_type_byte; number *head), Reply::Kind),
         Question::Repair { src, lent } => repair(src, lent),
+        Question::TotalsReplace(change) => totals_replace(change),
     }
 }
 
@@ -106,7 +111,7 @@ fn combine_removed(merge: &Merge<Removal>) -> Reply {
 
 /// A split.
 fn split(split: &Split) -> Reply {
-    let (mut key, mut value) = (LentRows::new(&split.key_rows), LentRows::new(&split.value_rows));
+    let (mut key, mut value) = (LentRows::new(&split.key_rows, GUARD), LentRows::new(&split.value_rows, GUARD));
     let answer = ask!(petasunok_split_storage_removed_bytes;
         flags split.flags, number split.key, number split.value, into_rows key, into_rows value);
     Reply::Split { answer, key: key.back(), value: value.back() }
@@ -115,9 +120,17 @@ fn split(split: &Split) -> Reply {
 /// A repair.
 fn repair(src: &[u8], lent: &Repaired) -> Reply {
     let (mut out, mut changes) = (Lent::new(&lent.out, 0xa5), Lent::new(&lent.changes, 0xa5));
-    let mut offsets = Lent::new(&lent.offsets, 0xa5a5_a5a5_a5a5_a5a5);
+    let mut offsets = Lent::new(&lent.offsets, WIDE_GUARD as usize);
     let answer = ask!(petasunok_repair; bytes src, out out, out offsets, out changes);
     Reply::Repaired { answer, lent: Repaired { out: out.back(), offsets: offsets.back(), changes: changes.back() } }
+}
+
+/// A change of totals.
+fn totals_replace(change: &Change) -> Reply {
+    let mut lent = LentRows::new(&change.table, WIDE_GUARD);
+    let answer = ask!(petasunok_totals_replace;
+        number change.rows, into_rows lent, number change.old_present, flags change.old, number change.new_present, flags change.new);
+    Reply::Totals { answer, table: lent.back() }
 }
 
 /// Whose owner stands, and the part of the encoding that the header names for it.

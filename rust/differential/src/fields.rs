@@ -25,7 +25,7 @@ pub fn question(question: &Question) -> Option<String> {
         Question::CombineAdded(merge) => line.merge(merge, |line| line.number(merge.with, 4)),
         Question::CombineRemoved(merge) => line.merge(merge, |line| line.removal(&merge.with)),
         Question::Split(split) => {
-            line.flags(&split.flags).number(split.key, 4).number(split.value, 4).rows(&split.key_rows).rows(&split.value_rows)
+            line.flags(&split.flags).number(split.key, 4).number(split.value, 4).rows(&split.key_rows, 4).rows(&split.value_rows, 4)
         }
         Question::AddAssign { ours, rhs, version } => line.removal(ours).removal(rhs).number(*version, 2),
         Question::HasRemoval { removal } | Question::TotalRemovedBytes { removal } => line.removal(removal),
@@ -33,6 +33,10 @@ pub fn question(question: &Question) -> Option<String> {
         Question::SetOwnerId { head, owner } => line.head(head).plain(owner),
         Question::BaseEpoch { head } | Question::OwnerId { head } | Question::TypeByte { head } => line.head(head),
         Question::Repair { src, lent } => line.bytes(src).repaired(lent),
+        Question::TotalsReplace(change) => {
+            line.number(change.rows as u64, 2).rows(&change.table, 8);
+            line.truth(change.old_present).flags(&change.old).truth(change.new_present).flags(&change.new)
+        }
     };
     line.hex
 }
@@ -46,10 +50,14 @@ pub fn reply(reply: &Reply) -> Option<String> {
         Reply::Count(answer) => line.refusal(answer.refusal).number(answer.count, 4),
         Reply::Size(size) => line.number(*size, 4),
         Reply::Owner { answer, part } => line.refusal(answer.refusal).byte(answer.which).bytes(part),
-        Reply::Split { answer, key, value } => {
-            line.refusal(answer.refusal).state(&answer.key).state(&answer.value).number(answer.visited as u64, 2).rows(key).rows(value)
-        }
-        Reply::Sum { answer, rows } => line.refusal(answer.refusal).state(&answer.removal).rows(rows),
+        Reply::Split { answer, key, value } => line
+            .refusal(answer.refusal)
+            .state(&answer.key)
+            .state(&answer.value)
+            .number(answer.visited as u64, 2)
+            .rows(key, 4)
+            .rows(value, 4),
+        Reply::Sum { answer, rows } => line.refusal(answer.refusal).state(&answer.removal).rows(rows, 4),
         Reply::Head(head) => line.head(head),
         Reply::Epoch(epoch) => line.number(*epoch, 2),
         Reply::MaybeOwner { owned, owner } => line.byte(*owned).plain(owner),
@@ -57,6 +65,7 @@ pub fn reply(reply: &Reply) -> Option<String> {
         Reply::Repaired { answer, lent } => {
             line.refusal(answer.refusal).number(answer.bytes as u64, 2).number(answer.lines as u64, 2).repaired(lent)
         }
+        Reply::Totals { answer, table } => line.refusal(answer.refusal).number(answer.count, 2).rows(table, 8),
     };
     line.hex
 }
@@ -65,7 +74,7 @@ impl Line {
     /// A number of a width in bytes; nothing where it is wider.
     fn number(&mut self, number: impl Into<u64>, width: usize) -> &mut Line {
         let number = number.into();
-        if number >> (8 * width) != 0 {
+        if number.checked_shr(8 * width as u32).unwrap_or(0) != 0 {
             self.hex = None;
         }
         self.plain(&number.to_be_bytes()[8 - width..])
@@ -135,21 +144,22 @@ impl Line {
         })
     }
 
-    fn counts(&mut self, counts: &[u32]) -> &mut Line {
+    /// Counts, or totals, which are wider.
+    fn counts<T: Copy + Into<u64>>(&mut self, counts: &[T], width: usize) -> &mut Line {
         self.table(counts, |line, count| {
-            line.number(*count, 4);
+            line.number(*count, width);
         })
     }
 
     fn tables(&mut self, tables: &Tables) -> &mut Line {
-        self.epochs(&tables.epochs).counts(&tables.counts)
+        self.epochs(&tables.epochs).counts(&tables.counts, 4)
     }
 
-    fn rows(&mut self, rows: &Rows) -> &mut Line {
+    fn rows<T: Copy + Into<u64>>(&mut self, rows: &Rows<T>, width: usize) -> &mut Line {
         self.table(&rows.ids, |line, id| {
             line.plain(id);
         });
-        self.epochs(&rows.epochs).counts(&rows.bytes)
+        self.epochs(&rows.epochs).counts(&rows.bytes, width)
     }
 
     /// Bytes, offsets that are below 65,536, and changes.
@@ -173,6 +183,6 @@ impl Line {
     }
 
     fn removal(&mut self, removal: &Removal) -> &mut Line {
-        self.state(&removal.state).rows(&removal.rows)
+        self.state(&removal.state).rows(&removal.rows, 4)
     }
 }

@@ -70,22 +70,19 @@ impl LentTables {
 }
 
 /// Lent tables of rows.
-pub struct LentRows {
+pub struct LentRows<T> {
     pub ids: Lent<Id>,
     pub epochs: Lent<u16>,
-    pub bytes: Lent<u32>,
+    pub bytes: Lent<T>,
 }
 
-impl LentRows {
-    pub fn new(rows: &Rows) -> Self {
-        LentRows {
-            ids: Lent::new(&rows.ids, [0xa5; 32]),
-            epochs: Lent::new(&rows.epochs, 0xa5a5),
-            bytes: Lent::new(&rows.bytes, 0xa5a5_a5a5),
-        }
+impl<T: Copy + PartialEq> LentRows<T> {
+    /// The rows' numbers stand between guards of their own type.
+    pub fn new(rows: &Rows<T>, guard: T) -> Self {
+        LentRows { ids: Lent::new(&rows.ids, [0xa5; 32]), epochs: Lent::new(&rows.epochs, 0xa5a5), bytes: Lent::new(&rows.bytes, guard) }
     }
 
-    pub fn back(self) -> Rows {
+    pub fn back(self) -> Rows<T> {
         Rows { ids: self.ids.back(), epochs: self.epochs.back(), bytes: self.bytes.back() }
     }
 }

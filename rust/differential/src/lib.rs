@@ -24,5 +24,8 @@ pub mod run;
 pub mod short_strings;
 pub mod stages;
 pub mod summary;
+pub mod totals;
+pub mod totals_histories;
+pub mod totals_model;
 pub mod values;
 pub mod vectors;

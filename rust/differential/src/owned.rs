@@ -1,10 +1,8 @@
 //! Our answers by the owned values of the crate `petasunok`, put into what is lent as the C boundary does it.
 use crate::placed;
-use crate::question::{Merge, Question, Reader, Reply, Split};
+use crate::question::{Change, Merge, Question, Reader, Reply, Split};
 use crate::values::*;
-use petasunok::{
-    EpochMap, MergingOwnersStrategy, StorageFlags, StorageFlagsError, StorageRemovalPerEpochByIdentifier, StorageRemovedBytes,
-};
+use petasunok::{EpochMap, MergingOwnersStrategy, PerEpochByIdentifier, StorageFlags, StorageFlagsError, StorageRemovedBytes};
 
 /// Asks the crate. None where its types cannot say what is given: a byte that names nothing, or tables out of order.
 pub fn ask(question: &Question) -> Option<Reply> {
@@ -29,6 +27,7 @@ pub fn ask(question: &Question) -> Option<Reply> {
         Question::Repair { src, lent } => {
             placed::repaired(petasunok::repair(src).map(from_repaired).map_err(StorageFlagsError::number), lent)
         }
+        Question::TotalsReplace(change) => totals_replace(change)?,
         _ => return heads(question),
     })
 }
@@ -93,6 +92,16 @@ fn split(split: &Split) -> Option<Reply> {
     Some(placed::split(answer.map_err(StorageFlagsError::number), &split.key_rows, &split.value_rows))
 }
 
+/// A change of totals.
+fn totals_replace(change: &Change) -> Option<Reply> {
+    let mut totals = rows(&change.table, change.rows)?;
+    let [old, new] = [change.old_flags(), change.new_flags()].map(|given| given.map(flags));
+    // flags that are there have to be ones that the crate has
+    let (old, new) = (old.map_or(Some(None), |flags| flags.map(Some))?, new.map_or(Some(None), |flags| flags.map(Some))?);
+    let result = totals.replace(old.as_ref(), new.as_ref()).map(|()| from_rows(totals));
+    Some(placed::totals(result.map_err(StorageFlagsError::number), &change.table))
+}
+
 /// The chosen owner; which encoding holds it is seen by where it stands.
 fn combine_owner_id(ours: &[u8], theirs: &[u8], strategy: MergingOwnersStrategy) -> Reply {
     let chosen = petasunok::lent::combine_owner_id(ours, theirs, strategy);
@@ -149,14 +158,21 @@ fn removal(given: &Removal) -> Option<StorageRemovedBytes> {
     match given.state.kind {
         0 => Some(StorageRemovedBytes::NoStorageRemoval),
         1 => Some(StorageRemovedBytes::BasicStorageRemoval(given.state.bytes)),
-        2 => {
-            let (rows, count) = (&given.rows, given.state.rows);
-            let (ids, epochs) = (rows.ids.get(..count)?.to_vec(), rows.epochs.get(..count)?.to_vec());
-            let sections = StorageRemovalPerEpochByIdentifier::from_tables(ids, epochs, rows.bytes.get(..count)?.to_vec());
-            sections.ok().map(StorageRemovedBytes::SectionedStorageRemoval)
-        }
+        2 => rows(&given.rows, given.state.rows).map(StorageRemovedBytes::SectionedStorageRemoval),
         _ => None,
     }
+}
+
+/// The first rows as the crate has them, if there are so many.
+fn rows<T: Copy + Default>(rows: &Rows<T>, count: usize) -> Option<PerEpochByIdentifier<T>> {
+    let (ids, epochs) = (rows.ids.get(..count)?.to_vec(), rows.epochs.get(..count)?.to_vec());
+    PerEpochByIdentifier::from_tables(ids, epochs, rows.bytes.get(..count)?.to_vec()).ok()
+}
+
+/// The crate's rows as ours.
+fn from_rows<T: Copy + Default>(rows: PerEpochByIdentifier<T>) -> Rows<T> {
+    let (ids, epochs, bytes) = rows.into_tables();
+    Rows { ids, epochs, bytes }
 }
 
 /// The crate's removal as ours.
@@ -165,8 +181,7 @@ fn from_removal(removal: StorageRemovedBytes) -> Removal {
         StorageRemovedBytes::NoStorageRemoval => Removal::default(),
         StorageRemovedBytes::BasicStorageRemoval(bytes) => Removal::basic(bytes),
         StorageRemovedBytes::SectionedStorageRemoval(sections) => {
-            let (ids, epochs, bytes) = sections.into_tables();
-            Removal { state: petasunok_removal { kind: 2, bytes: 0, rows: ids.len() }, rows: Rows { ids, epochs, bytes } }
+            Removal { state: petasunok_removal { kind: 2, bytes: 0, rows: sections.len() }, rows: from_rows(sections) }
         }
     }
 }

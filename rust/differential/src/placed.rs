@@ -77,6 +77,14 @@ pub fn sum(result: Result<Removal, u32>, lent: &Rows) -> Reply {
     }
 }
 
+/// Totals, in tables that hold exactly their rows.
+pub fn totals(result: Result<Rows<u64>, u32>, lent: &Rows<u64>) -> Reply {
+    match fitting(result, |totals| totals.room() <= lent.room()) {
+        Err(refusal) => Reply::Totals { answer: petasunok_count { refusal, count: 0 }, table: lent.clone() },
+        Ok(totals) => Reply::Totals { answer: petasunok_count { refusal: 0, count: totals.room() as u64 }, table: lent.with(&totals) },
+    }
+}
+
 /// Canonical bytes and the lines of a repair, in tables that hold exactly these.
 pub fn repaired(result: Result<Repaired, u32>, lent: &Repaired) -> Reply {
     let fits = |repaired: &Repaired| repaired.out.len() <= lent.out.len() && repaired.changes.len() <= lent.room();

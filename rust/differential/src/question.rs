@@ -36,7 +36,7 @@ macro_rules! read_by {
 pub const READERS: [Reader; 5] = [Reader::Any, Reader::SingleEpoch, Reader::MultiEpoch, Reader::SingleEpochOwned, Reader::MultiEpochOwned];
 
 /// The names of the calls; a call's number is its place, counted from 1.
-pub const CALLS: [&str; 23] = [
+pub const CALLS: [&str; 24] = [
     "deserialize",
     "deserialize_single_epoch",
     "deserialize_multi_epoch",
@@ -60,10 +60,14 @@ pub const CALLS: [&str; 23] = [
     "owner_id",
     "type_byte",
     "repair",
+    "totals_replace",
 ];
 
+/// The number of the change of totals.
+pub const TOTALS_REPLACE: usize = 24;
+
 /// The calls that the original does not have. They are compared with a model.
-pub const MODELLED: [&str; 1] = ["repair"];
+pub const MODELLED: [&str; 2] = ["repair", "totals_replace"];
 
 /// A merge with an added amount or with a removal. `present` is none for the plain form, and the given byte for the optional one.
 #[derive(Clone, Debug, PartialEq, Eq)]
@@ -99,6 +103,29 @@ pub struct Split {
     pub value_rows: Rows,
 }
 
+/// A change of one element's flags, and a table of totals with its number of rows. Flags whose byte is 0 are absent.
+#[derive(Clone, Debug, Default, PartialEq, Eq)]
+pub struct Change {
+    pub rows: usize,
+    pub table: Rows<u64>,
+    pub old_present: u8,
+    pub old: Flags,
+    pub new_present: u8,
+    pub new: Flags,
+}
+
+impl Change {
+    /// The old flags, if they are there.
+    pub fn old_flags(&self) -> Option<&Flags> {
+        (self.old_present != 0).then_some(&self.old)
+    }
+
+    /// The new flags, if they are there.
+    pub fn new_flags(&self) -> Option<&Flags> {
+        (self.new_present != 0).then_some(&self.new)
+    }
+}
+
 /// A call.
 #[derive(Clone, Debug, PartialEq, Eq)]
 pub enum Question {
@@ -119,6 +146,7 @@ pub enum Question {
     OwnerId { head: petasunok_head },
     TypeByte { head: petasunok_head },
     Repair { src: Vec<u8>, lent: Repaired },
+    TotalsReplace(Change),
 }
 
 /// What a call answers.
@@ -136,6 +164,7 @@ pub enum Reply {
     MaybeOwner { owned: u8, owner: Id },
     Kind(u8),
     Repaired { answer: petasunok_repaired, lent: Repaired },
+    Totals { answer: petasunok_count, table: Rows<u64> },
 }
 
 impl Question {
@@ -159,6 +188,7 @@ impl Question {
             Question::OwnerId { .. } => 21,
             Question::TypeByte { .. } => 22,
             Question::Repair { .. } => 23,
+            Question::TotalsReplace(_) => TOTALS_REPLACE,
         }
     }
 
@@ -173,7 +203,7 @@ impl Reply {
     pub fn refusal(&self) -> u32 {
         match self {
             Reply::Flags { answer, .. } => answer.refusal,
-            Reply::Written { answer, .. } | Reply::Count(answer) => answer.refusal,
+            Reply::Written { answer, .. } | Reply::Count(answer) | Reply::Totals { answer, .. } => answer.refusal,
             Reply::Owner { answer, .. } => answer.refusal,
             Reply::Split { answer, .. } => answer.refusal,
             Reply::Sum { answer, .. } => answer.refusal,

@@ -7,6 +7,9 @@ use crate::owned;
 use crate::progress::Progress;
 use crate::question::{Question, Reply, CALLS};
 
+/// The largest number of a refusal.
+const LAST_REFUSAL: usize = 14;
+
 /// So many differences end a run.
 const ENOUGH: usize = 100;
 
@@ -18,7 +21,7 @@ pub struct Tally {
     /// Those of them that the crate's owned values answered as well.
     pub owned: u64,
     /// Answers, then refusals by their numbers.
-    pub by_refusal: [u64; 12],
+    pub by_refusal: [u64; LAST_REFUSAL + 1],
 }
 
 /// Something that is not as it has to be.
@@ -40,6 +43,9 @@ pub struct Run {
     /// Histories, their steps, and conclusions that did not hold.
     pub histories: u64,
     pub steps: u64,
+    /// Histories of totals, and their changes.
+    pub totals_histories: u64,
+    pub changes: u64,
     pub broken: Vec<String>,
     pub progress: Progress,
     only: Option<Only>,
@@ -55,6 +61,8 @@ impl Run {
             differences: Vec::new(),
             histories: 0,
             steps: 0,
+            totals_histories: 0,
+            changes: 0,
             broken: Vec::new(),
             progress: Progress::new(),
             only,

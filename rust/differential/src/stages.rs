@@ -1,12 +1,15 @@
 //! The stages of a run: the marked examples, boundaries, random rounds with histories, and short strings.
 use crate::edges;
-use crate::groups::{repairing, BOUNDARIES, RANDOMLY};
+use crate::groups::{repairing, totals as of_totals, BOUNDARIES, RANDOMLY};
 use crate::histories;
 use crate::marked;
+use crate::question::TOTALS_REPLACE;
 use crate::random::Random;
 use crate::repairs;
 use crate::run::Run;
 use crate::short_strings;
+use crate::totals;
+use crate::totals_histories::{self, Size};
 
 /// The most records or rows on a side of a random question.
 const MOST: usize = 40;
@@ -15,14 +18,23 @@ const MOST: usize = 40;
 const LONG: u64 = 16;
 const MOST_OF_LONG: usize = 1_000;
 
-/// A history comes every so many rounds.
+/// A history comes every so many rounds, and one of totals.
 const HISTORY: u64 = 8;
+
+/// So many random changes of totals come in each round.
+const CHANGES: usize = 6;
+
+/// Histories of totals: a few elements with few owners, and every so many rounds some hundred.
+const FEW: Size = Size { elements: 12, records: 6, owners: 3, changes: 14 };
+const MANY: Size = Size { elements: 400, records: 400, owners: 24, changes: 500 };
+const HISTORY_OF_MANY: u64 = 4_096;
 
 /// All stages.
 pub fn all(run: &mut Run, rounds: u64, seed: u64) {
     run.progress.stage("boundaries".into());
     let of_repairs = [repairs::questions, repairing::boundaries, repairing::short_strings];
-    for questions in [marked::questions, edges::questions].into_iter().chain(BOUNDARIES).chain(of_repairs) {
+    let of_totals = [totals::questions, of_totals::boundaries];
+    for questions in [marked::questions, edges::questions].into_iter().chain(BOUNDARIES).chain(of_repairs).chain(of_totals) {
         questions(&mut |question| run.compare(&question));
     }
     random_rounds(run, rounds, seed);
@@ -31,7 +43,7 @@ pub fn all(run: &mut Run, rounds: u64, seed: u64) {
 
 /// Random questions of every call, and histories.
 fn random_rounds(run: &mut Run, rounds: u64, seed: u64) {
-    let (mut random, mut random_of_repairs) = (Random::new(seed), Random::new(seed));
+    let [mut random, mut random_of_repairs, mut random_of_totals] = [(); 3].map(|()| Random::new(seed));
     for round in 0..rounds {
         if run.over() {
             return;
@@ -42,8 +54,15 @@ fn random_rounds(run: &mut Run, rounds: u64, seed: u64) {
             run.compare(&randomly(&mut random, most));
         }
         run.compare(&repairing::random(&mut random_of_repairs, most));
+        for _ in 0..CHANGES {
+            run.compare(&of_totals::random(&mut random_of_totals, most));
+        }
         if round % HISTORY == 0 && run.has_histories() {
             histories::history(run, &mut random, MOST / 4);
+        }
+        if round % HISTORY == 0 && run.wants(TOTALS_REPLACE) {
+            let size = if round % HISTORY_OF_MANY == 0 { MANY } else { FEW };
+            totals_histories::history(run, &mut random_of_totals, &size);
         }
     }
 }

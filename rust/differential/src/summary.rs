@@ -4,6 +4,9 @@ use crate::intended::INTENDED;
 use crate::question::{CALLS, MODELLED};
 use crate::run::{Difference, Run};
 
+/// The numbers of the refusals that are given.
+const REFUSALS: [usize; 12] = [1, 2, 3, 4, 5, 6, 7, 8, 9, 10, 11, 14];
+
 /// Prints a run's figures, and a difference if there is one. Whether there was none.
 pub fn print(run: &Run) -> bool {
     calls(run);
@@ -12,6 +15,7 @@ pub fn print(run: &Run) -> bool {
         println!("  {number:>9}  {name}: {reason}");
     }
     println!("{} histories of {} steps", run.histories, run.steps);
+    println!("{} histories of totals of {} changes", run.totals_histories, run.changes);
     run.broken.iter().take(1).for_each(|broken| println!("{broken}"));
     if let Some(smallest) = run.differences.iter().min_by_key(|difference| format!("{:?}", difference.question).len()) {
         difference(smallest);
@@ -24,11 +28,11 @@ pub fn print(run: &Run) -> bool {
 /// The table of calls.
 fn calls(run: &Run) {
     print!("{:<31}{:>10}{:>10}{:>10}", "call", "compared", "and owned", "answered");
-    (1..12).for_each(|refusal| print!("{refusal:>9}"));
+    REFUSALS.iter().for_each(|refusal| print!("{refusal:>9}"));
     println!();
     for (name, tally) in CALLS.iter().zip(&run.tallies).filter(|(_, tally)| tally.compared > 0) {
         print!("{name:<31}{:>10}{:>10}{:>10}", tally.compared, tally.owned, tally.by_refusal[0]);
-        tally.by_refusal[1..].iter().for_each(|number| print!("{number:>9}"));
+        REFUSALS.iter().for_each(|refusal| print!("{:>9}", tally.by_refusal[*refusal]));
         println!();
     }
     for (name, _) in CALLS.iter().zip(&run.tallies).filter(|(name, tally)| tally.compared > 0 && MODELLED.contains(name)) {

@@ -17,12 +17,12 @@ pub struct Tables {
     pub counts: Vec<u32>,
 }
 
-/// The three tables that hold rows.
+/// The three tables that hold rows: of a removal, or, with numbers of 64 bits, of totals.
 #[derive(Clone, Debug, Default, PartialEq, Eq)]
-pub struct Rows {
+pub struct Rows<T = u32> {
     pub ids: Vec<Id>,
     pub epochs: Vec<u16>,
-    pub bytes: Vec<u32>,
+    pub bytes: Vec<T>,
 }
 
 /// Flags: a head, and the tables in whose first places its records stand.
@@ -64,14 +64,28 @@ impl Tables {
     }
 }
 
-impl Rows {
+impl<T: Copy> Rows<T> {
+    /// Tables that hold exactly these rows.
+    pub fn of(rows: &[(Id, u16, T)]) -> Self {
+        Rows {
+            ids: rows.iter().map(|row| row.0).collect(),
+            epochs: rows.iter().map(|row| row.1).collect(),
+            bytes: rows.iter().map(|row| row.2).collect(),
+        }
+    }
+
     /// How many rows have room.
     pub fn room(&self) -> usize {
         self.ids.len().min(self.epochs.len()).min(self.bytes.len())
     }
 
+    /// The first rows, of tables that hold them.
+    pub fn first(&self, rows: usize) -> impl Iterator<Item = (Id, u16, T)> + '_ {
+        (0..rows).map(|place| (self.ids[place], self.epochs[place], self.bytes[place]))
+    }
+
     /// These tables with the places of other ones over their first places.
-    pub fn with(&self, first: &Rows) -> Rows {
+    pub fn with(&self, first: &Self) -> Self {
         let (ids, epochs, bytes) = (over(&self.ids, &first.ids), over(&self.epochs, &first.epochs), over(&self.bytes, &first.bytes));
         Rows { ids, epochs, bytes }
     }
@@ -126,18 +140,11 @@ impl Removal {
 
     /// A sectioned removal whose tables hold exactly these rows.
     pub fn sectioned(rows: &[(Id, u16, u32)]) -> Removal {
-        let state = petasunok_removal { kind: 2, bytes: 0, rows: rows.len() };
-        let tables = Rows {
-            ids: rows.iter().map(|row| row.0).collect(),
-            epochs: rows.iter().map(|row| row.1).collect(),
-            bytes: rows.iter().map(|row| row.2).collect(),
-        };
-        Removal { state, rows: tables }
+        Removal { state: petasunok_removal { kind: 2, bytes: 0, rows: rows.len() }, rows: Rows::of(rows) }
     }
 
     /// The rows, of tables that hold them.
     pub fn rows(&self) -> impl Iterator<Item = (Id, u16, u32)> + '_ {
-        let rows = if self.state.kind == 2 { self.state.rows } else { 0 };
-        (0..rows).map(|place| (self.rows.ids[place], self.rows.epochs[place], self.rows.bytes[place]))
+        self.rows.first(if self.state.kind == 2 { self.state.rows } else { 0 })
     }
 }

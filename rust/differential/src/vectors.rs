@@ -3,11 +3,12 @@ use crate::blocks;
 use crate::edges;
 use crate::expected::expected;
 use crate::fields;
-use crate::groups::{repairing, Boundaries, Randomly, BOUNDARIES, RANDOMLY};
+use crate::groups::{repairing, totals as of_totals, Boundaries, Randomly, BOUNDARIES, RANDOMLY};
 use crate::marked;
 use crate::question::{Question, CALLS};
 use crate::random::Random;
 use crate::repairs;
+use crate::totals;
 use std::collections::{BTreeMap, BTreeSet};
 
 /// The most bytes of a stored question or reply.
@@ -19,9 +20,10 @@ const BOUNDARIES_OF_CALL: usize = 60;
 /// How many random questions of a call with the same refusal, or none, are stored.
 const OF_REFUSAL: usize = 24;
 
-/// How many random questions are tried, of all calls of the original and of repairs.
+/// How many random questions are tried, of all calls of the original, of repairs and of totals.
 const TRIES: usize = 120_000;
 const TRIES_OF_REPAIRS: usize = 200;
+const TRIES_OF_TOTALS: usize = 60;
 
 /// The head of the list.
 const HEAD: &str = "\
@@ -29,11 +31,13 @@ const HEAD: &str = "\
 # Made by `tools/differential vectors` from the original Rust, dashpay/grovedb at commit 0ea327d726, and its stand-ins (rust/standins).
 # Refusals 8 to 11 come from document 01's rule and not from the Rust, which has none of them.
 # The Rust has no repair: the replies to 23 come from a model of its own, rust/differential/src/repair_model.rs, written from document 02 (iv).
-# A line: hex digits of the question, =, hex digits of the reply; blanks do not count; numbers are big-endian; u8, u16, u32 have 1, 2, 4 bytes.
+# The Rust has no totals: the replies to 24 come from a model of its own, rust/differential/src/totals_model.rs, written from document 02 (vii).
+# A line: hex digits of the question, =, hex digits of the reply; blanks do not count; numbers are big-endian; u8 to u64 have 1, 2, 4, 8 bytes.
 #   BYTES: u16 n, n bytes          HEAD: u8 kind, u16 base, 32 owner bytes, u16 records     TABLES: u16 n, n u16 epochs, u16 m, m u32 counts
 #   FLAGS: HEAD TABLES             REMOVAL: u8 kind (0 none, 1 basic, 2 sectioned), u32 bytes, u16 rows
 #   ROWTABLES: u16 n, n ids of 32 bytes, u16 m, m u16 epochs, u16 k, k u32 bytes            ROWS: REMOVAL ROWTABLES
 #   OFFSETS: u16 n, n u16 (there are only questions whose offsets, also those lent, are below 65,536)
+#   TOTALTABLES: u16 n, n owners of 32 bytes, u16 m, m u16 epochs, u16 k, k u64 totals
 # The question is the call's u8 number, then (tables and bytes that are lent stand as they are before, in the reply as they are after):
 #   1 deserialize, 2 deserialize_single_epoch, 3 deserialize_multi_epoch, 4 deserialize_single_epoch_owned, 5 deserialize_multi_epoch_owned:
 #     BYTES, TABLES lent = u8 refusal, u8 present, HEAD, TABLES
@@ -53,6 +57,7 @@ const HEAD: &str = "\
 #   19 set_owner_id: HEAD, 32 bytes = HEAD
 #   20 base_epoch: HEAD = u16      21 owner_id: HEAD = u8 owned, 32 bytes     22 type_byte: HEAD = u8
 #   23 repair: BYTES, BYTES out lent, OFFSETS lent, BYTES changes lent = u8 refusal, u16 bytes, u16 lines, BYTES out, OFFSETS, BYTES changes
+#   24 totals_replace: u16 rows, TOTALTABLES, u8 old_present, FLAGS old, u8 new_present, FLAGS new = u8 refusal, u16 rows, TOTALTABLES
 ";
 
 /// The lines of a list under way, by call.
@@ -74,6 +79,9 @@ pub fn list(seed: u64) -> String {
     list.all(repairs::questions);
     list.boundaries(&mut random, &[repairing::boundaries]);
     list.random(&mut random, &[repairing::random], TRIES_OF_REPAIRS);
+    list.all(totals::questions);
+    list.boundaries(&mut random, &[of_totals::boundaries]);
+    list.random(&mut random, &[of_totals::random], TRIES_OF_TOTALS);
     let mut text = HEAD.to_string();
     for (number, lines) in list.lines {
         text.push_str(&format!("# {number} {}\n", CALLS[number - 1]));

@@ -1,7 +1,7 @@
 //! The refusals.
 use std::fmt;
 
-/// Why a call was refused. Every refusal has a number, 1 to 11; nothing that the call was lent has changed.
+/// Why a call was refused. Every refusal has a number, 1 to 11 or 14; nothing that the call was lent has changed.
 ///
 /// The original carries a text in each error; here the variant alone says what happened.
 ///
@@ -24,7 +24,7 @@ pub enum StorageFlagsError {
     MergingStorageFlagsWithDifferentBaseEpoch = 4,
     /// 5: the owners differ, or a removal is not under our owner alone.
     MergingStorageFlagsFromDifferentOwners = 5,
-    /// 6: a count would pass 32 bits, or a section takes more than its record holds.
+    /// 6: a count would pass 32 bits or a total 64, or a section takes more than its record holds.
     StorageFlagsOverflow = 6,
     /// 7: a section's epoch is not the base epoch and has no record.
     RemovingAtEpochWithNoAssociatedStorage = 7,
@@ -34,15 +34,17 @@ pub enum StorageFlagsError {
     TotalTooLarge = 9,
     /// 10: the answer needs more room than was lent. Only the calls of [`lent`](crate::lent) answer it.
     NoRoom = 10,
-    /// 11: flags or rows are not proper: no record, epochs or rows that do not rise, or an epoch that is not above the base.
+    /// 11: flags or rows are not proper: no record, epochs or rows that do not rise, an epoch that is not above the base, or a total of 0.
     BadTable = 11,
+    /// 14: a total is less than what the old flags count there.
+    IndexMismatch = 14,
 }
 
 use StorageFlagsError::*;
 
 impl StorageFlagsError {
     /// All refusals, in the order of their numbers.
-    pub const ALL: [Self; 11] = [
+    pub const ALL: [Self; 12] = [
         DeserializeUnknownStorageFlagsType,
         StorageFlagsWrongSize,
         NonCanonicalStorageFlags,
@@ -54,9 +56,10 @@ impl StorageFlagsError {
         TotalTooLarge,
         NoRoom,
         BadTable,
+        IndexMismatch,
     ];
 
-    /// The refusal's number, 1 to 11.
+    /// The refusal's number, 1 to 11 or 14.
     pub const fn number(self) -> u32 {
         self as u32
     }
@@ -82,12 +85,13 @@ impl fmt::Display for StorageFlagsError {
             NonCanonicalStorageFlags => "a count of the storage flags is too large or not minimal, or their epochs do not rise",
             MergingStorageFlagsWithDifferentBaseEpoch => "the incoming base epoch is below ours",
             MergingStorageFlagsFromDifferentOwners => "the owners differ, or the removal is not under our owner alone",
-            StorageFlagsOverflow => "a count would pass 32 bits, or more would be removed at an epoch than was added there",
+            StorageFlagsOverflow => "a count would pass 32 bits or a total 64, or more would be removed at an epoch than was added there",
             RemovingAtEpochWithNoAssociatedStorage => "bytes would be removed at an epoch that has no record",
             RemovalTooLarge => "more than 4294967292 bytes would be removed from flags with several epochs",
             TotalTooLarge => "the total of the removed bytes passes 32 bits",
             NoRoom => "the answer needs more room than was lent",
-            BadTable => "the given flags or removal are not proper",
+            BadTable => "the given flags, removal or totals are not proper",
+            IndexMismatch => "a total is less than what the old flags count there",
         })
     }
 }

@@ -1,7 +1,8 @@
 //! The calls on lent memory: nothing is allocated, and an answer stands at the start of what was lent for it.
 //!
 //! There is one function here for each of the C header. Flags are a [`Head`] and two tables, a removal is a [`Removal`] and three; the
-//! head says how many places of its tables count. A refusal changes nothing that was lent, and an answer leaves what lies behind it.
+//! head says how many places of its tables count. Totals are three tables and a number of rows. A refusal changes nothing that was lent,
+//! and an answer leaves what lies behind it.
 //! Reading takes up to 180 KB of the thread's stack, in proportion to the records (12 KB for 1,024); repairing takes up to 1 MiB.
 //!
 //! ```
@@ -63,6 +64,7 @@ mod merging;
 mod reading;
 mod removals;
 mod repairing;
+mod totals;
 mod writing;
 
 pub use heads::*;
@@ -70,6 +72,7 @@ pub use merging::*;
 pub use reading::*;
 pub use removals::*;
 pub use repairing::*;
+pub use totals::*;
 pub use writing::*;
 
 impl Head {
@@ -175,6 +178,17 @@ pub struct RowsMut<'a> {
     pub bytes: &'a mut [u32],
 }
 
+/// A table of totals, whose rows stand in the first places of three slices and make room for more.
+#[derive(Debug)]
+pub struct TotalsMut<'a> {
+    /// Who each row's total is of; 32 zero bytes for what has no owner.
+    pub owners: &'a mut [Identifier],
+    /// In which epoch each row's bytes were added.
+    pub epochs: &'a mut [u16],
+    /// How many bytes all elements together count.
+    pub totals: &'a mut [u64],
+}
+
 /// What a split answers: a removal for the key's bytes and one for the value's.
 #[derive(Clone, Copy, Debug, PartialEq, Eq)]
 pub struct Split {
@@ -199,6 +213,6 @@ pub struct RepairedSizes {
 fn answered<T>(refusal: u32, answer: T) -> Result<T, StorageFlagsError> {
     match refusal {
         0 => Ok(answer),
-        number => Err(StorageFlagsError::from_number(number).expect("the library refuses with 1 to 11")),
+        number => Err(StorageFlagsError::from_number(number).expect("the library refuses with 1 to 11 or 14")),
     }
 }

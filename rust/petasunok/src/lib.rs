@@ -1,8 +1,8 @@
 //! Storage flags of a GroveDB store, over a static library whose every function is proved.
 //!
 //! Each element of the store carries flags: in which epochs its bytes were paid, and by whom. When an element is shortened, the flags
-//! decide which bytes are refunded. This crate reads, writes and merges flags, splits a removal over their epochs, adds removals up, and
-//! repairs old flag bytes.
+//! decide which bytes are refunded. This crate reads, writes and merges flags, splits a removal over their epochs, adds removals up,
+//! repairs old flag bytes, and keeps totals per owner and epoch.
 //! The work is done by a library written in Rattle, whose checker proves that each call ends on any input and equals a short definition.
 //! The crate has the names of the original Rust, GroveDB's `grovedb-epoch-based-storage-flags` and the `removal` module of `costs`, and
 //! needs no other crate.
@@ -43,6 +43,23 @@
 //! # Ok::<(), petasunok::StorageFlagsError>(())
 //! ```
 //!
+//! # Totals
+//!
+//! [`Totals`] has for each owner and epoch what all elements together count there. It is kept beside the elements and told each change of
+//! one, so that nothing has to be recounted.
+//!
+//! ```
+//! use petasunok::{StorageFlags, Totals};
+//!
+//! let flags = StorageFlags::MultiEpochOwned(5, [(7, 10), (9, 5)].into(), [1; 32]);
+//! let mut totals = Totals::new();
+//! totals.replace(None, Some(&flags))?;
+//! let shorter = StorageFlags::MultiEpochOwned(5, [(7, 6)].into(), [1; 32]);
+//! totals.replace(Some(&flags), Some(&shorter))?;
+//! assert_eq!(totals, [([1; 32], 7, 6)].into());
+//! # Ok::<(), petasunok::StorageFlagsError>(())
+//! ```
+//!
 //! # What differs from the original
 //!
 //! | What | The original | Here |
@@ -50,7 +67,7 @@
 //! | maps of flags | `BTreeMap<EpochIndex, BytesAddedInEpoch>` | [`EpochMap`], made from a map and back |
 //! | maps of removals | `BTreeMap<Identifier, IntMap<u16, u32>>` | [`StorageRemovalPerEpochByIdentifier`], made from a map of maps and back |
 //! | an identifier without sections | can stand in the map | is left out |
-//! | errors | carry a text | are [`StorageFlagsError`] alone, each with a number; `RemovalTooLarge`, `TotalTooLarge`, `NoRoom` and `BadTable` are new |
+//! | errors | carry a text | are [`StorageFlagsError`] alone, each with a number; `RemovalTooLarge`, `TotalTooLarge`, `NoRoom`, `BadTable` and `IndexMismatch` are new |
 //! | flags and rows that are not proper | are taken as they are; `serialize` has debug assertions | are refused with `BadTable` (11) by every call that reads, merges, splits or adds them |
 //! | `serialize`, `serialized_size` and what is built on them | cannot fail | answer a `Result`, for `BadTable` |
 //! | `split_storage_removed_bytes` | overflows for the top three amounts | answers a `Result`, `RemovalTooLarge` (8) there; a second form also counts the records visited |
@@ -58,6 +75,7 @@
 //! | `add_assign` | the operator `+=`, with the thread's version | a method with the version as an argument, and a `Result` |
 //! | two sections at fault in one merge | either error | the first by epoch |
 //! | [`repair()`] | not there | repairs bytes that `deserialize` refuses |
+//! | [`Totals`] | not there | keeps totals per owner and epoch |
 //! | `+`, comparing removals, the guards of the thread's version | there | left out |
 //!
 //! # Calls that allocate nothing
@@ -81,11 +99,13 @@ pub mod error;
 mod flags;
 #[allow(unsafe_code)]
 pub mod lent;
+mod per_epoch;
 mod removed;
 mod repair;
 mod sections;
 #[allow(unsafe_code)]
 pub mod sys;
+mod totals;
 
 pub use epoch_map::EpochMap;
 pub use error::StorageFlagsError;
@@ -93,6 +113,8 @@ pub use flags::{
     BaseEpoch, BytesAddedInEpoch, ElementFlags, EpochIndex, MergingOwnersStrategy, OwnerId, StorageFlags, MINIMUM_NON_BASE_FLAGS_SIZE,
     SINGLE_EPOCH_FLAGS_SIZE,
 };
+pub use per_epoch::PerEpochByIdentifier;
 pub use removed::{Identifier, StorageRemovedBytes, UNKNOWN_EPOCH};
 pub use repair::{repair, Change, Line, Repaired};
 pub use sections::StorageRemovalPerEpochByIdentifier;
+pub use totals::Totals;

@@ -155,4 +155,7 @@ declare! {
     petasunok_owner_id(value head: petasunok_head) -> petasunok_maybe_owner;
     petasunok_type_byte(value head: petasunok_head) -> petasunok_count;
     petasunok_repair(slice src: u8, room out: u8, room offsets: usize, room changes: u8) -> petasunok_repaired;
+    petasunok_totals_replace(
+        value rows: usize, room owners: [u8; 32], room epochs: u16, room totals: u64,
+        value old_present: u8, flags old_flags, value new_present: u8, flags new_flags) -> petasunok_count;
 }

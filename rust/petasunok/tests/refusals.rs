@@ -4,7 +4,7 @@ use both::{records, sections, Answer, ENOUGH};
 use petasunok::lent::{self, Flags, Head, Removal, Rows};
 use petasunok::MergingOwnersStrategy::RaiseIssue;
 use petasunok::StorageFlags::{SingleEpoch, SingleEpochOwned};
-use petasunok::{EpochMap, StorageFlags, StorageFlagsError, StorageRemovalPerEpochByIdentifier, StorageRemovedBytes};
+use petasunok::{EpochMap, StorageFlags, StorageFlagsError, StorageRemovalPerEpochByIdentifier, StorageRemovedBytes, Totals};
 
 /// The number of a refusal, 0 for an answer.
 fn number<T>(answer: Answer<T>) -> u32 {
@@ -18,6 +18,9 @@ fn added(ours: &StorageFlags, theirs: &StorageFlags, bytes: u32) -> u32 {
 fn removed(ours: &StorageFlags, theirs: &StorageFlags, removal: &StorageRemovedBytes) -> u32 {
     number(both::combine_removed_bytes(ours, theirs, removal, RaiseIssue, ENOUGH))
 }
+
+/// The numbers of all refusals.
+const NUMBERS: [u32; 12] = [1, 2, 3, 4, 5, 6, 7, 8, 9, 10, 11, 14];
 
 #[test]
 fn each_number_once() {
@@ -36,19 +39,21 @@ fn each_number_once() {
         number(lent::total_removed_bytes(large.as_lent())),
         number(both::deserialize(&[1, 0, 5, 0, 7, 1], 0)),
         number(both::serialize(&StorageFlags::MultiEpoch(5, EpochMap::new()), ENOUGH)),
+        number(both::totals_replace(&Totals::new(), Some(&ours), None, [ENOUGH; 3])),
     ];
-    assert_eq!(numbers.to_vec(), (1..=11).collect::<Vec<u32>>());
+    assert_eq!(numbers.to_vec(), NUMBERS);
 }
 
 #[test]
 fn numbers_and_refusals_match() {
-    for (refusal, number) in StorageFlagsError::ALL.into_iter().zip(1..) {
+    for (refusal, number) in StorageFlagsError::ALL.into_iter().zip(NUMBERS) {
         assert_eq!(refusal.number(), number);
         assert_eq!(StorageFlagsError::from_number(number), Some(refusal));
         assert!(!refusal.to_string().is_empty());
     }
-    assert_eq!(StorageFlagsError::from_number(0), None);
-    assert_eq!(StorageFlagsError::from_number(12), None);
+    for number in [0, 12, 13, 15] {
+        assert_eq!(StorageFlagsError::from_number(number), None);
+    }
 }
 
 /// A repair gives 1, 2 and 10, and where the bytes are refused the room is not looked at.
@@ -107,6 +112,14 @@ fn bad_tables() {
             11,
             "{bad}"
         );
+        for (old, new) in [
+            (Some(&bad), None),
+            (None, Some(&bad)),
+            (Some(&bad), Some(&fine)),
+            (Some(&fine), Some(&bad)),
+        ] {
+            assert_eq!(number(both::totals_replace(&Totals::new(), old, new, [ENOUGH; 3])), 11, "{bad}");
+        }
     }
     for (ids, epochs) in [(vec![[0; 32]; 2], vec![7, 7]), (vec![[1; 32], [0; 32]], vec![7, 9])] {
         let rows = StorageRemovalPerEpochByIdentifier::from_tables(ids, epochs, vec![1, 1]).unwrap();

@@ -3,9 +3,10 @@ mod both;
 use both::{records, sections, Answer, ENOUGH};
 use petasunok::lent::{self, Flags, Head};
 use petasunok::MergingOwnersStrategy::RaiseIssue;
-use petasunok::StorageFlags::SingleEpoch;
+use petasunok::StorageFlags::{self, SingleEpoch};
 use petasunok::StorageFlagsError::NoRoom;
 use petasunok::StorageRemovedBytes::*;
+use petasunok::Totals;
 use std::fmt::Debug;
 
 /// A call that needs some room: the answer is the same with more, and refused with less. `both` looks at what was lent.
@@ -73,6 +74,29 @@ fn repairing() {
     needs_each((3, 3, 3), &[1, 0, 5, 0, 5, 1, 0]);
     // 9 is replaced, 7 is written shorter and moved
     needs_each((9, 3, 3), &[1, 0, 5, 0, 9, 1, 0, 9, 2, 0, 7, 0x83, 0]);
+}
+
+#[test]
+fn totals() {
+    let totals = Totals::from([([1; 32], 7, 10), ([1; 32], 9, 5)]);
+    let (old, new) = (records([(7, 3), (9, 5)]), records([(6, 1), (7, 3), (8, 0)]));
+    let owned = |flags: &StorageFlags| StorageFlags::MultiEpochOwned(5, flags.epoch_index_map().unwrap().clone(), [1; 32]);
+    // the first rooms are what the given rows need
+    let needs_each = |least: usize, room: usize, old: Option<&StorageFlags>, new: Option<&StorageFlags>| {
+        let answer = both::totals_replace(&totals, old, new, [ENOUGH; 3]);
+        assert!(answer.is_ok(), "{answer:?}");
+        assert_eq!(both::totals_replace(&totals, old, new, [room; 3]), answer, "exact room");
+        for (place, short) in (0..3).flat_map(|place| (least..room).map(move |short| (place, short))) {
+            let mut rooms = [room; 3];
+            rooms[place] = short;
+            assert_eq!(both::totals_replace(&totals, old, new, rooms), Err(NoRoom), "{rooms:?}");
+        }
+    };
+    needs_each(2, 4, None, Some(&new));
+    needs_each(2, 3, None, Some(&owned(&new)));
+    // the row at 9 goes and that at 6 comes
+    needs_each(2, 2, Some(&owned(&old)), Some(&owned(&new)));
+    needs_each(2, 3, Some(&owned(&old)), Some(&new));
 }
 
 /// The tables need not be of one length; the shorter one decides.

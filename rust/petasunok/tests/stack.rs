@@ -1,8 +1,9 @@
 //! The stack that reading takes: blocks of 64 records wait in it for those behind them, up to 16,384 records, which take some 170 KiB. A
-//! repair has tables over all epochs in it, which take less than 1 MiB.
+//! repair has tables over all epochs in it, which take less than 1 MiB. A change of totals has nothing in it.
 use petasunok::lent;
-use petasunok::repair;
 use petasunok::StorageFlagsError::NonCanonicalStorageFlags;
+use petasunok::{repair, EpochMap, StorageFlags, Totals};
+use std::collections::BTreeSet;
 use std::thread;
 
 /// Flags of kind 1 over base 0 with all epochs up to the last, and the largest count in each.
@@ -51,4 +52,25 @@ fn a_repair_has_enough_in_a_mebibyte_and_a_half() {
     let repaired = in_thread(1536, move || repair(&falling)).expect("a repair");
     // all records but the first are moved
     assert_eq!((repaired.bytes == good, repaired.lines.len()), (true, usize::from(u16::MAX) - 1));
+}
+
+#[test]
+fn a_change_of_many_totals_takes_little() {
+    let records = |step: u16| EpochMap::from_iter((1..20_000).map(|epoch| (epoch * step, 1)));
+    let flags = [1, 2, 3].map(|step| StorageFlags::MultiEpochOwned(0, records(step), [7; 32]));
+    let work = move || {
+        let mut totals = Totals::from([([6; 32], 1, 1), ([8; 32], 1, 1)]);
+        let [first, second, third] = &flags;
+        let changes = [
+            (None, Some(first)),
+            (None, Some(second)),
+            (Some(first), Some(third)),
+            (Some(second), Some(first)),
+        ];
+        changes.map(|(old, new)| totals.replace(old, new).map(|()| totals.len()))
+    };
+    // two rows under other owners, and one for each epoch that some element has
+    let rows = |steps: &[u32]| 2 + BTreeSet::from_iter(steps.iter().flat_map(|step| (1..20_000).map(move |n| n * step))).len();
+    let expected = [&[1][..], &[1, 2], &[2, 3], &[1, 3]].map(rows);
+    assert_eq!(in_thread(32, work), expected.map(Ok));
 }

@@ -1,5 +1,5 @@
-//! What a call has to answer: the original's answer on document 01's domain, and the model's refusal outside it. The original has no repair;
-//! its answers are a model's.
+//! What a call has to answer: the original's answer on document 01's domain, and the model's refusal outside it. The original has no repair
+//! and no totals; their answers are models'.
 mod heads;
 mod merging;
 pub mod reading;
@@ -11,6 +11,7 @@ use crate::intended::Intended;
 use crate::placed;
 use crate::question::{Question, Reply};
 use crate::repair_model;
+use crate::totals_model;
 use crate::values::Flags;
 use grovedb_epoch_based_storage_flags::error::StorageFlagsError;
 use grovedb_epoch_based_storage_flags::StorageFlags;
@@ -63,6 +64,7 @@ pub fn expected(question: &Question) -> Expected {
         Question::OwnerId { head } => heads::owner_id(*head),
         Question::TypeByte { head } => heads::type_byte(*head),
         Question::Repair { src, lent } => Expected::modelled(placed::repaired(repair_model::repair(src), lent)),
+        Question::TotalsReplace(change) => Expected::modelled(placed::totals(totals_model::replace(change), &change.table)),
     }
 }
 

@@ -32,12 +32,12 @@ fn tables_of(random: &mut Random, epochs: usize, counts: usize) -> Tables {
     Tables { epochs: junk(epochs, || random.bits() as u16), counts: junk(counts, || random.bits() as u32) }
 }
 
-/// Tables for rows of such lengths.
-fn rows_of(random: &mut Random, ids: usize, epochs: usize, bytes: usize) -> Rows {
+/// Tables for rows of such lengths, with numbers made of 64 bits.
+fn rows_of<T>(random: &mut Random, [ids, epochs, bytes]: [usize; 3], number: fn(u64) -> T) -> Rows<T> {
     Rows {
         ids: junk(ids, || numbers::owner(random)),
         epochs: junk(epochs, || random.bits() as u16),
-        bytes: junk(bytes, || random.bits() as u32),
+        bytes: junk(bytes, || number(random.bits())),
     }
 }
 
@@ -64,13 +64,24 @@ pub fn exact_tables(random: &mut Random, length: usize) -> Tables {
 
 /// Tables for rows, with a need.
 pub fn rows(random: &mut Random, need: usize) -> Rows {
-    let [ids, epochs, bytes] = lengths(random, need);
-    rows_of(random, ids, epochs, bytes)
+    let lengths = lengths(random, need);
+    rows_of(random, lengths, |bits| bits as u32)
 }
 
 /// Tables for exactly so many rows.
 pub fn exact_rows(random: &mut Random, length: usize) -> Rows {
-    rows_of(random, length, length, length)
+    rows_of(random, [length; 3], |bits| bits as u32)
+}
+
+/// Tables for totals, with a need and with places for rows that stand there already.
+pub fn totals(random: &mut Random, need: usize, rows: usize) -> Rows<u64> {
+    let lengths = lengths(random, need).map(|length: usize| length.max(rows));
+    rows_of(random, lengths, |bits| bits)
+}
+
+/// Tables for exactly so many totals.
+pub fn exact_totals(random: &mut Random, length: usize) -> Rows<u64> {
+    rows_of(random, [length; 3], |bits| bits)
 }
 
 /// Bytes, with a need.

@@ -41,7 +41,7 @@ pub const OWNERS: [Id; 7] =
     [ZEROS, one_byte(0, 31, 1), one_byte(0, 0, 1), one_byte(0, 0, 128), [255; 32], one_byte(255, 31, 254), one_byte(7, 16, 9)];
 
 /// Bytes that are all the same but one.
-const fn one_byte(all: u8, place: usize, byte: u8) -> Id {
+pub const fn one_byte(all: u8, place: usize, byte: u8) -> Id {
     let mut id = [all; 32];
     id[place] = byte;
     id

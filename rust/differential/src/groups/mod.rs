@@ -6,6 +6,7 @@ pub mod reading;
 pub mod removals;
 pub mod repairing;
 pub mod sums;
+pub mod totals;
 pub mod writing;
 
 use crate::expected::expected;
@@ -22,7 +23,8 @@ pub type Boundaries = fn(&mut Visit);
 /// A random question of one call, with at most so many records or rows on a side.
 pub type Randomly = fn(&mut Random, usize) -> Question;
 
-/// The groups' boundaries. Repairs are asked apart from them and from the random questions, since they have random numbers of their own.
+/// The groups' boundaries. Repairs and totals are asked apart from them and from the random questions, since they have random numbers of
+/// their own.
 pub const BOUNDARIES: [Boundaries; 7] = [
     reading::boundaries,
     writing::boundaries,

@@ -2,7 +2,7 @@
 //!
 //! The names are those of the calls. The answers of both have to be equal, unless the room is too small.
 #![allow(dead_code)] // each test file uses a part of it
-use petasunok::lent::{self, Head, Removal, RowsMut};
+use petasunok::lent::{self, Head, Removal, RowsMut, TotalsMut};
 use petasunok::*;
 
 pub type Answer<T> = Result<T, StorageFlagsError>;
@@ -56,17 +56,35 @@ impl Records {
 
 /// Lent tables of rows.
 #[derive(Clone, Debug, PartialEq)]
-struct Rows(Vec<Identifier>, Vec<u16>, Vec<u32>);
+struct Rows<T>(Vec<Identifier>, Vec<u16>, Vec<T>);
 
-impl Rows {
+impl<T: Copy + Default + PartialEq + std::fmt::Debug + From<u8>> Rows<T> {
+    /// Rows, and marked room behind them up to a size of each table.
+    fn in_room(rows: PerEpochByIdentifier<T>, rooms: [usize; 3]) -> Self {
+        let (mut ids, mut epochs, mut numbers) = rows.into_tables();
+        ids.resize(rooms[0], [MARK; 32]);
+        epochs.resize(rooms[1], MARK.into());
+        numbers.resize(rooms[2], MARK.into());
+        Rows(ids, epochs, numbers)
+    }
+
+    /// The first rows, as many as an answer has. From the answer's end on, all is as it was before.
+    fn first(mut self, before: &Self, used: usize) -> PerEpochByIdentifier<T> {
+        let behind = Rows(self.0.split_off(used), self.1.split_off(used), self.2.split_off(used));
+        let kept = Rows(before.0[used..].to_vec(), before.1[used..].to_vec(), before.2[used..].to_vec());
+        assert_eq!(behind, kept, "behind the answer");
+        PerEpochByIdentifier::from_tables(self.0, self.1, self.2).unwrap()
+    }
+}
+
+impl Rows<u32> {
     /// The rows of a removal, and marked room behind them up to a size.
     fn of(removal: &StorageRemovedBytes, room: usize) -> Self {
-        let given = removal.as_lent();
-        let mut rows = Rows(given.ids.to_vec(), given.epochs.to_vec(), given.bytes.to_vec());
-        rows.0.resize(room, [MARK; 32]);
-        rows.1.resize(room, MARK.into());
-        rows.2.resize(room, MARK.into());
-        rows
+        let rows = match removal {
+            StorageRemovedBytes::SectionedStorageRemoval(sections) => sections.clone(),
+            _ => PerEpochByIdentifier::new(),
+        };
+        Self::in_room(rows, [room; 3])
     }
 
     fn marked(room: usize) -> Self {
@@ -82,21 +100,13 @@ impl Rows {
     }
 
     /// The removal of an answer. From the answer's end on, all is as it was before.
-    fn answer(mut self, before: &Self, answer: Answer<Removal>) -> Answer<StorageRemovedBytes> {
-        let used = answer.map_or(0, |removal| removal.rows);
-        let behind = (self.0.split_off(used), self.1.split_off(used), self.2.split_off(used));
-        assert_eq!(
-            behind,
-            (before.0[used..].to_vec(), before.1[used..].to_vec(), before.2[used..].to_vec()),
-            "behind the answer"
-        );
+    fn answer(self, before: &Self, answer: Answer<Removal>) -> Answer<StorageRemovedBytes> {
+        let sections = self.first(before, answer.map_or(0, |removal| removal.rows));
         let removal = answer?;
         Ok(match removal.kind {
             Removal::NO_REMOVAL => StorageRemovedBytes::NoStorageRemoval,
             Removal::BASIC_REMOVAL => StorageRemovedBytes::BasicStorageRemoval(removal.bytes),
-            _ => StorageRemovedBytes::SectionedStorageRemoval(
-                StorageRemovalPerEpochByIdentifier::from_tables(self.0, self.1, self.2).unwrap(),
-            ),
+            _ => StorageRemovedBytes::SectionedStorageRemoval(sections),
         })
     }
 }
@@ -200,4 +210,21 @@ pub fn repair(data: &[u8], rooms: RepairRoom) -> Answer<Repaired> {
     };
     let lines = offsets.into_iter().zip(changes).map(line).collect();
     agreed(petasunok::repair(data), answer.map(|_| Repaired { bytes, lines }))
+}
+
+/// The totals after a change, with tables of such lengths, each at least as long as the given rows.
+pub fn totals_replace(totals: &Totals, old: Option<&StorageFlags>, new: Option<&StorageFlags>, rooms: [usize; 3]) -> Answer<Totals> {
+    let before = Rows::in_room(totals.clone(), rooms);
+    let mut rows = before.clone();
+    let table = TotalsMut {
+        owners: &mut rows.0,
+        epochs: &mut rows.1,
+        totals: &mut rows.2,
+    };
+    let answer = lent::totals_replace(totals.len(), table, old.map(StorageFlags::as_lent), new.map(StorageFlags::as_lent));
+    let after = rows.first(&before, answer.unwrap_or(0));
+    let mut changed = totals.clone();
+    let owned = changed.replace(old, new);
+    assert!(owned.is_ok() || changed == *totals, "a refusal has changed the totals");
+    agreed(owned.map(|()| changed), answer.map(|_| after))
 }
