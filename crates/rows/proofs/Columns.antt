@@ -93,7 +93,7 @@ over-twice ys xs old h =
     ap (λ l. ys ++ l)
     (ap (λ (k : ℕ). drop k (over xs old)) e ∙ drop-append-add xs (drop (length xs) old) n ∙ drop-drop n (length xs) old ∙ ap (λ (k : ℕ). drop k old) (sym e))
 
-as-long-as {ℓ} : {A : Type ℓ} (xs old : List A) → length xs ≤ length old → length (over xs old) ≡ length old
+pub as-long-as {ℓ} : {A : Type ℓ} (xs old : List A) → length xs ≤ length old → length (over xs old) ≡ length old
 as-long-as xs old h = let a = length-append xs (drop (length xs) old) in let b = length-drop (length xs) old in omega arith
 
 module _ (rs : List Row) (t : Tables) where
@@ -158,7 +158,7 @@ drop-rows-of (suc k) (i ∷ is) [] = no-parts (drop k is)
 drop-rows-of (suc k) (i ∷ is) (p ∷ ps) = drop-rows-of k is ps
 
 module _ {ℓ} {A : Type ℓ} where
-  take-behind : (k m : ℕ) (l : List A) → k ≤ m → take (m - k) (drop k l) ≡ drop k (take m l)
+  pub take-behind : (k m : ℕ) (l : List A) → k ≤ m → take (m - k) (drop k l) ≡ drop k (take m l)
   take-behind zero m l h = rw (sub-zero m)
   take-behind (suc k) zero l h = absurd (not-suc-le-zero h)
   take-behind (suc k) (suc m) [] h = take-nil (suc m - suc k)

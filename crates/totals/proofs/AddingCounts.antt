@@ -1,14 +1,14 @@
 -- Counts added to a table, the last of them first: its total is put in its place, and the others are added to the rows before it.
 -- Assumes nothing.
 use mathlib.Core.Path.{_≡_, refl, sym, ap, _∙_}
-use mathlib.Core.Bool.{Bool, true, false, cond, and-eq-true-iff}
+use mathlib.Core.Bool.{Bool, true, false, cond}
 use mathlib.Core.List.{List, [], _∷_, _++_, append-assoc}
 use Prim.Native.Nat.{ℕ, zero, suc, _+_, _-_, _≤_, _<_}
 use native.Mathlib.Omega.{arith}
-use lib.Dec.{ltb, leb}
+use lib.Dec.{ltb}
 use lib.ListN.{length, take, drop, length-append, length-drop}
 use lib.Seq.{length-take-le, drop-at}
-use borrow.Author.Tests.{leb-true, lt-ltb}
+use borrow.Author.Tests.{lt-ltb}
 use Rattle.rows.specs.Rows.{Row, compared, ascends}
 use Rattle.rows.specs.declared.order.Order.{Order}
 use Rattle.rows.specs.declared.order.Order.the-variants.{Less, Equal, Greater}
@@ -20,6 +20,7 @@ use Rattle.totals.specs.Steps.{placeIn}
 use Rattle.totals.proofs.Totals.{total-none, total-at, total-before, total-same, above-none, above-cons, above-first, above-tail, put-none, put-at, put-ascends, put-back}
 use Rattle.totals.proofs.Counts.{add-ascends, add-above}
 use Rattle.totals.proofs.Places.{place-within}
+use Rattle.totals.proofs.Fitting.{fits-first, fits-tail}
 
 -- the place behind a row, where it stands among others; its place, where it does not
 abbrev pub behindIn : Row → List Row → ℕ
@@ -169,8 +170,5 @@ first-above (b ∷ l) (suc i) a = above-cons b (take i l) (above-first b l a) (f
 
 -- where all counts fit, each does
 pub fits-one : (n : Row) (t z ns : List Row) → fits [] (ns ++ (n ∷ z)) t ≡ true → totalAt n t + n .part .bytes ≤ largestTotal
-unfolding fits totalAt
-fits-one n t z [] h =
-    let l : totalAt n t - 0 + n .part .bytes ≤ largestTotal = leb-true _ _ (and-eq-true-iff (leb (totalAt n t - 0 + n .part .bytes) largestTotal) (fits [] z t) .0 h .0) in
-    omega arith
-fits-one n t z (r ∷ ns) h = fits-one n t z ns (and-eq-true-iff (leb (totalAt r t - 0 + r .part .bytes) largestTotal) (fits [] (ns ++ (n ∷ z)) t) .0 h .1)
+fits-one n t z [] h = omega (arith, total-none n, fits-first [] t n z h)
+fits-one n t z (r ∷ ns) h = fits-one n t z ns (fits-tail [] t r (ns ++ (n ∷ z)) h)

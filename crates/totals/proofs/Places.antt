@@ -24,7 +24,7 @@ none-there zero e = let l = ap (length {A = Row}) e in absurd (omega arith)
 none-there (suc j) e = let l = ap (length {A = Row}) e in absurd (omega arith)
 
 module _ (r : Row) where
-  place-at : (b : Row) (l : List Row) (o : Order) → compared b r ≡ o → placeIn r (b ∷ l) ≡ cond (isLess o) (suc (placeIn r l)) 0
+  pub place-at : (b : Row) (l : List Row) (o : Order) → compared b r ≡ o → placeIn r (b ∷ l) ≡ cond (isLess o) (suc (placeIn r l)) 0
   unfolding placeIn
   place-at b l o e = ap (λ (p : Order). cond (isLess p) (suc (placeIn r l)) 0) e
 

@@ -5,20 +5,14 @@ use mathlib.Core.List.{List, [], _∷_, _++_}
 use Prim.Native.Nat.{ℕ, _+_, _-_, _≤_}
 use native.Mathlib.Omega.{arith}
 use lib.ListN.{length, take, drop, length-append, length-drop, take-append-drop}
-use lib.Seq.{length-take-le, length-front, take-append-seam, take-add, drop-append-add, drop-drop, drop-at, sets, sets-eq}
+use lib.Seq.{length-take-le, take-append-seam, drop-append-add, drop-drop, drop-at, sets, sets-eq}
 use Rattle.records.specs.Tables.{epochsOf, countsOf, over}
 use Rattle.rows.specs.Rows.{Row, idsOf, partsOf, Tables, rowsIn, overRows, setRow, Room}
 use Rattle.rows.proofs.Rows.{length-rows}
-use Rattle.rows.proofs.Columns.{epochsIn, bytesIn, length-ids, length-epochs, length-bytes, ids-append, epochs-in-append, bytes-in-append, three, columns, part, part-rows}
+use Rattle.rows.proofs.Columns.{epochsIn, bytesIn, length-ids, length-epochs, length-bytes, ids-append, epochs-in-append, bytes-in-append, three, columns, as-long-as, take-behind, part, part-rows}
 use Rattle.totals.specs.Steps.{between, movedIn, moved}
 
 -- ---- a column
-
--- a run of a list, from the front or from its place on
-pub run-of : {A : Type 0} (l : List A) (from upto : ℕ) → from ≤ upto → from ≤ length l → drop from (take upto l) ≡ take (upto - from) (drop from l)
-run-of l from upto p h =
-    let e : from + (upto - from) ≡ upto = omega arith in
-    ap (drop from) (rw e at (take-add from (upto - from) l)) ∙ drop-at (take from l) (take (upto - from) (drop from l)) from (length-take-le from l h)
 
 module _ {A : Type 0} (xs old : List A) where
   -- behind what was written all is as it was
@@ -28,19 +22,15 @@ module _ {A : Type 0} (xs old : List A) where
   over-behind : (k : ℕ) → length xs ≤ k → drop k (over xs old) ≡ drop k old
   over-behind k h = let e : length xs + (k - length xs) ≡ k = omega arith in rw e at (over-on (k - length xs))
 
-  -- and the list as long as it was
-  over-long : length xs ≤ length old → length (over xs old) ≡ length old
-  over-long h = length-front old xs (length xs) (sym (length-take-le (length xs) old h))
-
   -- what is set behind what was written
   sets-over : (ys : List A) → length xs + length ys ≤ length old → sets (over xs old) (length xs) ys ≡ over (xs ++ ys) old
   sets-over ys h =
-      sets-eq ys (over xs old) (length xs) (omega (arith, over-long (omega arith)))
+      sets-eq ys (over xs old) (length xs) (omega (arith, as-long-as xs old (omega arith)))
       ∙ rw (take-append-seam xs (drop (length xs) old), over-on (length ys), length-append xs ys)
 
   -- a part from a place behind it on
   part-over : (k : ℕ) → length xs ≤ k → length xs ≤ length old → part k (over xs old) ≡ part k old
-  part-over k h l = rw (over-long l, over-behind k h)
+  part-over k h l = rw (as-long-as xs old l, over-behind k h)
 
 -- what a column of rows gives, row by row
 module _ {A : Type 0} (column : List Row → List A) (long : (rs : List Row) → length (column rs) ≡ length rs) (parts : (rs ss : List Row) → column (rs ++ ss) ≡ column rs ++ column ss) where
@@ -55,11 +45,10 @@ module _ {A : Type 0} (column : List Row → List A) (long : (rs : List Row) →
   move-column : (ws rs : List Row) (old : List A) (from upto : ℕ) → column rs ≡ take upto old → length rs ≡ upto → length ws ≤ from → from ≤ upto → upto ≤ length old
       → movedIn from upto (length ws) (over (column ws) old) ≡ over (column (ws ++ drop from rs)) old
   move-column ws rs old from upto e n p q l =
-      let w = over-long (column ws) old (omega (arith, long ws)) in
       let same : drop from (take upto (over (column ws) old)) ≡ column (drop from rs) =
-      run-of (over (column ws) old) from upto q (omega arith)
+      sym (take-behind from upto (over (column ws) old) q)
       ∙ ap (take (upto - from)) (over-behind (column ws) old from (omega (arith, long ws)))
-      ∙ sym (run-of old from upto q (omega arith))
+      ∙ take-behind from upto old q
       ∙ ap (drop from) (sym e)
       ∙ column-behind from rs (omega arith) in
       ap (sets (over (column ws) old) (length ws)) same ∙ put-column ws (drop from rs) old (omega (arith, length-drop from rs))
@@ -90,9 +79,9 @@ module _ (ws : List Row) (t : Tables) where
     -- the tables are as long as they were
     pub over-even : (length (overRows ws t .ids) ≡ length (t .ids)) × (length (overRows ws t .epochs) ≡ length (t .epochs)) × (length (overRows ws t .bytes) ≡ length (t .bytes))
     over-even = (
-      over-long (idsOf ws) (t .ids) (omega (arith, r .ids-long, length-ids ws)),
-      over-long (epochsIn ws) (t .epochs) (omega (arith, r .epochs-long, length-epochs ws)),
-      over-long (bytesIn ws) (t .bytes) (omega (arith, r .bytes-long, length-bytes ws)),
+      as-long-as (idsOf ws) (t .ids) (omega (arith, r .ids-long, length-ids ws)),
+      as-long-as (epochsIn ws) (t .epochs) (omega (arith, r .epochs-long, length-epochs ws)),
+      as-long-as (bytesIn ws) (t .bytes) (omega (arith, r .bytes-long, length-bytes ws)),
     )
 
     -- and the rows behind as they were

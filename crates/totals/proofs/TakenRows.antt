@@ -17,8 +17,8 @@ use Rattle.totals.specs.Table.{above, totalAt, rowIf, putTotal, withTota
 use Rattle.totals.specs.Replacing.{covered}
 use Rattle.totals.specs.Steps.{placeIn}
 use Rattle.totals.proofs.Totals.{total-none, total-at, total-before, total-same, put-at, put-back}
-use Rattle.totals.proofs.Counts.{take-ascends, take-above, count-cons, covered-at, covered-total, covers}
-use Rattle.totals.proofs.Places.{place-upto}
+use Rattle.totals.proofs.Counts.{take-ascends, take-above, covered-tail, covered-total}
+use Rattle.totals.proofs.Places.{place-at, place-upto}
 
 -- ---- a row before all counts
 
@@ -40,15 +40,6 @@ module _ (b : Row) (l : List Row) where
   covered-past [] h s = refl
   covered-past (o ∷ os) h s =
       rw (total-at o b l Greater (flipped b o Less h), covered-past os (before-trans b o os h (asc-before o os s)) (asc-tail o os s))
-
--- the place of a row among a row below it and others
-place-next : (k b : Row) (l : List Row) → compared b k ≡ Less → placeIn k (b ∷ l) ≡ suc (placeIn k l)
-unfolding placeIn
-place-next k b l e = rw e
-
--- what covers all counts covers those behind the first
-pub covered-behind : (o : Row) (os l : List Row) → ascends (o ∷ os) ≡ true → covered (o ∷ os) l ≡ true → covered os l ≡ true
-covered-behind o os l s h = covers l os (λ k. omega (arith, covered-at l (o ∷ os) s h k, count-cons k o os (compared k o) refl))
 
 -- ---- the first count
 
@@ -89,7 +80,7 @@ module _ (k : Row) (c : ℕ) (os : List Row) (some : 0 < c) (h : ascends (withTo
       go : (o : Order) → compared b k ≡ o → (covered (withTotal k c ∷ os) l ≡ true → TakenAt k c os l) → TakenAt k c os (b ∷ l)
       go Less e ih =
           let r = ih (sym (covered-past b l (withTotal k c ∷ os) e h) ∙ v) in
-          let p = place-next k b l e in
+          let p = place-at k b l Less e in
           let n = total-at k b l Greater (flipped b k Less e) in
           record {
             found = omega (arith, r .found);
@@ -107,6 +98,6 @@ module _ (k : Row) (c : ℕ) (os : List Row) (some : 0 < c) (h : ascends (withTo
             found = omega arith;
             enough = most (b ∷ l) v;
             taken = rw (p, n) (take-first k c os b l f q t);
-            covers = rw p (sym (covered-past b l os (before-same b k os e q) t) ∙ covered-behind (withTotal k c) os (b ∷ l) h v);
+            covers = rw p (sym (covered-past b l os (before-same b k os e q) t) ∙ covered-tail (b ∷ l) (withTotal k c) os v);
           }
       go Greater e ih = absurd (omega (arith, most (b ∷ l) v, total-before k (b ∷ l) (flipped b k Greater e) s))

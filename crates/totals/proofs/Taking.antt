@@ -11,15 +11,16 @@ use borrow.Author.Tests.{lt-ltb}
 use Rattle.records.specs.Tables.{Table}
 use Rattle.rows.specs.Rows.{Row, row, ascends, Tables, rowsIn, overRows, setRow, Room}
 use Rattle.rows.proofs.Rows.{length-rows, room-less, asc-drop}
-use Rattle.rows.proofs.Columns.{over-room, over-nothing}
+use Rattle.rows.proofs.Columns.{over-room, over-nothing, take-behind}
 use Rattle.totals.specs.Table.{above, totalAt, rowIf, withTotal, takeCounts}
 use Rattle.totals.specs.Replacing.{covered}
 use Rattle.totals.specs.Steps.{under, placeIn, between, spotIn, moved, Standing}
 use Rattle.totals.specs.declared.finding.Spot.{Spot}
 use Rattle.totals.proofs.Totals.{above-tail}
+use Rattle.totals.proofs.Counts.{covered-tail}
 use Rattle.totals.proofs.UnderOwner.{under-on, under-end, under-ascends}
-use Rattle.totals.proofs.TakenRows.{covered-behind, take-nothing, TakenAt, taken-at}
-use Rattle.totals.proofs.Runs.{run-of, run-moved, row-put, over-even, rows-behind}
+use Rattle.totals.proofs.TakenRows.{take-nothing, TakenAt, taken-at}
+use Rattle.totals.proofs.Runs.{run-moved, row-put, over-even, rows-behind}
 
 above-drop : (l : List Row) (i : ℕ) → above l ≡ true → above (drop i l) ≡ true
 above-drop l zero h = h
@@ -74,7 +75,7 @@ module _ {n at to i : ℕ} {t₀ t : Tables} {owner es cs : List ℕ} (s : Stand
   -- a run from `at` on is moved
   run : {t′ : Tables} (upto : ℕ) → at ≤ upto → upto ≤ n → t′ ≡ moved at upto to t → t′ ≡ overRows (g .written ++ take (upto - at) rest) t₀
   run upto p q e =
-      let first : between at upto t₀ ≡ take (upto - at) rest = ap (drop at) (sym (take-take upto n _ q)) ∙ run-of (rowsIn n t₀) at upto p (omega (arith, length-rows (s .room))) in
+      let first : between at upto t₀ ≡ take (upto - at) rest = ap (drop at) (sym (take-take upto n _ q)) ∙ sym (take-behind at upto (rowsIn n t₀) p) in
       e ∙ rw (g .stands, ← g .reached, ← first) (run-moved (g .written) t₀ at (room-less upto q (s .room)) (omega (arith, g .reached, g .behind)) p)
 
   -- no count is left, and all rows behind are moved
@@ -121,7 +122,7 @@ module _ {n at to i : ℕ} {t₀ t : Tables} {owner es cs : List ℕ} (s : Stand
           left = g .left
               ∙ ap (λ (l : List Row). g .written ++ l)
               (ap (λ (l : List Row). takeCounts l rest) on ∙ take-nothing pair count (drop (i + 1) os) rest (omega arith) rest-ascends rest-above);
-          covers = covered-behind (withTotal pair count) (drop (i + 1) os) rest counts-ascend (rw on at (g .covers));
+          covers = covered-tail rest (withTotal pair count) (drop (i + 1) os) (rw on at (g .covers));
         }
 
     -- another count, and the spot where its row stands
