@@ -6,7 +6,7 @@ use mathlib.Core.List.{List, [], _∷_, _++_, append-assoc}
 use Prim.Native.Nat.{ℕ, zero, suc, _+_, _-_, _≤_, _<_}
 use native.Mathlib.Omega.{arith}
 use lib.Dec.{ltb}
-use lib.ListN.{length, take, drop, length-append, length-drop}
+use lib.ListN.{length, take, drop}
 use lib.Seq.{length-take-le, drop-at}
 use borrow.Author.Tests.{lt-ltb}
 use Rattle.rows.specs.Rows.{Row, compared, ascends}
@@ -21,14 +21,11 @@ use Rattle.totals.proofs.Totals.{total-none, total-at, total-before, to
 use Rattle.totals.proofs.Counts.{add-ascends, add-above}
 use Rattle.totals.proofs.Places.{place-within}
 use Rattle.totals.proofs.Fitting.{fits-first, fits-tail}
+use Rattle.totals.proofs.Lengths.{one-most, length-put, made-or-there}
 
 -- the place behind a row, where it stands among others; its place, where it does not
 abbrev pub behindIn : Row → List Row → ℕ
 behindIn k l = placeIn k l + cond (ltb 0 (totalAt k l)) 1 0
-
-one-or-none : (b : Bool) → cond b 1 0 ≤ 1
-one-or-none true = omega arith
-one-or-none false = omega arith
 
 pub behind-within : (k : Row) (l : List Row) → behindIn k l ≤ length l
 unfolding placeIn totalAt
@@ -37,8 +34,8 @@ behind-within k (b ∷ l) = go (compared b k) refl (behind-within k l)
   where
     go : (o : Order) → compared b k ≡ o → behindIn k l ≤ length l → behindIn k (b ∷ l) ≤ suc (length l)
     go Less e ih = rw (e, flipped b k Less e) (omega arith)
-    go Equal e ih = rw e (omega (arith, one-or-none (ltb 0 (totalAt k (b ∷ l)))))
-    go Greater e ih = rw e (omega (arith, one-or-none (ltb 0 (totalAt k (b ∷ l)))))
+    go Equal e ih = rw e (omega (arith, one-most (ltb 0 (totalAt k (b ∷ l)))))
+    go Greater e ih = rw e (omega (arith, one-most (ltb 0 (totalAt k (b ∷ l)))))
 
 -- ---- one count
 
@@ -66,14 +63,9 @@ count-nothing r l s a h =
 -- no count makes rows fewer
 more-count : (r : Row) (l : List Row) → ascends l ≡ true → above l ≡ true → length l ≤ length (addCount r l)
 more-count r l s a =
-    elim (native.Mathlib.Decide.decLt 0 (r .part .bytes)) [
-      | yes p ↦
-          let n = totalAt r l + r .part .bytes in
-          let e = put-split r n (omega arith) l s a in
-          let t = length-take-le (placeIn r l) l (place-within r l) in
-          rw (e, length-append (take (placeIn r l) l) (withTotal r n ∷ drop (behindIn r l) l), t) (omega (arith, length-drop (behindIn r l) l, one-or-none (ltb 0 (totalAt r l))))
-      | no p ↦ rw (count-nothing r l s a (omega arith)) (omega arith)
-    ]
+    let n = totalAt r l + r .part .bytes in
+    let t = total-same (withTotal r n) r l (self-same r) in
+    omega (arith, rw t at (length-put (withTotal r n) l s a), made-or-there (totalAt r l) (r .part .bytes))
 
 pub more-counts : (rs l : List Row) → ascends l ≡ true → above l ≡ true → length l ≤ length (addCounts rs l)
 unfolding addCounts

@@ -1,7 +1,7 @@
 -- How many rows a change leaves: a total put makes a row or loses one, so the rows that go and are made are counted before anything is written.
 -- Assumes nothing.
 use mathlib.Core.Path.{_≡_}
-use mathlib.Core.Bool.{true, cond, _&&_}
+use mathlib.Core.Bool.{Bool, true, false, cond, _&&_}
 use mathlib.Core.List.{List, [], _∷_}
 use Prim.Native.Nat.{ℕ, suc, _+_, _-_, _≤_, _<_}
 use native.Mathlib.Decide.{decLt}
@@ -23,6 +23,10 @@ use Rattle.totals.proofs.Counts.{count-total, covered-first, covered-ta
 abbrev some : ℕ → ℕ
 some n = cond (ltb 0 n) 1 0
 
+pub one-most : (b : Bool) → cond b 1 0 ≤ 1
+one-most true = omega arith
+one-most false = omega arith
+
 some-none : (n : ℕ) → n ≤ 0 → some n ≡ 0
 some-none n h = rw (le-ltb 0 n h)
 
@@ -38,7 +42,7 @@ length-if r l =
       | no p ↦ rw (le-ltb 0 (r .part .bytes) (omega arith)) (omega arith)
     ]
 
-length-put : (r : Row) (l : List Row) → ascends l ≡ true → above l ≡ true → length (putTotal r l) + some (totalAt r l) ≡ length l + some (r .part .bytes)
+pub length-put : (r : Row) (l : List Row) → ascends l ≡ true → above l ≡ true → length (putTotal r l) + some (totalAt r l) ≡ length l + some (r .part .bytes)
 length-put r [] s a = rw (put-none r, total-none r) (omega (arith, length-if r []))
 length-put r (b ∷ l) s a =
     let ih = length-put r l (asc-tail b l s) (above-tail b l a) in
@@ -62,7 +66,7 @@ left-or-gone t c h =
     ]
 
 -- a count added to what is left
-made-or-there : (t c : ℕ) → some (t + c) ≡ some t + cond (ltb 0 c && eqb t 0) 1 0
+pub made-or-there : (t c : ℕ) → some (t + c) ≡ some t + cond (ltb 0 c && eqb t 0) 1 0
 made-or-there t c =
     elim (decLt 0 c) [
       | yes p ↦

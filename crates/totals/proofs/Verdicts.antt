@@ -13,7 +13,7 @@ use Rattle.rows.specs.Rows.{Row, ascends}
 use Rattle.totals.specs.Table.{above, totalAt}
 use Rattle.totals.specs.Replacing.{covered, fits, replacedRows, changed}
 use Rattle.totals.specs.Steps.{gone, made, judgedOld, judgedNew, countedRows}
-use Rattle.totals.proofs.Lengths.{length-taken, length-replaced}
+use Rattle.totals.proofs.Lengths.{one-most, length-taken, length-replaced}
 
 -- ---- a number or a refusal
 
@@ -28,11 +28,7 @@ told-refused false k n m e = (refl, cc)
 made-most : (os ns t : List Row) → made os ns t ≤ length ns
 unfolding made
 made-most os [] t = omega arith
-made-most os (n ∷ ns) t = omega (arith, most (ltb 0 (n .part .bytes) && eqb (totalAt n t - totalAt n os) 0), made-most os ns t)
-  where
-    most : (b : Bool) → cond b 1 0 ≤ 1
-    most true = omega arith
-    most false = omega arith
+made-most os (n ∷ ns) t = omega (arith, one-most (ltb 0 (n .part .bytes) && eqb (totalAt n t - totalAt n os) 0), made-most os ns t)
 
 -- ---- the verdict
 
