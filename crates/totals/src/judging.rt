@@ -11,7 +11,7 @@ ghost use Rattle.totals.specs.Steps.{under, judged, judgedOld, judgedNew
 use crate::finding::look_up;
 
 // The largest total.
-const LARGEST_TOTAL: u64 = 18446744073709551615;
+pub const LARGEST_TOTAL: u64 = 18446744073709551615;
 
 // A number of rows, or why the change is refused.
 pub enum Judged {
@@ -58,19 +58,19 @@ pub fn judge_old(
     Judged::Number(gone)
 }
 
-// The old count at an owner and epoch; 0 where the owners differ.
-fn old_count(
-    old_owner: [u8; 32],
-    old_epochs: &[u16],
-    old_counts: &[u32],
+// The count that an owner's records have at an owner and epoch; 0 where the owners differ.
+pub fn count_at(
+    records_owner: [u8; 32],
+    epochs: &[u16],
+    counts: &[u32],
     owner: [u8; 32],
     epoch: u16,
 ) -> u64
-    requires { ⌜ Table (now «old_epochs») (now «old_counts») ⌝ }
-    ensures { λ r. ⌜ r ≡ totalAt (row owner epoch 0) (under «old_owner» (now («old_epochs» .entry)) (now («old_counts» .entry))) ⌝ }
+    requires { ⌜ Table (now epochs) (now counts) ⌝ }
+    ensures { λ r. ⌜ r ≡ totalAt (row owner epoch 0) (under «records_owner» (now (epochs .entry)) (now (counts .entry))) ⌝ }
 {
-    if records::same_owner(old_owner, owner) {
-        return records::look_up(old_epochs, old_counts, epoch).count as u64;
+    if records::same_owner(records_owner, owner) {
+        return records::look_up(epochs, counts, epoch).count as u64;
     }
     0
 }
@@ -100,7 +100,7 @@ pub fn judge_new(
         let epoch = new_epochs[i];
         let count = new_counts[i] as u64;
         let total = look_up(owners, epochs, totals, 0, n, new_owner, epoch).total;
-        let left = total - old_count(old_owner, old_epochs, old_counts, new_owner, epoch);
+        let left = total - count_at(old_owner, old_epochs, old_counts, new_owner, epoch);
         if LARGEST_TOTAL - left < count {
             return Judged::TooLarge;
         }

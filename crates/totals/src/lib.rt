@@ -7,5 +7,11 @@ mod table;
 mod words;
 mod writing;
 
+pub use judging::LARGEST_TOTAL;
+pub use judging::count_at;
+pub use replacing::Named;
 pub use replacing::Replaced;
+pub use replacing::is_good;
+pub use replacing::names_of;
 pub use replacing::replace;
+pub use words::is_less;

@@ -149,7 +149,7 @@ fn change(
 }
 
 // Whether flags are absent or proper.
-fn is_good(present: bool, head: Head, epochs: &[u16], counts: &[u32]) -> bool
+pub fn is_good(present: bool, head: Head, epochs: &[u16], counts: &[u32]) -> bool
     ensures { λ r. ⌜ r ≡ properGiven present head (now (epochs .entry)) (now (counts .entry)) ⌝ }
 {
     if present {
@@ -165,7 +165,7 @@ pub struct Named {
 }
 
 // What flags name: nothing where they are absent; 32 zero bytes stand for no owner.
-fn names_of(present: bool, head: Head) -> Named
+pub fn names_of(present: bool, head: Head) -> Named
     ensures { λ r. ⌜ r ≡ namedBy present head ⌝ }
 {
     if present {

@@ -1,26 +1,32 @@
--- What the statement of `replace` says of the table: where the lengths fit, its columns are as `totals::replace` leaves them; and a refusal leaves it as it was.
+-- What the statement of `replace` says of the table and the work area: a refusal leaves both as they were, and where the work area has room the answer and
+-- the table's columns are those of `totals::replace`. And it leaves no choice.
 -- Assumes nothing.
 use mathlib.Core.Path.{_≡_, refl, sym, ap, _∙_}
-use mathlib.Core.Bool.{Bool, true, false}
+use mathlib.Core.Bool.{Bool, true, false, cond, _&&_, and-true}
 use mathlib.Core.Option.{Option}
 use mathlib.Core.List.{List, [], _∷_}
 use Prim.Native.Nat.{ℕ, _≤_}
 use native.Mathlib.Nat.{le-of-suc-le-suc, not-suc-le-zero}
-use native.Mathlib.Omega.{arith}
+use lib.Dec.{leb}
 use lib.ListN.{length}
+use borrow.Author.Tests.{leb-true}
 use Rattle.records.specs.Tables.{epochsOf as epochsIn, countsOf, over}
-use Rattle.records.specs.Answers.{refused}
+use Rattle.records.specs.Answers.{Answer, ok, refused}
 use Rattle.records.specs.Flags.{Flags}
-use Rattle.rows.specs.Rows.{Row, Tables, idsOf, partsOf, overRows}
-use Rattle.rows.proofs.Columns.{three, over-nothing}
-use Rattle.totals.specs.Calls.{replacing}
-use Rattle.totals_index.specs.Structs.{ownersOf, epochsOf, totalsOf, columns, structs, structsIn}
-use Rattle.totals_index.specs.Calls.{After, fitting, rowsTold, putTogether, replacingStructs}
+use Rattle.records.proofs.Answers.{refused-not-ok}
+use Rattle.records.proofs.Only.{same-only}
+use Rattle.rows.specs.Rows.{Row, Tables, idsOf, partsOf, rowsIn, roomIn, overRows}
+use Rattle.rows.proofs.Columns.{three}
+use Rattle.totals.specs.Calls.{After as Changed, kept as keptRows, placing as placingRows, properTable, replacing}
+use Rattle.totals.specs.Replacing.{replaced}
+use Rattle.totals.specs.declared.replacing.Replaced.{Replaced}
+use Rattle.totals.proofs.Only.{told-only}
+use Rattle.totals_index.specs.Structs.{ownersOf, epochsOf, totalsOf, columns, structs}
+use Rattle.totals_index.specs.Calls.{After, shown, kept, verdict, roomBoth, placing, replacingStructs}
 use Rattle.totals_index.specs.declared.structs.Total.{Total}
-use Rattle.totals_index.proofs.Columns.{length-owners}
-use Rattle.totals_index.proofs.Fitting.{when-true, when-false}
-use Rattle.totals_index.proofs.Following.{Alike, alike}
-use Rattle.totals_index.proofs.Indexing.{structs-all, structs-over}
+use Rattle.totals_index.proofs.Columns.{length-owners, length-epochs, length-totals}
+
+-- ---- rows over a table are rows over its columns
 
 owners-over : (rs : List Row) (ts : List Total) → length rs ≤ length ts → ownersOf (over (structs rs) ts) ≡ over (idsOf rs) (ownersOf ts)
 unfolding structs ownersOf idsOf
@@ -40,41 +46,70 @@ totals-over [] ts h = refl
 totals-over (r ∷ rs) [] h = absurd (not-suc-le-zero h)
 totals-over (r ∷ rs) (t ∷ ts) h = ap (λ (l : List ℕ). r .part .bytes ∷ l) (totals-over rs ts (le-of-suc-le-suc h))
 
-module _ (n : ℕ) (ts : List Total) (good : Bool) (old new : Option Flags) where
-  itself : Alike (columns ts) (columns ts) (replacing n (columns ts) good old new) (replacing n (columns ts) good old new)
-  itself = alike (columns ts) (columns ts) (λ k. refl) n refl good old new
+columns-over : (rs : List Row) (ts : List Total) → length rs ≤ length ts → columns (over (structs rs) ts) ≡ overRows rs (columns ts)
+columns-over rs ts h = three (owners-over rs ts h) (epochs-over rs ts h) (totals-over rs ts h)
 
-  columns-back : columns (structsIn (replacing n (columns ts) good old new .rows)) ≡ replacing n (columns ts) good old new .rows
-  columns-back =
-      let a = itself in
-      let l : length (a .written) ≤ length ts = omega (arith, a .fit .ids-long, length-owners ts) in
-      ap (λ (t : Tables). columns (structsIn t)) (a .second-over)
-      ∙ ap columns (structs-over (a .written) ts l)
-      ∙ three (owners-over (a .written) ts l) (epochs-over (a .written) ts l) (totals-over (a .written) ts l)
-      ∙ sym (a .second-over)
+-- as many rows have room in the columns as in the table
+columns-long : (k : ℕ) (ts : List Total) → roomIn k (columns ts) ≡ leb k (length ts)
+columns-long k ts = rw (length-owners ts, length-epochs ts, length-totals ts) (thrice (leb k (length ts)))
+  where
+    thrice : (b : Bool) → (b && (b && b)) ≡ b
+    thrice true = refl
+    thrice false = refl
 
-  none-written : (rs : List Row) → length rs ≡ 0 → overRows rs (columns ts) ≡ columns ts
-  none-written [] h = over-nothing (columns ts)
-  none-written (r ∷ rs) h = absurd (omega arith)
+-- ---- what is left of the answer and the table
 
-  kept-back : (k : ℕ) → replacing n (columns ts) good old new .answer ≡ refused k → structsIn (replacing n (columns ts) good old new .rows) ≡ ts
-  kept-back k h =
-      let a = itself in
-      ap structsIn (a .second-over ∙ none-written (a .written) (sym (a .counted) ∙ ap rowsTold h)) ∙ structs-all ts
+-- what `totals::replace` leaves, read off the structs
+abbrev pub read : After → Changed
+read a = record { answer = a .answer; rows = columns (a .table) }
 
-  module _ (work : Tables) where
-    by-fit : (b : Bool) → fitting n (length ts) work ≡ b → (k : ℕ) → replacingStructs n ts work good old new .answer ≡ refused k → replacingStructs n ts work good old new .table ≡ ts
-    unfolding replacingStructs
-    by-fit true h k e =
-        let whole : replacingStructs n ts work good old new ≡ putTogether (replacing n (columns ts) good old new) n ts work = sym (when-true _ _ _ h refl) in
-        ap (λ (a : After). a .table) whole ∙ kept-back k (sym (ap (λ (a : After). a .answer) whole) ∙ e)
-    by-fit false h k e = ap (λ (a : After). a .table) (sym (when-false _ _ _ h refl))
+module _ (ts : List Total) (work : Tables) where
+  -- a refusal of two outcomes, one of which is an answer, is the other
+  cond-keeps : (b : Bool) (x : After) (m k : ℕ) → x .answer ≡ ok m → cond b x (kept 10 ts work) .answer ≡ refused k → cond b x (kept 10 ts work) ≡ kept k ts work
+  cond-keeps true x m k h e = absurd (refused-not-ok k m (sym e ∙ h))
+  cond-keeps false x m k h e = let z : _≡_ {A = ℕ} 10 k = cc in ap (λ (y : ℕ). kept y ts work) z
 
-    -- A REFUSAL LEAVES THE TABLE AS IT WAS
-    pub refusal-keeps : (k : ℕ) → replacingStructs n ts work good old new .answer ≡ refused k → replacingStructs n ts work good old new .table ≡ ts
-    refusal-keeps = by-fit (fitting n (length ts) work) refl
+  module _ (n : ℕ) where
+    placed-keeps : (v : Answer (List Row)) (k : ℕ) → placing n v ts work .answer ≡ refused k → placing n v ts work ≡ kept k ts work
+    unfolding placing
+    placed-keeps (refused m) k e = let z : m ≡ k = cc in ap (λ (x : ℕ). kept x ts work) z
+    placed-keeps (ok rs) k e = cond-keeps (roomBoth n (length rs) ts work) _ (length rs) k refl e
 
-    -- THE COLUMNS OF THE TABLE ARE AS `totals::replace` LEAVES THEM
-    pub columns-left : fitting n (length ts) work ≡ true → columns (replacingStructs n ts work good old new .table) ≡ replacing n (columns ts) good old new .rows
-    unfolding replacingStructs
-    columns-left h = ap (λ (a : After). columns (a .table)) (sym (when-true (fitting n (length ts) work) (putTogether (replacing n (columns ts) good old new) n ts work) (record { answer = refused 11; table = ts; work = work }) h refl)) ∙ columns-back
+    -- where there is room in the work area, rows are placed as `totals::replace` places them
+    same-placed : (v : Answer (List Row)) → ((rs : List Row) → v ≡ ok rs → (roomIn n work && roomIn (length rs) work) ≡ true) → read (placing n v ts work) ≡ placingRows v (columns ts)
+    unfolding placing placingRows
+    same-placed (refused m) h = refl
+    same-placed (ok rs) h = rw (h rs refl, columns-long (length rs) ts, and-true (leb (length rs) (length ts))) (go (leb (length rs) (length ts)) refl)
+      where
+        go : (b : Bool) → leb (length rs) (length ts) ≡ b
+            → read (cond b (record { answer = ok (length rs); table = over (structs rs) ts; work = overRows rs (overRows (rowsIn n (columns ts)) work) }) (kept 10 ts work))
+            ≡ cond b (record { answer = ok (length rs); rows = overRows rs (columns ts) }) (keptRows 10 (columns ts))
+        go true e = λ i. record { answer = ok (length rs); rows = columns-over rs ts (leb-true (length rs) (length ts) e) i }
+        go false e = refl
+
+    module _ (good : Bool) (old new : Option Flags) where
+      -- A REFUSAL LEAVES THE TABLE AND THE WORK AREA AS THEY WERE
+      pub refusal-keeps : (k : ℕ) → replacingStructs n ts work good old new .answer ≡ refused k → replacingStructs n ts work good old new ≡ kept k ts work
+      unfolding replacingStructs
+      refusal-keeps k e = placed-keeps (verdict n ts good old new) k e
+
+      by-verdict : replacing n (columns ts) good old new ≡ placingRows (verdict n ts good old new) (columns ts)
+      unfolding replacing verdict placingRows
+      by-verdict = go (properTable n (columns ts) && good)
+        where
+          go : (b : Bool) → cond b (placingRows (replaced old new (rowsIn n (columns ts))) (columns ts)) (keptRows 11 (columns ts)) ≡ placingRows (cond b (replaced old new (rowsIn n (columns ts))) (refused 11)) (columns ts)
+          go true = refl
+          go false = refl
+
+      -- WHERE THE WORK AREA HAS ROOM FOR THE ROWS BEFORE AND AFTER, THE ANSWER AND THE COLUMNS ARE THOSE OF `totals::replace`
+      pub columns-left : ((rs : List Row) → verdict n ts good old new ≡ ok rs → (roomIn n work && roomIn (length rs) work) ≡ true)
+          → read (replacingStructs n ts work good old new) ≡ replacing n (columns ts) good old new
+      unfolding replacingStructs
+      columns-left h = same-placed (verdict n ts good old new) h ∙ sym by-verdict
+
+-- ANY TWO OUTCOMES THAT THE STATEMENT ALLOWS ARE EQUAL
+pub structs-only : (r s : Replaced) (t u : List Total) (v w : Tables) (x : After) → shown r t v ≡ x → shown s u w ≡ x → (r ≡ s) × ((t ≡ u) × (v ≡ w))
+structs-only r s t u v w x p q = (
+  told-only r s (x .answer) (ap (λ (a : After). a .answer) p) (ap (λ (a : After). a .answer) q),
+  (ap (λ (a : After). a .table) (same-only _ _ x p q), ap (λ (a : After). a .work) (same-only _ _ x p q)),
+)

@@ -1,193 +1,240 @@
--- Taking apart, changing and putting together is what the statement of `replace` says. By whether the lengths fit; where they do, the work area and the
--- table's columns agree on what `totals::replace` looks at.
+-- Taking apart, changing and putting together is what the statement of `replace` says, once the table was judged. By whether the change is accepted and
+-- has room: then the work area holds the table's rows, and `totals::replace` accepts there too; else nothing is written.
 -- Assumes nothing.
 use mathlib.Core.Path.{_≡_, refl, sym, ap, _∙_}
-use mathlib.Core.Bool.{Bool, true, false, cond}
+use mathlib.Core.Bool.{Bool, true, false, cond, _&&_, and-eq-true-iff}
 use mathlib.Core.Option.{Option}
-use mathlib.Core.List.{List, [], _∷_, _++_}
-use Prim.Native.Nat.{ℕ, zero, suc, _≤_}
-use native.Mathlib.Nat.{le-of-suc-le-suc, not-suc-le-zero}
+use mathlib.Core.List.{List, []}
+use Prim.Native.Nat.{ℕ, _+_, _≤_}
 use native.Mathlib.Omega.{arith}
-use lib.ListN.{length, take, drop, take-append-drop}
-use lib.Seq.{length-take-le, take-take}
-use Rattle.records.specs.Tables.{recordsOf, epochsOf as epochsIn, countsOf, over}
-use Rattle.records.specs.Answers.{refused}
+use lib.Dec.{leb, eqb}
+use lib.ListN.{length}
+use borrow.Author.Tests.{leb-true}
+use Rattle.records.specs.Tables.{over}
+use Rattle.records.specs.Answers.{Answer, ok, refused}
 use Rattle.records.specs.Flags.{Flags}
-use Rattle.rows.specs.Rows.{Row, Tables, idsOf, partsOf, rowsOf, rowsIn, roomIn, overRows, Room}
-use Rattle.rows.proofs.Columns.{three, take-rows, rows-back, over-rows, room-over, over-nothing, length-ids, length-epochs as length-epochs-in, length-bytes}
-use Rattle.rows.proofs.Rows.{length-rows}
-use Rattle.totals.specs.Calls.{After, told, shown, kept, replacing}
+use Rattle.records.proofs.Answers.{refused-not-ok}
+use Rattle.rows.specs.Rows.{Row, Tables, rowsIn, roomIn, properRows, overRows, Room}
+use Rattle.rows.proofs.Columns.{rows-back, over-rows, room-over, over-nothing}
+use Rattle.rows.proofs.Rows.{length-rows, room-in}
+use Rattle.totals.specs.Calls.{After, told, shown, kept, placing as placingRows, properTable, replacing}
+use Rattle.totals.specs.Replacing.{replaced}
+use Rattle.totals.specs.Steps.{countedRows}
 use Rattle.totals.specs.declared.replacing.Replaced.{Replaced}
-use Rattle.totals_index.specs.Structs.{ownersOf, epochsOf, totalsOf, columns, structs, structsIn}
-use Rattle.totals_index.specs.Calls.{shown as left, fitting, rowsTold, putTogether, replacingStructs}
-use Rattle.totals_index.specs.Steps.{cut, before, within, replacingIn}
+use Rattle.totals_index.specs.Structs.{columns, structs}
+use Rattle.totals_index.specs.Calls.{After as Left, shown as left, kept as keptAll, verdict, roomBoth, placing, replacingStructs}
+use Rattle.totals_index.specs.Judging.{verdictOf, refusalOf, roomOf}
+use Rattle.totals_index.specs.Steps.{rowsTold, fittedIn, replacingIn}
+use Rattle.totals_index.specs.declared.judging.Judging.{Judging}
 use Rattle.totals_index.specs.declared.structs.Total.{Total}
-use Rattle.totals_index.proofs.Columns.{length-owners, length-epochs, length-totals, columns-room}
-use Rattle.totals_index.proofs.Fitting.{Fits, fit-all, when-true, when-false}
-use Rattle.totals_index.proofs.Following.{Alike, alike}
+use Rattle.totals_index.proofs.Columns.{length-owners}
 
--- ---- the first places of columns
+-- ---- a verdict that has a number has rows
 
-cut-over {ℓ} : {A : Type ℓ} (size : ℕ) (xs l : List A) → length xs ≤ size → size ≤ length l → over xs (take size l) ++ drop size l ≡ over xs l
-cut-over size [] l h k = take-append-drop size l
-cut-over zero (x ∷ xs) l h k = absurd (not-suc-le-zero h)
-cut-over (suc size) (x ∷ xs) [] h k = absurd (not-suc-le-zero k)
-cut-over {A = A} (suc size) (x ∷ xs) (y ∷ l) h k = ap (λ (z : List A). x ∷ z) (cut-over size xs l (le-of-suc-le-suc h) (le-of-suc-le-suc k))
+module _ (v : Answer (List Row)) where
+  pub record HasRows (k : ℕ) : Type 0 where
+    pub found : List Row
+    pub is-ok : v ≡ ok found
+    pub counted : k ≡ length found
 
-module _ (size : ℕ) (w : Tables) (room : Room size w) where
-  before-over : (rs : List Row) → length rs ≤ size → before (overRows rs (cut size w)) size w ≡ overRows rs w
-  before-over rs h =
-      three
-      (cut-over size (idsOf rs) (w .ids) (omega (arith, h, length-ids rs)) (room .ids-long))
-      (cut-over size (epochsIn (partsOf rs)) (w .epochs) (omega (arith, h, length-epochs-in rs)) (room .epochs-long))
-      (cut-over size (countsOf (partsOf rs)) (w .bytes) (omega (arith, h, length-bytes rs)) (room .bytes-long))
+has-rows : (v : Answer (List Row)) (k : ℕ) → ok k ≡ countedRows v → HasRows v k
+has-rows (ok rs) k e = record { found = rs; is-ok = refl; counted = cc }
+has-rows (refused m) k e = absurd (refused-not-ok m k (sym e))
 
-  cut-rows : (n : ℕ) → n ≤ size → rowsIn n (cut size w) ≡ rowsIn n w
-  cut-rows n h =
-      take-rows n (cut size w)
-      ∙ rw (take-take n size (w .ids) h, take-take n size (w .epochs) h, take-take n size (w .bytes) h) (sym (take-rows n w))
+has-none : (v : Answer (List Row)) (m : ℕ) → refused m ≡ countedRows v → v ≡ refused m
+has-none (ok rs) m e = absurd (refused-not-ok m (length rs) e)
+has-none (refused k) m e = let z : m ≡ k = cc in ap (λ (x : ℕ). refused x) (sym z)
 
-  cut-room : (k : ℕ) (ts : List Total) → length ts ≡ size → roomIn k (cut size w) ≡ roomIn k (columns ts)
-  cut-room k ts e =
-      rw (
-        length-take-le size (w .ids) (room .ids-long),
-        length-take-le size (w .epochs) (room .epochs-long),
-        length-take-le size (w .bytes) (room .bytes-long),
-        length-owners ts,
-        length-epochs ts,
-        length-totals ts,
-        e,
-      ) refl
+module _ (n : ℕ) (ts : List Total) (good : Bool) (old new : Option Flags) where
+  -- the table and the flags are proper
+  pub record Good (rs : List Row) : Type 0 where
+    pub table-proper : properTable n (columns ts) ≡ true
+    pub flags-proper : good ≡ true
+    pub changes : replaced old new (rowsIn n (columns ts)) ≡ ok rs
 
--- ---- structs of columns
+  verdict-good : (rs : List Row) → verdict n ts good old new ≡ ok rs → Good rs
+  unfolding verdict
+  verdict-good rs e = go (properTable n (columns ts)) refl good refl e
+    where
+      go : (p : Bool) → properTable n (columns ts) ≡ p → (g : Bool) → good ≡ g → cond (p && g) (replaced old new (rowsIn n (columns ts))) (refused 11) ≡ ok rs → Good rs
+      go true p true g h = record { table-proper = p; flags-proper = g; changes = h }
+      go true p false g h = absurd (refused-not-ok 11 rs h)
+      go false p g q h = absurd (refused-not-ok 11 rs h)
 
-pub structs-all : (ts : List Total) → structsIn (columns ts) ≡ ts
-unfolding structs rowsOf recordsOf ownersOf epochsOf totalsOf
-structs-all [] = refl
-structs-all (t ∷ ts) = ap (λ (l : List Total). t ∷ l) (structs-all ts)
+-- the rows of a proper table stand in it
+proper-room : (n : ℕ) (t : Tables) → properTable n t ≡ true → Room n t
+unfolding properTable properRows
+proper-room n t h = room-in n t (and-eq-true-iff (roomIn n t) _ .0 (and-eq-true-iff (properRows n t) _ .0 h .0) .0)
 
-pub structs-over : (rs : List Row) (ts : List Total) → length rs ≤ length ts → structsIn (overRows rs (columns ts)) ≡ over (structs rs) ts
-unfolding structs rowsOf recordsOf ownersOf epochsOf totalsOf idsOf partsOf epochsIn countsOf
-structs-over [] ts h = structs-all ts
-structs-over (r ∷ rs) [] h = absurd (not-suc-le-zero h)
-structs-over (r ∷ rs) (t ∷ ts) h = ap (λ (l : List Total). record { owner = r .identifier; epoch = r .part .epoch; total = r .part .bytes } ∷ l) (structs-over rs ts (le-of-suc-le-suc h))
+-- what is proper depends on the rows alone, where they have room
+same-proper : (n : ℕ) (s t : Tables) → roomIn n s ≡ true → rowsIn n s ≡ rowsIn n t → properTable n t ≡ true → properTable n s ≡ true
+unfolding properTable properRows
+same-proper n s t r e h =
+    let p = and-eq-true-iff (properRows n t) _ .0 h in
+    let q = and-eq-true-iff (roomIn n t) _ .0 (p .0) in
+    rw (r, e, q .1, p .1) refl
+
+-- where the rows and the flags are proper and the new rows have room, `totals::replace` accepts
+accepts : (n : ℕ) (w : Tables) (good : Bool) (old new : Option Flags) (rs : List Row) → properTable n w ≡ true → good ≡ true → replaced old new (rowsIn n w) ≡ ok rs → roomIn (length rs) w ≡ true
+    → replacing n w good old new ≡ record { answer = ok (length rs); rows = overRows rs w }
+unfolding replacing placingRows
+accepts n w good old new rs p g c r = rw (p, g, c, r) refl
+
+-- no rows over a table leave it
+nothing-over : (ts : List Total) (m : ℕ) (t : Tables) → m ≡ 0 → over (structs (rowsIn m t)) ts ≡ ts
+unfolding structs
+nothing-over ts m t z = ap (λ (x : ℕ). over (structs (rowsIn x t)) ts) z
 
 -- ---- the call
 
-module _ (n : ℕ) (ts : List Total) (work : Tables) where
+module _ (j : Judging) (ts : List Total) (work : Tables) (good : Bool) (old new : Option Flags) (judged : verdictOf j ≡ countedRows (verdict (j .rows) ts good old new)) where
+  abbrev n : ℕ
+  n = j .rows
+
+  abbrev k : ℕ
+  k = j .left + j .made
+
   -- how many rows are taken apart, and the work area then
   abbrev pub taken : ℕ
-  taken = cond (fitting n (length ts) work) n 0
+  taken = cond (fittedIn j (length ts) work) n 0
 
   abbrev pub apart : Tables
   apart = overRows (rowsIn taken (columns ts)) work
 
-  fit-in : fitting n (length ts) work ≡ true → Fits n (length ts) (length (work .ids)) (length (work .epochs)) (length (work .bytes))
-  fit-in h = fit-all n (length ts) (length (work .ids)) (length (work .epochs)) (length (work .bytes)) h
+  -- ---- where the change is accepted and has room
 
-  room-at : {k : ℕ} → fitting n (length ts) work ≡ true → k ≤ length ts → Room k work
-  room-at h l =
-      let f = fit-in h in
-      record { ids-long = omega (arith, l, f .owners-fit); epochs-long = omega (arith, l, f .epochs-fit); bytes-long = omega (arith, l, f .totals-fit) }
+  record Accepted : Type 0 where
+    is-ok : ok k ≡ countedRows (verdict n ts good old new)
+    in-table : leb k (length ts) ≡ true
+    before : roomIn n work ≡ true
+    after : roomIn k work ≡ true
 
-  -- what `take_apart` asks
-  taking : (b : Bool) → fitting n (length ts) work ≡ b → (taken ≤ length ts) × Room taken work
-  taking true h = let e : taken ≡ n = ap (λ (b : Bool). cond b n 0) h in let f = fit-in h .rows-fit in rw e (f, room-at h f)
+  module _ (h : fittedIn j (length ts) work ≡ true) where
+    accepted : Accepted
+    accepted =
+        let a = and-eq-true-iff (j .good && (eqb (j .owed) 0 && j .fits)) _ .0 h in
+        let b = and-eq-true-iff (j .good) _ .0 (a .0) in
+        let c = and-eq-true-iff (eqb (j .owed) 0) (j .fits) .0 (b .1) in
+        let d = and-eq-true-iff (leb k (length ts)) _ .0 (a .1) in
+        let e = and-eq-true-iff (roomIn n work) (roomIn k work) .0 (d .1) in
+        record {
+          is-ok = rw (b .0, c .0, c .1) at judged;
+          in-table = d .0;
+          before = e .0;
+          after = e .1;
+        }
+
+    rows-after : HasRows (verdict n ts good old new) k
+    rows-after = has-rows _ k (accepted .is-ok)
+
+    abbrev rs : List Row
+    rs = rows-after .found
+
+    is-good : Good n ts good old new rs
+    is-good = verdict-good n ts good old new rs (rows-after .is-ok)
+
+    long : length (rowsIn n (columns ts)) ≡ n
+    long = length-rows (proper-room n (columns ts) (is-good .table-proper))
+
+    rows-fit : n ≤ length ts
+    rows-fit = omega (arith, proper-room n (columns ts) (is-good .table-proper) .ids-long, length-owners ts)
+
+    -- the table's rows over the work area
+    abbrev stood : Tables
+    stood = overRows (rowsIn n (columns ts)) work
+
+    same-room : (m : ℕ) → roomIn m stood ≡ roomIn m work
+    same-room m = room-over (rowsIn n (columns ts)) work m (rw long (room-in n work (accepted .before)))
+
+    rows-stand : rowsIn n stood ≡ rowsIn n (columns ts)
+    rows-stand = ap (λ (m : ℕ). rowsIn m stood) (sym long) ∙ rows-back (rowsIn n (columns ts)) work
+
+    room-after : roomIn (length rs) stood ≡ true
+    room-after = same-room (length rs) ∙ ap (λ (m : ℕ). roomIn m work) (sym (rows-after .counted)) ∙ accepted .after
+
+    -- `totals::replace` accepts there too
+    done : replacing n stood good old new ≡ record { answer = ok (length rs); rows = overRows rs stood }
+    done =
+        accepts n stood good old new rs
+        (same-proper n stood (columns ts) (same-room n ∙ accepted .before) rows-stand (is-good .table-proper))
+        (is-good .flags-proper)
+        (ap (replaced old new) rows-stand ∙ is-good .changes)
+        room-after
+
+    -- and so does the statement
+    stated : replacingStructs n ts work good old new ≡ record { answer = ok (length rs); table = over (structs rs) ts; work = overRows rs stood }
+    unfolding replacingStructs placing
+    stated = rw (rows-after .is-ok, ← rows-after .counted, accepted .in-table, accepted .before, accepted .after) refl
+
+  -- ---- where it is not
+
+  module _ (h : fittedIn j (length ts) work ≡ false) where
+    no-room : (v : Answer (List Row)) → ok k ≡ countedRows v → (leb k (length ts) && (roomIn n work && roomIn k work)) ≡ false → placing n v ts work ≡ keptAll 10 ts work
+    unfolding placing
+    no-room v e f = let r = has-rows v k e in rw (r .is-ok, ← r .counted, f) refl
+
+    refused-so : (v : Answer (List Row)) (m : ℕ) → refused m ≡ countedRows v → placing n v ts work ≡ keptAll m ts work
+    unfolding placing
+    refused-so v m e = rw (has-none v m e) refl
+
+    stated-not : replacingStructs n ts work good old new ≡ keptAll (refusalOf j) ts work
+    unfolding replacingStructs
+    stated-not = go (j .good) refl (eqb (j .owed) 0) refl (j .fits) refl
+      where
+        go : (g : Bool) → j .good ≡ g → (o : Bool) → eqb (j .owed) 0 ≡ o → (f : Bool) → j .fits ≡ f → placing n (verdict n ts good old new) ts work ≡ keptAll (refusalOf j) ts work
+        go true p true q true r = rw (p, q, r) (no-room _ (rw (p, q, r) at judged) (rw (p, q, r) at h))
+        go true p true q false r = rw (p, q, r) (refused-so _ 6 (rw (p, q, r) at judged))
+        go true p false q f r = rw (p, q) (refused-so _ 14 (rw (p, q) at judged))
+        go false p o q f r = rw p (refused-so _ 11 (rw p at judged))
+
+  -- ---- what the functions ask, and what they leave
+
+  taking : (b : Bool) → fittedIn j (length ts) work ≡ b → (taken ≤ length ts) × Room taken work
+  taking true h =
+      let e : taken ≡ n = ap (λ (b : Bool). cond b n 0) h in
+      rw e (rows-fit h, room-in n work (accepted h .before))
   taking false h =
       let e : taken ≡ 0 = ap (λ (b : Bool). cond b n 0) h in
       rw e (omega arith, record { ids-long = omega arith; epochs-long = omega arith; bytes-long = omega arith })
 
+  -- what `take_apart` asks
   pub can-take : (taken ≤ length ts) × Room taken work
-  can-take = taking (fitting n (length ts) work) refl
+  can-take = taking (fittedIn j (length ts) work) refl
 
-  -- ---- where the lengths fit
-
-  -- the table's rows over the work area
-  abbrev stood : Tables
-  stood = overRows (rowsIn n (columns ts)) work
-
-  module _ (h : fitting n (length ts) work ≡ true) where
-    still-fits : fitting n (length ts) stood ≡ true
-    still-fits =
-        let l = fit-in h .rows-fit in
-        let k : length (rowsIn n (columns ts)) ≡ n = length-rows (columns-room ts l) in
-        rw (room-over (rowsIn n (columns ts)) work (length ts) (rw k (room-at h l))) h
-
-    stood-room : Room (length ts) stood
-    stood-room =
-        let f = fit-all n (length ts) (length (stood .ids)) (length (stood .epochs)) (length (stood .bytes)) still-fits in
-        record { ids-long = f .owners-fit; epochs-long = f .epochs-fit; bytes-long = f .totals-fit }
-
-    both : (good : Bool) (old new : Option Flags) → Alike (cut (length ts) stood) (columns ts) (replacing n (cut (length ts) stood) good old new) (replacing n (columns ts) good old new)
-    both good old new =
-        let l = fit-in h .rows-fit in
-        let rs = rowsIn n (columns ts) in
-        let k : length rs ≡ n = length-rows (columns-room ts l) in
-        alike (cut (length ts) stood) (columns ts) (λ m. cut-room (length ts) stood stood-room m ts refl) n
-        (cut-rows (length ts) stood stood-room n l ∙ ap (λ (m : ℕ). rowsIn m stood) (sym k) ∙ rows-back rs work)
-        good old new
-
-  -- ---- what is put together
-
-  module _ (good : Bool) (old new : Option Flags) (r : Replaced) (after : Tables) where
+  module _ (r : Replaced) (after : Tables) where
     -- what `put_together` asks, and what is left behind it
     pub record Put : Type 0 where
       pub count-fits : rowsTold (told r) ≤ length ts
-      pub rows-stand : Room (rowsTold (told r)) after
+      pub rows-there : Room (rowsTold (told r)) after
       pub all-left : left r (over (structs (rowsIn (rowsTold (told r)) after)) ts) after ≡ replacingStructs n ts work good old new
 
-    unfit : fitting n (length ts) work ≡ false → shown r after ≡ replacingIn (length ts) n apart good old new → Put
-    unfolding replacingStructs structs
-    unfit h e =
-        let none : taken ≡ 0 = ap (λ (b : Bool). cond b n 0) h in
-        let same : apart ≡ work = ap (λ (k : ℕ). overRows (rowsIn k (columns ts)) work) none ∙ over-nothing work in
-        let done : shown r after ≡ kept 11 work =
-        e ∙ ap (λ (w : Tables). replacingIn (length ts) n w good old new) same
-        ∙ sym (when-false (fitting n (length ts) work) (within (replacing n (cut (length ts) work) good old new) (length ts) work) (kept 11 work) h refl) in
-        let p : told r ≡ refused 11 = ap (λ (a : After). a .answer) done in
-        let q : after ≡ work = ap (λ (a : After). a .rows) done in
+    put-by : (b : Bool) → fittedIn j (length ts) work ≡ b → shown r after ≡ replacingIn (length ts) j apart good old new → Put
+    put-by true h e =
+        let all : apart ≡ stood h = ap (λ (b : Bool). overRows (rowsIn (cond b n 0) (columns ts)) work) h in
+        let fits : fittedIn j (length ts) (stood h) ≡ true = rw (same-room h n, same-room h k) h in
+        let end : shown r after ≡ record { answer = ok (length (rs h)); rows = overRows (rs h) (stood h) } =
+        e ∙ ap (λ (w : Tables). replacingIn (length ts) j w good old new) all ∙ rw fits (done h) in
+        let p : told r ≡ ok (length (rs h)) = ap (λ (a : After). a .answer) end in
+        let q : after ≡ overRows (rs h) (stood h) = ap (λ (a : After). a .rows) end in
+        let z : rowsTold (told r) ≡ length (rs h) = ap rowsTold p in
+        let back : rowsIn (rowsTold (told r)) after ≡ rs h = ap (λ (m : ℕ). rowsIn m after) z ∙ ap (rowsIn (length (rs h))) q ∙ rows-back (rs h) (stood h) in
+        record {
+          count-fits = omega (arith, z, rows-after h .counted, leb-true k (length ts) (accepted h .in-table));
+          rows-there = rw (z, q) (over-rows (rs h) (stood h));
+          all-left = (λ i. record { answer = p i; table = over (structs (back i)) ts; work = q i }) ∙ sym (stated h);
+        }
+    put-by false h e =
+        let none : apart ≡ work = ap (λ (b : Bool). overRows (rowsIn (cond b n 0) (columns ts)) work) h ∙ over-nothing work in
+        let end : shown r after ≡ kept (refusalOf j) work = e ∙ ap (λ (w : Tables). replacingIn (length ts) j w good old new) none ∙ rw h refl in
+        let p : told r ≡ refused (refusalOf j) = ap (λ (a : After). a .answer) end in
+        let q : after ≡ work = ap (λ (a : After). a .rows) end in
         let z : rowsTold (told r) ≡ 0 = ap rowsTold p in
         record {
           count-fits = omega (arith, z);
-          rows-stand = record { ids-long = omega (arith, z); epochs-long = omega (arith, z); bytes-long = omega (arith, z) };
-          all-left =
-              when-false (fitting n (length ts) work) (putTogether (replacing n (columns ts) good old new) n ts work) (record { answer = refused 11; table = ts; work = work }) h
-              (λ i. record { answer = p i; table = ap (λ (k : ℕ). over (structs (rowsIn k after)) ts) z i; work = q i });
+          rows-there = record { ids-long = omega (arith, z); epochs-long = omega (arith, z); bytes-long = omega (arith, z) };
+          all-left = (λ i. record { answer = p i; table = nothing-over ts (rowsTold (told r)) after z i; work = q i }) ∙ sym (stated-not h);
         }
-
-    fit-put : fitting n (length ts) work ≡ true → shown r after ≡ replacingIn (length ts) n apart good old new → Put
-    unfolding replacingStructs
-    fit-put h e =
-        let all : taken ≡ n = ap (λ (b : Bool). cond b n 0) h in
-        let b = both h good old new in
-        let rs = b .written in
-        let done : shown r after ≡ within (replacing n (cut (length ts) stood) good old new) (length ts) stood =
-        e ∙ ap (λ (k : ℕ). replacingIn (length ts) n (overRows (rowsIn k (columns ts)) work) good old new) all
-        ∙ sym (when-true (fitting n (length ts) stood) (within (replacing n (cut (length ts) stood) good old new) (length ts) stood) (kept 11 stood) (still-fits h) refl) in
-        let l : length rs ≤ length ts = omega (arith, b .fit .ids-long, length-owners ts) in
-        let p : told r ≡ replacing n (columns ts) good old new .answer = ap (λ (a : After). a .answer) done ∙ b .same-answer in
-        let q : after ≡ overRows rs stood =
-        ap (λ (a : After). a .rows) done ∙ ap (λ (t : Tables). before t (length ts) stood) (b .first-over) ∙ before-over (length ts) stood (stood-room h) rs l in
-        let z : rowsTold (told r) ≡ length rs = ap rowsTold p ∙ b .counted in
-        let back : rowsIn (rowsTold (told r)) after ≡ rs = ap (λ (k : ℕ). rowsIn k after) z ∙ ap (rowsIn (length rs)) q ∙ rows-back rs stood in
-        let again : rowsIn (rowsTold (replacing n (columns ts) good old new .answer)) (replacing n (columns ts) good old new .rows) ≡ rs =
-        ap (λ (k : ℕ). rowsIn k (replacing n (columns ts) good old new .rows)) (b .counted) ∙ ap (rowsIn (length rs)) (b .second-over) ∙ rows-back rs (columns ts) in
-        record {
-          count-fits = omega (arith, z, l);
-          rows-stand = rw (z, q) (over-rows rs stood);
-          all-left =
-              when-true (fitting n (length ts) work) (putTogether (replacing n (columns ts) good old new) n ts work) (record { answer = refused 11; table = ts; work = work }) h
-              (λ i. record {
-                answer = p i;
-                table = (ap (λ (x : List Row). over (structs x) ts) back ∙ sym (structs-over rs ts l) ∙ ap structsIn (sym (b .second-over))) i;
-                work = (q ∙ ap (λ (x : List Row). overRows x stood) (sym again)) i;
-              });
-        }
-
-    put-by : (b : Bool) → fitting n (length ts) work ≡ b → shown r after ≡ replacingIn (length ts) n apart good old new → Put
-    put-by true h = fit-put h
-    put-by false h = unfit h
 
     -- WHAT WAS TAKEN APART AND CHANGED CAN BE PUT TOGETHER, AND IS WHAT THE STATEMENT SAYS
-    pub can-put : shown r after ≡ replacingIn (length ts) n apart good old new → Put
-    can-put = put-by (fitting n (length ts) work) refl
+    pub can-put : shown r after ≡ replacingIn (length ts) j apart good old new → Put
+    can-put = put-by (fittedIn j (length ts) work) refl

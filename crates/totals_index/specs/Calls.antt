@@ -8,10 +8,12 @@ use lib.Dec.{leb}
 use lib.ListN.{length}
 use Rattle.records.specs.Answers.{Answer, ok, refused}
 use Rattle.records.specs.Flags.{Flags}
-use Rattle.rows.specs.Rows.{Tables, rowsIn, roomIn, overRows}
-use Rattle.totals.specs.Calls.{After as Changed, told, replacing}
+use Rattle.records.specs.Tables.{over}
+use Rattle.rows.specs.Rows.{Row, Tables, rowsIn, roomIn, overRows}
+use Rattle.totals.specs.Calls.{told, properTable}
+use Rattle.totals.specs.Replacing.{replaced}
 use Rattle.totals.specs.declared.replacing.Replaced.{Replaced}
-use Rattle.totals_index.specs.Structs.{columns, structsIn}
+use Rattle.totals_index.specs.Structs.{columns, structs}
 use Rattle.totals_index.specs.declared.structs.Total.{Total}
 
 -- all that the call leaves: the number of rows or a refusal, the table and the work area
@@ -24,25 +26,26 @@ pub record After : Type 0 where
 abbrev pub shown : Replaced → List Total → Tables → After
 shown r ts work = record { answer = told r; table = ts; work = work }
 
--- whether a table of a size has n rows, and the work area a place for each place of the table
-abbrev pub fitting : ℕ → ℕ → Tables → Bool
-fitting n size work = leb n size && roomIn size work
+-- a refusal: neither the table nor the work area has changed
+abbrev pub kept : ℕ → List Total → Tables → After
+kept m ts work = record { answer = refused m; table = ts; work = work }
 
--- how many rows an answer tells of; none where it is a refusal
-abbrev pub rowsTold : Answer ℕ → ℕ
-rowsTold (ok k) = k
-rowsTold (refused n) = 0
+-- the rows afterwards; 11 where the flags or the first n structs are not proper, then 14, then 6
+unfoldable pub verdict : ℕ → List Total → Bool → Option Flags → Option Flags → Answer (List Row)
+verdict n ts good old new = cond (properTable n (columns ts) && good) (replaced old new (rowsIn n (columns ts))) (refused 11)
 
--- the table is as its columns were left; in the work area the rows told of stand over the table's first n
-abbrev pub putTogether : Changed → ℕ → List Total → Tables → After
-putTogether a n ts work =
-    record {
-      answer = a .answer;
-      table = structsIn (a .rows);
-      work = overRows (rowsIn (rowsTold (a .answer)) (a .rows)) (overRows (rowsIn n (columns ts)) work);
-    }
+-- whether k rows have room in the table, and these and the n rows before in the work area
+abbrev pub roomBoth : ℕ → ℕ → List Total → Tables → Bool
+roomBoth n k ts work = leb k (length ts) && (roomIn n work && roomIn k work)
 
--- `replace`: the table's columns are replaced in; 11 where the lengths do not fit, and then nothing has been written
+-- rows at the start of the table, and in the work area over the n rows before; 10 where they have no room; or a refusal
+unfoldable pub placing : ℕ → Answer (List Row) → List Total → Tables → After
+placing n (refused m) ts work = kept m ts work
+placing n (ok rs) ts work =
+    cond (roomBoth n (length rs) ts work)
+    (record { answer = ok (length rs); table = over (structs rs) ts; work = overRows rs (overRows (rowsIn n (columns ts)) work) })
+    (kept 10 ts work)
+
+-- `replace`, the flags given as they are and whether they are proper
 unfoldable pub replacingStructs : ℕ → List Total → Tables → Bool → Option Flags → Option Flags → After
-replacingStructs n ts work good old new =
-    cond (fitting n (length ts) work) (putTogether (replacing n (columns ts) good old new) n ts work) (record { answer = refused 11; table = ts; work = work })
+replacingStructs n ts work good old new = placing n (verdict n ts good old new) ts work

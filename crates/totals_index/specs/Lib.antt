@@ -1,3 +1,4 @@
 pub mod Structs
 pub mod Calls
+pub mod Judging
 pub mod Steps

@@ -1,32 +1,25 @@
 -- What the functions inside the crate promise.
 -- Assumes nothing.
 use Prim.Native.Nat.{ℕ}
-use mathlib.Core.Bool.{Bool, cond, _&&_}
+use mathlib.Core.Bool.{Bool, cond}
 use mathlib.Core.Option.{Option}
-use mathlib.Core.List.{_++_}
-use lib.Dec.{leb}
-use lib.ListN.{take, drop}
+use lib.ListN.{length}
+use Rattle.records.specs.Answers.{Answer, ok, refused}
 use Rattle.records.specs.Flags.{Flags}
-use Rattle.rows.specs.Rows.{Tables, tables}
+use Rattle.rows.specs.Rows.{Tables}
 use Rattle.totals.specs.Calls.{After, kept, replacing}
-use Rattle.totals_index.specs.Calls.{fitting}
+use Rattle.totals_index.specs.Judging.{fitted, refusalOf}
+use Rattle.totals_index.specs.declared.judging.Judging.{Judging}
 
--- `fitting` by the lengths of the three columns
-abbrev pub fitted : ℕ → ℕ → ℕ → ℕ → ℕ → Bool
-fitted n size owners epochs totals = leb n size && (leb size owners && (leb size epochs && leb size totals))
+-- how many rows an answer tells of; none where it is a refusal
+abbrev pub rowsTold : Answer ℕ → ℕ
+rowsTold (ok k) = k
+rowsTold (refused n) = 0
 
--- the first places of the columns
-abbrev pub cut : ℕ → Tables → Tables
-cut size w = tables (take size (w .ids)) (take size (w .epochs)) (take size (w .bytes))
+-- `fitted` by the columns of the work area
+abbrev pub fittedIn : Judging → ℕ → Tables → Bool
+fittedIn j size w = fitted j size (length (w .ids)) (length (w .epochs)) (length (w .bytes))
 
--- columns, and behind them what stands behind the first places of others
-abbrev pub before : Tables → ℕ → Tables → Tables
-before t size w = tables (t .ids ++ drop size (w .ids)) (t .epochs ++ drop size (w .epochs)) (t .bytes ++ drop size (w .bytes))
-
--- what was done to the first places, with what stands behind them
-abbrev pub within : After → ℕ → Tables → After
-within a size w = record { answer = a .answer; rows = before (a .rows) size w }
-
--- `totals::replace` in the first places of the work area; 11 where the lengths do not fit
-abbrev pub replacingIn : ℕ → ℕ → Tables → Bool → Option Flags → Option Flags → After
-replacingIn size n w good old new = cond (fitting n size w) (within (replacing n (cut size w) good old new) size w) (kept 11 w)
+-- `totals::replace` in the work area where a change is accepted and has room, else its refusal
+abbrev pub replacingIn : ℕ → Judging → Tables → Bool → Option Flags → Option Flags → After
+replacingIn size j w good old new = cond (fittedIn j size w) (replacing (j .rows) w good old new) (kept (refusalOf j) w)

@@ -1,8 +1,8 @@
 // Totals per owner and epoch in a lent slice of structs: the table is taken apart into a work area, changed there, and put together again.
+mod judging;
 mod replacing;
 mod structs;
 mod work;
 
 pub use replacing::replace;
 pub use structs::Total;
-pub use work::rows_to_put;

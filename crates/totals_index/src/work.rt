@@ -1,30 +1,61 @@
-// What is done in the work area.
+// What is done in the work area, once the table was judged.
 ghost use mathlib.Core.Path.{_≡_};
 ghost use mathlib.Core.Bool.{cond, _&&_};
+ghost use Rattle.records.specs.Answers.{refused};
 ghost use Rattle.rows.specs.Rows.{tables};
 ghost use Rattle.totals.specs.Calls.{told, shown, given, properGiven};
-ghost use Rattle.totals_index.specs.Calls.{rowsTold};
-ghost use Rattle.totals_index.specs.Steps.{fitted, replacingIn};
+ghost use Rattle.totals_index.specs.Judging.{refusalOf, roomOf, fitted};
+ghost use Rattle.totals_index.specs.Steps.{rowsTold, replacingIn};
+use crate::judging::Judging;
 use records::Head;
 use records::Refusal;
 use totals::Replaced;
 
-// Whether a table of a size has room for the rows, and columns of these lengths have a place for each place of the table.
-fn fits(rows: usize, size: usize, owners: usize, epochs: usize, totals: usize) -> bool
-    ensures { λ r. ⌜ r ≡ fitted rows size owners epochs totals ⌝ }
+// Whether three columns of these lengths have n places.
+fn has_room(n: usize, owners: usize, epochs: usize, totals: usize) -> bool
+    ensures { λ r. ⌜ r ≡ roomOf n owners epochs totals ⌝ }
 {
-    if rows <= size {
-        if size <= owners {
-            return records::fit(size, epochs, totals);
+    if n <= owners {
+        return records::fit(n, epochs, totals);
+    }
+    false
+}
+
+// Whether a change is accepted, and has room in a table of a size and in columns of these lengths.
+fn fits(judged: Judging, size: usize, owners: usize, epochs: usize, totals: usize) -> bool
+    ensures { λ r. ⌜ r ≡ fitted judged size owners epochs totals ⌝ }
+{
+    if judged.good & ((judged.owed == 0) & judged.fits) {
+        if judged.left <= size {
+            if judged.made <= size - judged.left {
+                return has_room(judged.rows, owners, epochs, totals)
+                    & has_room(judged.left + judged.made, owners, epochs, totals);
+            }
         }
     }
     false
 }
 
-// Replaces flags in the first `size` places of the work area, where they fit.
+// The refusal where a change is not made.
+fn refusal_for(judged: Judging) -> Replaced
+    ensures { λ r. ⌜ told r ≡ refused (refusalOf judged) ⌝ }
+{
+    if judged.good {
+        if judged.owed == 0 {
+            if judged.fits {
+                return Replaced::Refused(Refusal::NoRoom);
+            }
+            return Replaced::Refused(Refusal::Overflow);
+        }
+        return Replaced::IndexMismatch;
+    }
+    Replaced::Refused(Refusal::BadTable)
+}
+
+// Replaces flags in the work area where the change is accepted and has room.
 pub fn replace_in(
     size: usize,
-    rows: usize,
+    judged: Judging,
     owners: &mut [[u8; 32]],
     epochs: &mut [u16],
     totals: &mut [u64],
@@ -37,14 +68,14 @@ pub fn replace_in(
     new_epochs: &[u16],
     new_counts: &[u32],
 ) -> Replaced
-    ensures { λ r. ⌜ shown r (tables (now (owners .exit)) (now (epochs .exit)) (now (totals .exit))) ≡ replacingIn size rows (tables (now (owners .entry)) (now (epochs .entry)) (now (totals .entry))) (properGiven «old_present» old (now («old_epochs» .entry)) (now («old_counts» .entry)) && properGiven «new_present» new (now («new_epochs» .entry)) (now («new_counts» .entry))) (given «old_present» old (now («old_epochs» .entry)) (now («old_counts» .entry))) (given «new_present» new (now («new_epochs» .entry)) (now («new_counts» .entry))) ⌝ }
+    ensures { λ r. ⌜ shown r (tables (now (owners .exit)) (now (epochs .exit)) (now (totals .exit))) ≡ replacingIn size judged (tables (now (owners .entry)) (now (epochs .entry)) (now (totals .entry))) (properGiven «old_present» old (now («old_epochs» .entry)) (now («old_counts» .entry)) && properGiven «new_present» new (now («new_epochs» .entry)) (now («new_counts» .entry))) (given «old_present» old (now («old_epochs» .entry)) (now («old_counts» .entry))) (given «new_present» new (now («new_epochs» .entry)) (now («new_counts» .entry))) ⌝ }
 {
-    if fits(rows, size, owners.len(), epochs.len(), totals.len()) {
+    if fits(judged, size, owners.len(), epochs.len(), totals.len()) {
         return totals::replace(
-            rows,
-            &mut owners[..size],
-            &mut epochs[..size],
-            &mut totals[..size],
+            judged.rows,
+            owners,
+            epochs,
+            totals,
             old_present,
             old,
             old_epochs,
@@ -55,15 +86,21 @@ pub fn replace_in(
             new_counts,
         );
     }
-    Replaced::Refused(Refusal::BadTable)
+    refusal_for(judged)
 }
 
-// How many rows are taken apart: all, where they fit.
-pub fn rows_to_take(rows: usize, size: usize, owners: usize, epochs: usize, totals: usize) -> usize
-    ensures { λ r. ⌜ r ≡ cond (fitted rows size owners epochs totals) rows 0 ⌝ }
+// How many rows are taken apart: all, where the change is accepted and has room.
+pub fn rows_to_take(
+    judged: Judging,
+    size: usize,
+    owners: usize,
+    epochs: usize,
+    totals: usize,
+) -> usize
+    ensures { λ r. ⌜ r ≡ cond (fitted judged size owners epochs totals) (judged .rows) 0 ⌝ }
 {
-    if fits(rows, size, owners, epochs, totals) {
-        return rows;
+    if fits(judged, size, owners, epochs, totals) {
+        return judged.rows;
     }
     0
 }

@@ -26,24 +26,24 @@ abbrev μ-loop : tie.MeasureT-loop
 μ-loop owners epochs totals n old-owner old-epochs old-counts new-owner new-epochs new-counts made₀ i₀ made i = length new-epochs - i
 
 -- the new row at hand, the table and the old rows
-abbrev new : tie.After-old-count Inv-loop μ-loop → Row
+abbrev new : tie.After-count-at Inv-loop μ-loop → Row
 new c = let a = c .before .before .before .before .before .before .before .before .before .before .before .before .args in let i = c .before .before .before .before .before .loop .i in row (a .new-owner) (getD (a .new-epochs .now) i 0) (getD (a .new-counts .now) i 0)
 
-abbrev table : tie.After-old-count Inv-loop μ-loop → List Row
+abbrev table : tie.After-count-at Inv-loop μ-loop → List Row
 table c = let a = c .before .before .before .before .before .before .before .before .before .before .before .before .args in rowsIn (a .n) (tables (a .owners .now) (a .epochs .now) (a .totals .now))
 
-abbrev olds : tie.After-old-count Inv-loop μ-loop → List Row
+abbrev olds : tie.After-count-at Inv-loop μ-loop → List Row
 olds c = let a = c .before .before .before .before .before .before .before .before .before .before .before .before .args in under (a .old-owner) (a .old-epochs .now) (a .old-counts .now)
 
-module _ (c : tie.After-old-count Inv-loop μ-loop) where
+module _ (c : tie.After-count-at Inv-loop μ-loop) where
   found : c .before .look-up .result .total ≡ totalAt (new c) (table c)
   found = ap (λ (s : Spot). s .total) (c .before .look-up .ensures) ∙ total-same _ (new c) (table c) (self-same (new c))
 
-  taken : c .old-count .result ≡ totalAt (new c) (olds c)
-  taken = c .old-count .ensures ∙ total-same _ (new c) (olds c) (self-same (new c))
+  taken : c .count-at .result ≡ totalAt (new c) (olds c)
+  taken = c .count-at .ensures ∙ total-same _ (new c) (olds c) (self-same (new c))
 
   -- the total holds the old count
-  enough : c .old-count .result ≤ c .before .look-up .result .total
+  enough : c .count-at .result ≤ c .before .look-up .result .total
   enough =
       let p = c .before .before .before .before .before .before .before .before .before .before .before .before .pre .1 in
       omega (arith, found, taken, covered-total (table c) (olds c) (under-ascends _ (p .0)) (p .1 .1) (new c))

@@ -1,14 +1,14 @@
--- `totals::judging::old_count` meets its contract, by whether the owners are the same. Assumes nothing.
+-- `totals::judging::count_at` meets its contract, by whether the owners are the same. Assumes nothing.
 use mathlib.Core.Path.{ap, sym, _∙_}
 use mathlib.Core.Bool.{true, false}
 use borrow.Author.Needs.{needs}
 use Rattle.records.specs.declared.table.Spot.{Spot}
 use Rattle.totals.proofs.UnderOwner.{total-of}
-use Rattle.totals.proofs.judging.old_count.Statement.{statement}
-use Rattle.totals.proofs.judging.old_count.Tie as tie
+use Rattle.totals.proofs.judging.count_at.Statement.{statement}
+use Rattle.totals.proofs.judging.count_at.Tie as tie
 
-pub old-count-spec : {M : Type 1} → statement M
-old-count-spec =
+pub count-at-spec : {M : Type 1} → statement M
+count-at-spec =
     tie.close
     (tie.spec
     (λ c κs. search needs)
