@@ -5,7 +5,9 @@ use Rattle.migrate.proofs.run.Statement.{statement}
 use Rattle.migrate.proofs.run.Tie as tie
 
 -- the bytes that were read stand at the start of what was lent
-read : (c : tie.Else1) → Counts (c .before .before .n .given .0 .0) (c .before .before .before .before .before .before .read-all .last .0)
+read : (c : tie.Else1) →
+    let at-read-all = c .before .before .before .before .before .before in
+    Counts (c .before .before .n .given .0 .0) (at-read-all .read-all .last .0)
 read c =
     let taken = c .before .before in
     let lent = taken .before .before .before .before in

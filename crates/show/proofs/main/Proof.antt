@@ -5,7 +5,9 @@ use Rattle.show.proofs.main.Statement.{statement}
 use Rattle.show.proofs.main.Tie as tie
 
 -- the bytes that were read stand at the start of what was lent
-read : (c : tie.After-known-told) → Counts (c .before .n .given .0 .0) (c .before .before .before .before .read-all .last .0)
+read : (c : tie.After-known-told) →
+    let at-read-all = c .before .before .before .before in
+    Counts (c .before .n .given .0 .0) (at-read-all .read-all .last .0)
 read c =
     let lent = c .before .before .before .before in
     rw (c .before .n .given .1) at (lent .read-all .ensures)

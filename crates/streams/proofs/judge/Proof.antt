@@ -11,7 +11,6 @@ use mir.Val.{toZ, ofZ}
 use mir.Facts.{toZ-ofZ, fits-natAbs, sfits-toZ, fits-ofZ}
 use borrow.Author.Tests.{ltb-true}
 use Rattle.streams.specs.Reading.{meaning}
-use Rattle.streams.specs.declared.Step.{Step}
 use Rattle.streams.specs.declared.Step.the-variants.{More, Ended, Broken}
 use Rattle.streams.proofs.judge.Statement.{statement}
 use Rattle.streams.proofs.judge.Tie as tie

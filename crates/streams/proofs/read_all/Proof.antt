@@ -1,6 +1,6 @@
 -- `streams::read_all` meets its contract and ends: a read that went on has brought a byte at least, and no more than there was room for.
 -- Assumes nothing.
-use Prim.Native.Nat.{ℕ, zero, suc, _+_, _-_, _≤_, _<_}
+use Prim.Native.Nat.{ℕ, zero, suc, _-_, _≤_, _<_}
 use native.Mathlib.Omega.{arith}
 use mathlib.Core.Path.{_≡_, sym, ap, _∙_}
 use mathlib.Core.List.{List}
@@ -24,7 +24,8 @@ some (pos (suc k)) room n m e = let h : suc k ≡ n = cc in (omega arith, omega 
 some (negsuc k) room n m e = let z : _≡_ {A = ℕ} 0 1 = cc in absurd (omega arith)
 
 -- the same of the number that the machine reads back from the answer's bits, where the room is what is left of the buffer
-came : (got : ℤ) (buf : List ℕ) (done n : ℕ) → SFits w64 got → Moved (length (take (length buf - done) (drop done buf))) got → meaning (toZ w64 (ofZ w64 got)) ≡ More n → (0 < n) × (n ≤ length buf - done)
+came : (got : ℤ) (buf : List ℕ) (done n : ℕ) → SFits w64 got → Moved (length (take (length buf - done) (drop done buf))) got
+    → meaning (toZ w64 (ofZ w64 got)) ≡ More n → (0 < n) × (n ≤ length buf - done)
 came got buf done n f m e =
     let r : length (take (length buf - done) (drop done buf)) ≡ length buf - done = simp (length-take, length-drop) (omega arith) in
     some got (length buf - done) n (rw r at m) (sym (ap meaning (toZ-ofZ f)) ∙ e)
@@ -52,7 +53,8 @@ module _ (c : tie.After-known-told Inv-loop μ-loop) where
   fits : (0 < n) × (n ≤ length (at-loop .loop .buf) - at-loop .loop .done)
   fits =
       let read = back .before .read in
-      came (read .result) (at-loop .loop .buf) (at-loop .loop .done) n (record { sfits = read .ok }) (read .ensures) (sym (at-judge .judge .ensures) ∙ c .before .n .given .1)
+      came (read .result) (at-loop .loop .buf) (at-loop .loop .done) n (record { sfits = read .ok }) (read .ensures)
+      (sym (at-judge .judge .ensures) ∙ c .before .n .given .1)
 
 add-done : tie.Need-add-done Inv-loop μ-loop
 add-done c = omega (arith, fits c)
