@@ -5,19 +5,13 @@ ghost use lib.ListN.{length, take};
 ghost use Rattle.io.specs.Counts.{Counts};
 ghost use Rattle.records.specs.Refusals.{number};
 ghost use Rattle.listing.specs.Text.{line};
-use libc::STDERR_FILENO;
-use libc::STDIN_FILENO;
-use libc::STDOUT_FILENO;
 use records::Refusal;
 use repair::Outcome;
+use streams::Input;
+use streams::say;
 
 // The most bytes that are repaired: a head of 35, and 65,535 records of 12.
 const MOST: usize = 786455;
-
-// Says something on standard error; answers whether all of it was taken.
-fn say(text: &[u8]) -> bool {
-    io::write_all(STDERR_FILENO, text)
-}
 
 // Puts what is said of a refusal at the start of `out`; answers the text's length.
 fn refusal_text(refusal: Refusal, out: &mut [u8]) -> usize
@@ -56,11 +50,9 @@ fn write_list(offsets: &[usize], changes: &[u8])
 fn write_repaired(bytes: &[u8], offsets: &[usize], changes: &[u8])
     requires { ⌜ length (now offsets) ≡ length (now changes) ⌝ }
 {
-    if io::write_all(STDOUT_FILENO, bytes) {
+    if streams::write_all(bytes) {
         write_list(offsets, changes);
-        return;
     }
-    say(b"cannot write\n");
 }
 
 // Repairs bytes with what is lent for the answer and the list.
@@ -73,24 +65,18 @@ fn migrate(src: &[u8], out: &mut [u8], offsets: &mut [usize], changes: &mut [u8]
     }
 }
 
-// Whether the input has ended: a read that failed is no end of the bytes.
-fn at_end() -> bool {
-    let mut byte = [0u8; 1];
-    libc::read(STDIN_FILENO, &mut byte) == 0
-}
-
 // Reads bytes and repairs them. `src` has room for one byte more than is repaired, so that too many are seen.
 fn run(src: &mut [u8], out: &mut [u8], offsets: &mut [usize], changes: &mut [u8]) {
-    let got = io::read_full(STDIN_FILENO, src);
-    if MOST < got {
-        say(b"too long\n");
-        return;
+    match streams::read_all(src) {
+        Input::Bytes(n) => {
+            if MOST < n {
+                say(b"too long\n");
+                return;
+            }
+            migrate(&src[..n], out, offsets, changes);
+        }
+        Input::Failed => streams::say_unread(),
     }
-    if at_end() {
-        migrate(&src[..got], out, offsets, changes);
-        return;
-    }
-    say(b"cannot read\n");
 }
 
 // Lends room for the bytes and one more, for the largest answer and for the longest list that so many bytes can have.

@@ -4,9 +4,8 @@ ghost use mathlib.Core.Path.{_≡_};
 ghost use lib.ListN.{length, take};
 ghost use Rattle.io.specs.Counts.{Counts};
 ghost use Rattle.listing.specs.Listed.{longest, listed};
-use libc::STDIN_FILENO;
-use libc::STDOUT_FILENO;
 use records::Counted;
+use streams::Input;
 
 // Puts the text at the start of `out`, which has room for every text, so that the refusal does not occur.
 fn text_of(src: &[u8], out: &mut [u8]) -> usize
@@ -20,11 +19,20 @@ fn text_of(src: &[u8], out: &mut [u8]) -> usize
     }
 }
 
+// Lists bytes, with what is lent for the text.
+fn show(src: &[u8], out: &mut [u8])
+    requires { ⌜ longest ≤ length (now out) ⌝ }
+{
+    let n = text_of(src, out);
+    streams::write_all(&out[..n]);
+}
+
 // One byte more than is listed is read, so that too many are seen.
 fn main() {
     let mut src = [0u8; 7204];
-    let got = io::read_full(STDIN_FILENO, &mut src);
     let mut out = [0u8; 69702];
-    let n = text_of(&src[..got], &mut out);
-    io::write_all(STDOUT_FILENO, &out[..n]);
+    match streams::read_all(&mut src) {
+        Input::Bytes(n) => show(&src[..n], &mut out),
+        Input::Failed => streams::say_unread(),
+    }
 }
