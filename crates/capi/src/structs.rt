@@ -9,8 +9,8 @@ use crate::types::CCount;
 use crate::types::CHead;
 use totals_index::Total;
 
-// The same over a slice of structs, with three slices as a work area. It tests its bytes as the other form does and branches on them, so that both
-// are one definition with another call inside.
+// Replaces one element's old flags by new ones in a table of structs, with three slices as a work area; absent flags are not looked at. It branches
+// on the test of the form over slices, so that both are one definition with another call inside.
 #[no_mangle]
 pub extern "C" fn petasunok_totals_replace_structs(
     rows: usize,
