@@ -7,6 +7,7 @@ const size_t widths[PARTS] = {
     [REMOVAL_IDS] = 32, [REMOVAL_EPOCHS] = 2, [REMOVAL_BYTES] = 4, [OUT] = 1, [EPOCHS] = 2, [COUNTS] = 4,
     [LEFT_IDS] = 32, [LEFT_EPOCHS] = 2, [LEFT_BYTES] = 4, [VALUE_IDS] = 32, [VALUE_EPOCHS] = 2, [VALUE_BYTES] = 4,
     [OFFSETS] = sizeof(size_t), [CHANGES] = 1, [TOTAL_OWNERS] = 32, [TOTAL_EPOCHS] = 2, [TOTALS] = 8,
+    [TOTAL_STRUCTS] = sizeof(petasunok_total), [WORK_OWNERS] = 32, [WORK_EPOCHS] = 2, [WORK_TOTALS] = 8,
 };
 
 /* ---- answers of every sort as one */
@@ -34,6 +35,8 @@ OF(repaired, petasunok_repaired, .refusal = a.refusal, .count = a.bytes, .lines 
 #define VALUE PART(VALUE_IDS), PART(VALUE_EPOCHS), PART(VALUE_BYTES)
 #define ROOM PART(EPOCHS), PART(COUNTS)
 #define TABLE_OF_TOTALS g->rows, PART(TOTAL_OWNERS), PART(TOTAL_EPOCHS), PART(TOTALS)
+#define TABLE_OF_STRUCTS g->rows, PART(TOTAL_STRUCTS), PART(WORK_OWNERS), PART(WORK_EPOCHS), PART(WORK_TOTALS)
+#define CHANGE g->present, OURS, g->theirs_present, THEIRS
 #define CALL(name, of, arguments) \
     static told name(const given *g) { return of(petasunok_##name arguments); }
 
@@ -60,7 +63,14 @@ CALL(base_epoch, of_count, (g->ours))
 CALL(owner_id, of_maybe_owner, (g->ours))
 CALL(type_byte, of_count, (g->ours))
 CALL(repair, of_repaired, (PART(BYTES), PART(OUT), PART(OFFSETS), PART(CHANGES)))
-CALL(totals_replace, of_count, (TABLE_OF_TOTALS, g->present, OURS, g->theirs_present, THEIRS))
+CALL(totals_replace, of_count, (TABLE_OF_TOTALS, CHANGE))
+
+/* The rows before or after, whichever are more, stand in the work area. */
+static told totals_replace_structs(const given *g) {
+    told answer = of_count(petasunok_totals_replace_structs(TABLE_OF_STRUCTS, CHANGE));
+    if (answer.refusal == 0) answer.worked = answer.count > g->rows ? (size_t)answer.count : g->rows;
+    return answer;
+}
 
 #define READS (BIT(BYTES) | ROOM_TABLES)
 #define MERGES (OURS_TABLES | THEIRS_TABLES | ROOM_TABLES)
@@ -68,6 +78,9 @@ CALL(totals_replace, of_count, (TABLE_OF_TOTALS, g->present, OURS, g->theirs_pre
 #define LIST_REFUSALS (BIT(2) | BIT(3) | BIT(10))
 #define ADDING_REFUSALS (BIT(4) | BIT(5) | BIT(6) | BIT(10) | BIT(11))
 #define REMOVING_REFUSALS (ADDING_REFUSALS | BIT(7))
+#define CHANGES_TOTALS (OURS_TABLES | THEIRS_TABLES)
+#define TAKES_CHANGE (TAKES_OURS | TAKES_THEIRS | TAKES_ROWS | TAKES_PRESENT | TAKES_THEIRS_PRESENT)
+#define CHANGE_REFUSALS (BIT(6) | BIT(10) | BIT(11) | BIT(14))
 
 const call calls[CALLS] = {
     {"deserialize", deserialize, FLAGS, READS, 0, BIT(1) | LIST_REFUSALS},
@@ -96,8 +109,8 @@ const call calls[CALLS] = {
     {"owner_id", owner_id, MAYBE_OWNER, 0, TAKES_OURS, BIT(11)},
     {"type_byte", type_byte, NUMBER, 0, TAKES_OURS, BIT(11)},
     {"repair", repair, REPAIRED, BIT(BYTES) | BIT(OUT) | LINE_TABLES, 0, BIT(1) | BIT(2) | BIT(10)},
-    {"totals_replace", totals_replace, TABLE, OURS_TABLES | THEIRS_TABLES | TOTAL_TABLES,
-     TAKES_OURS | TAKES_THEIRS | TAKES_ROWS | TAKES_PRESENT | TAKES_THEIRS_PRESENT, BIT(6) | BIT(10) | BIT(11) | BIT(14)},
+    {"totals_replace", totals_replace, TABLE, CHANGES_TOTALS | TOTAL_TABLES, TAKES_CHANGE, CHANGE_REFUSALS},
+    {"totals_replace_structs", totals_replace_structs, TABLE, CHANGES_TOTALS | BIT(TOTAL_STRUCTS) | WORK_TABLES, TAKES_CHANGE, CHANGE_REFUSALS},
 };
 
 /* ---- what holds of every answer */
@@ -113,12 +126,22 @@ int same_removal(const petasunok_removal *a, const petasunok_removal *b) {
 int same_told(const told *a, const told *b) {
     return a->refusal == b->refusal && a->present == b->present && a->which == b->which && a->count == b->count
         && same_head(&a->head, &b->head) && same_removal(&a->removal, &b->removal) && same_removal(&a->value, &b->value)
-        && a->visited == b->visited && a->lines == b->lines && memcmp(a->id.bytes, b->id.bytes, 32) == 0;
+        && a->visited == b->visited && a->lines == b->lines && a->worked == b->worked && memcmp(a->id.bytes, b->id.bytes, 32) == 0;
+}
+
+int same_places(int part, const void *a, const void *b, size_t places) {
+    const petasunok_total *x = a, *y = b;
+    size_t i;
+    if (part != TOTAL_STRUCTS) return places == 0 || memcmp(a, b, places * widths[part]) == 0;
+    for (i = 0; i < places; i++)
+        if (memcmp(x[i].owner, y[i].owner, 32) != 0 || x[i].epoch != y[i].epoch || x[i].total != y[i].total) return 0;
+    return 1;
 }
 
 size_t places(const told *answer, int part) {
     if (answer->refusal != 0) return 0;
-    if (part == OUT || (BIT(part) & TOTAL_TABLES)) return (size_t)answer->count;
+    if (part == OUT || part == TOTAL_STRUCTS || (BIT(part) & TOTAL_TABLES)) return (size_t)answer->count;
+    if (BIT(part) & WORK_TABLES) return answer->worked;
     if (BIT(part) & ROOM_TABLES) return answer->head.records;
     if (BIT(part) & LEFT_TABLES) return answer->removal.rows;
     if (BIT(part) & VALUE_TABLES) return answer->value.rows;

@@ -16,6 +16,8 @@ enum {
     VALUE_IDS, VALUE_EPOCHS, VALUE_BYTES,
     OFFSETS, CHANGES,
     TOTAL_OWNERS, TOTAL_EPOCHS, TOTALS,
+    TOTAL_STRUCTS,
+    WORK_OWNERS, WORK_EPOCHS, WORK_TOTALS,
     PARTS
 };
 
@@ -29,7 +31,8 @@ enum {
 #define VALUE_TABLES (BIT(VALUE_IDS) | BIT(VALUE_EPOCHS) | BIT(VALUE_BYTES))
 #define LINE_TABLES (BIT(OFFSETS) | BIT(CHANGES))
 #define TOTAL_TABLES (BIT(TOTAL_OWNERS) | BIT(TOTAL_EPOCHS) | BIT(TOTALS))
-#define WRITTEN_TABLES (BIT(OUT) | ROOM_TABLES | LEFT_TABLES | VALUE_TABLES | LINE_TABLES | TOTAL_TABLES)
+#define WORK_TABLES (BIT(WORK_OWNERS) | BIT(WORK_EPOCHS) | BIT(WORK_TOTALS))
+#define WRITTEN_TABLES (BIT(OUT) | ROOM_TABLES | LEFT_TABLES | VALUE_TABLES | LINE_TABLES | TOTAL_TABLES | BIT(TOTAL_STRUCTS) | WORK_TABLES)
 
 /* The values that a call takes beside its tables. */
 #define TAKES_STRATEGY 1u
@@ -70,6 +73,7 @@ typedef struct {
     petasunok_head head;
     petasunok_removal removal, value; /* removal: a sum, or the key's of a split */
     size_t visited, lines;
+    size_t worked; /* how many places of a work area hold rows before or after */
     petasunok_id id;
 } told;
 
@@ -84,7 +88,7 @@ enum {
     SPLIT_REMOVED, ADD_ASSIGN, HAS_REMOVAL, TOTAL_REMOVED,
     NEW_SINGLE_EPOCH, SET_OWNER_ID, BASE_EPOCH, OWNER_ID, TYPE_BYTE,
     REPAIR,
-    TOTALS_REPLACE,
+    TOTALS_REPLACE, TOTALS_REPLACE_STRUCTS,
     CALLS
 };
 
@@ -102,6 +106,9 @@ extern const size_t widths[PARTS];
 
 /* How many places at the start of a table the answer takes. */
 size_t places(const told *answer, int part);
+
+/* Whether so many places of a table hold the same; of structs, what their fields hold. */
+int same_places(int part, const void *a, const void *b, size_t places);
 
 /* What is wrong with the form of an answer, or null: its number, its zeros where it is refused, its room, its truth value. */
 const char *malformed(const call *c, const given *g, const told *answer);

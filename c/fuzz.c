@@ -91,10 +91,8 @@ static int fits(const told *answer) {
 /* Whether the answer stands alike in the lent tables and in the roomy ones. */
 static int stands_alike(const told *answer, const given *roomy) {
     int i;
-    for (i = 0; i < PARTS; i++) {
-        size_t bytes = places(answer, i) * widths[i];
-        if ((calls[current].parts & BIT(i)) && bytes > 0 && memcmp(input.parts[i].at, roomy->parts[i].at, bytes) != 0) return 0;
-    }
+    for (i = 0; i < PARTS; i++)
+        if ((calls[current].parts & BIT(i)) && !same_places(i, input.parts[i].at, roomy->parts[i].at, places(answer, i))) return 0;
     return 1;
 }
 

@@ -263,6 +263,21 @@ static void give_totals(given *g, const held_totals *t, size_t more) {
     give(g, TOTALS, changed.totals, rows, length_for(rows) + more);
 }
 
+/* Lends the table of totals that was lent as structs too, as long as the shortest of its slices, which are cut to that length. */
+static void give_structs(given *g) {
+    static petasunok_total structs[LENT_MOST / sizeof(petasunok_total)];
+    size_t len = g->parts[TOTALS].len, i;
+    for (i = TOTAL_OWNERS; i < TOTALS; i++)
+        if (g->parts[i].len < len) len = g->parts[i].len;
+    for (i = TOTAL_OWNERS; i <= TOTALS; i++) g->parts[i].len = len;
+    for (i = 0; i < len; i++) {
+        memcpy(structs[i].owner, (uint8_t *)g->parts[TOTAL_OWNERS].at + 32 * i, 32);
+        structs[i].epoch = ((uint16_t *)g->parts[TOTAL_EPOCHS].at)[i];
+        structs[i].total = ((uint64_t *)g->parts[TOTALS].at)[i];
+    }
+    give(g, TOTAL_STRUCTS, structs, len, len);
+}
+
 /* Incoming flags that go with ours: mostly at an epoch of ours or behind the base, and of the same owner. */
 static void incoming(held_flags *theirs, const held_flags *ours) {
     random_flags(theirs);
@@ -380,6 +395,7 @@ void make_input(given *g, int which) {
     if (c->takes & TAKES_REMOVAL) give_removal(g, &g->removal, REMOVAL_IDS, r, 0);
     if (c->takes & TAKES_LEFT) give_removal(g, &g->left, LEFT_IDS, &removals[below(STORED)], some_room());
     if (c->takes & TAKES_ROWS) give_change(g);
+    if (c->parts & BIT(TOTAL_STRUCTS)) give_structs(g);
     g->amount = some_count();
     g->key = once_in(2) ? 0 : some_count();
     g->epoch = some_epoch();
@@ -410,14 +426,14 @@ static void keep_removal(const given *g, const petasunok_removal *removal, int i
     memcpy(r->of.counts, g->parts[OURS_COUNTS].at, g->ours.records * 4);
 }
 
-/* Keeps the rows of a table of totals. */
-static void keep_totals(const given *g, size_t rows) {
+/* Keeps the rows of a table of totals, which stand in three slices: its own, or a work area. */
+static void keep_totals(const given *g, int owners, size_t rows) {
     held_totals *t = &tables[below(STORED)];
     if (rows > MOST) return;
     t->rows = rows;
-    memcpy(t->owners, g->parts[TOTAL_OWNERS].at, rows * 32);
-    memcpy(t->epochs, g->parts[TOTAL_EPOCHS].at, rows * 2);
-    memcpy(t->totals, g->parts[TOTALS].at, rows * 8);
+    memcpy(t->owners, g->parts[owners].at, rows * 32);
+    memcpy(t->epochs, g->parts[owners + 1].at, rows * 2);
+    memcpy(t->totals, g->parts[owners + 2].at, rows * 8);
 }
 
 void keep_answer(int which, const given *g, const told *answer) {
@@ -425,7 +441,7 @@ void keep_answer(int which, const given *g, const told *answer) {
     if (once_in(4)) random_flags(&flags[below(STORED)]);
     if (once_in(8)) random_removal(&removals[below(STORED)]);
     if (once_in(400)) random_totals(&tables[below(STORED)]);
-    if (calls[which].answer == TABLE) keep_totals(g, (size_t)answer->count);
+    if (calls[which].answer == TABLE) keep_totals(g, which == TOTALS_REPLACE ? TOTAL_OWNERS : WORK_OWNERS, (size_t)answer->count);
     if (calls[which].answer == SPLIT) keep_removal(g, &answer->value, VALUE_IDS, 1);
     if (calls[which].answer == SUM) keep_removal(g, &answer->removal, LEFT_IDS, 0);
     if (calls[which].answer == FLAGS && answer->present && answer->head.records <= MOST) {

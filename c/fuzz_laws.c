@@ -271,25 +271,45 @@ static int has_changed(const given *g, const table *t, uint8_t (*owners)[32], co
     return 1;
 }
 
+/* Makes a change in a table that has room, over three slices, and answers its refusal. */
+static uint32_t change_in(table *t, const given *g) {
+    given other = *g;
+    told answer;
+    other.rows = t->rows;
+    other.parts[TOTAL_OWNERS] = (part){t->owners, MOST_ROWS};
+    other.parts[TOTAL_EPOCHS] = (part){t->epochs, MOST_ROWS};
+    other.parts[TOTALS] = (part){t->totals, MOST_ROWS};
+    answer = calls[TOTALS_REPLACE].run(&other);
+    if (answer.refusal == 0) t->rows = (size_t)answer.count;
+    return answer.refusal;
+}
+
 /* Puts the old flags back for the new ones, which has to give the table as it was. */
 static const char *putting_back(const given *g, const table *after) {
     static table back;
     given other = *g;
-    told answer;
     back = *after;
-    other.rows = after->rows;
-    other.parts[TOTAL_OWNERS] = (part){back.owners, MOST_ROWS};
-    other.parts[TOTAL_EPOCHS] = (part){back.epochs, MOST_ROWS};
-    other.parts[TOTALS] = (part){back.totals, MOST_ROWS};
     other.ours = g->theirs;
     other.theirs = g->ours;
     other.present = g->theirs_present;
     other.theirs_present = g->present;
     memcpy(&other.parts[OURS_EPOCHS], &g->parts[THEIRS_EPOCHS], 2 * sizeof(part));
     memcpy(&other.parts[THEIRS_EPOCHS], &g->parts[OURS_EPOCHS], 2 * sizeof(part));
-    answer = calls[TOTALS_REPLACE].run(&other);
-    back.rows = (size_t)answer.count;
-    return answer.refusal == 0 && same_table(&back, &before) ? NULL : "what was changed back is not the table before";
+    return change_in(&back, &other) == 0 && same_table(&back, &before) ? NULL : "what was changed back is not the table before";
+}
+
+/* A change over structs is answered or refused as over three slices, and leaves the same rows. */
+static const char *like_slices(const given *g, uint32_t refusal, size_t rows) {
+    static table slices;
+    const petasunok_total *structs = g->parts[TOTAL_STRUCTS].at;
+    size_t i;
+    slices = before;
+    if (change_in(&slices, g) != refusal) return "over three slices it is refused otherwise";
+    if (refusal == 0 && slices.rows != rows) return "over three slices there are other rows";
+    for (i = 0; refusal == 0 && i < rows; i++)
+        if (structs[i].total != slices.totals[i] || structs[i].epoch != slices.epochs[i] || memcmp(structs[i].owner, slices.owners[i], 32) != 0)
+            return "over three slices a row is another";
+    return NULL;
 }
 
 /* A changed table is proper, and has at every pair the total less the old count plus the new. */
@@ -396,11 +416,12 @@ const char *broken_law(int which, const given *g, const told *answer) {
     if (which == HAS_REMOVAL || which == TOTAL_REMOVED) return telling(which, g, answer);
     if (which == REPAIR) return repairing(g, answer);
     if (which == TOTALS_REPLACE) return changing(g, answer);
+    if (which == TOTALS_REPLACE_STRUCTS) return like_slices(g, 0, (size_t)answer->count);
     return which >= NEW_SINGLE_EPOCH ? heading(which, g, answer) : NULL;
 }
 
 const char *broken_refusal(int which, const given *g, uint32_t refusal) {
-    int merge = which >= COMBINE_ADDED && which <= OPTIONAL_REMOVED, full = 0;
+    int merge = which >= COMBINE_ADDED && which <= OPTIONAL_REMOVED, full = 0, change = calls[which].answer == TABLE;
     const uint8_t *bytes = g->parts[BYTES].at;
     if (refusal == 1 && (which == DESERIALIZE || which == REPAIR) && bytes[0] < 4) return "a kind that exists is unknown";
     if (refusal == 2 && which == REPAIR && g->parts[BYTES].len >= (bytes[0] < 2 ? 3u : 35u)) return "2, and owner and base are complete";
@@ -408,8 +429,9 @@ const char *broken_refusal(int which, const given *g, uint32_t refusal) {
     if (refusal == 5 && merge && which <= OPTIONAL_ADDED && !(owned(&g->ours) && owned(&g->theirs) && g->strategy == 0))
         return "5 without two owners";
     if (refusal == 14 && !mismatched(g)) return "14, and no total is less than the old count";
-    if (refusal == 6 && which == TOTALS_REPLACE && mismatched(g)) return "6, and it is 14";
-    if (refusal == 6 && which == TOTALS_REPLACE && !too_large(g)) return "6, and no total passes 64 bits";
+    if (refusal == 6 && change && mismatched(g)) return "6, and it is 14";
+    if (refusal == 6 && change && !too_large(g)) return "6, and no total passes 64 bits";
+    if (which == TOTALS_REPLACE_STRUCTS) return like_slices(g, refusal, 0);
     if (refusal == 8 && !(has_records(&g->ours) && g->amount > 4294967292u)) return "8, and the removal is not too large";
     if (refusal == 9 && total(g, &g->removal, REMOVAL_IDS, &full) <= UINT32_MAX) return "9, and the total is not too large";
     return merge && refusal >= 4 && refusal <= 7 && which % 2 == OPTIONAL_ADDED % 2 && g->present == 0 ? "absent ours was looked at" : NULL;

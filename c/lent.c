@@ -60,6 +60,22 @@ static int kept(const given *g, const told *answer, int part) {
         && memcmp(windows[part].at + behind, before[part] + behind, windows[part].len - behind) == 0;
 }
 
+/* Whether a work area has the new rows at its start, and behind them what is left of the rows before. */
+static int worked_well(const given *g, const told *answer) {
+    uint8_t(*owners)[32] = g->parts[WORK_OWNERS].at;
+    const uint16_t *epochs = g->parts[WORK_EPOCHS].at;
+    const uint64_t *totals = g->parts[WORK_TOTALS].at;
+    const window *table = &windows[TOTAL_STRUCTS];
+    size_t i;
+    for (i = 0; i < places(answer, WORK_OWNERS); i++) {
+        size_t at = (size_t)((uint8_t *)g->parts[TOTAL_STRUCTS].at - table->at) + i * sizeof(petasunok_total);
+        petasunok_total row;
+        memcpy(&row, (i < answer->count ? table->at : before[TOTAL_STRUCTS]) + at, sizeof row);
+        if (memcmp(owners[i], row.owner, 32) != 0 || epochs[i] != row.epoch || totals[i] != row.total) return 0;
+    }
+    return 1;
+}
+
 told ask(const call *c, const given *g, const char **fault) {
     told answer;
     int i;
@@ -70,6 +86,7 @@ told ask(const call *c, const given *g, const char **fault) {
     for (i = 0; i < PARTS && *fault == NULL; i++)
         if ((c->parts & BIT(i)) && !kept(g, &answer, i))
             *fault = answer.refusal != 0 ? "lent memory that a refused call has changed" : "lent memory changed beside the answer";
+    if (*fault == NULL && !worked_well(g, &answer)) *fault = "a work area without the rows after and before";
     return answer;
 }
 

@@ -129,6 +129,13 @@ typedef struct {
     size_t lines;
 } petasunok_repaired;
 
+/* A row of a table of totals: who paid, 32 zero bytes where there is no owner, in which epoch, and how many bytes in all. */
+typedef struct {
+    uint8_t owner[32];
+    uint16_t epoch;
+    uint64_t total;
+} petasunok_total;
+
 /* ---- reading: 1, 2, 3, 10 */
 
 /* Flags of the kind that byte 0 names; no bytes are no flags. */
@@ -281,6 +288,21 @@ petasunok_repaired petasunok_repair(
  * enough. */
 petasunok_count petasunok_totals_replace(
     size_t rows, uint8_t (*owners)[32], size_t owners_len, uint16_t *epochs, size_t epochs_len, uint64_t *totals, size_t totals_len,
+    uint8_t old_present, petasunok_head old_flags,
+    const uint16_t *old_epochs, size_t old_epochs_len, const uint32_t *old_counts, size_t old_counts_len,
+    uint8_t new_present, petasunok_head new_flags,
+    const uint16_t *new_epochs, size_t new_epochs_len, const uint32_t *new_counts, size_t new_counts_len);
+
+/* The same where the rows are structs, in the first `rows` places of `table`: 11, 14, 6, 10. The three slices are a work area, which may hold
+ * anything and overlaps neither the table nor the flags. 10 is also for a slice of it that lacks room for the rows before or after; more
+ * room than that is not looked at. A refusal changes neither the table nor the work area. After an accepted change the work area has the new
+ * rows at its start, then what is left of the rows before, and behind both it is untouched.
+ *
+ * This is for those whose table is structs already: all rows are copied into the work area and back. Those who can choose keep three slices
+ * and call petasunok_totals_replace, which needs no work area. */
+petasunok_count petasunok_totals_replace_structs(
+    size_t rows, petasunok_total *table, size_t table_len,
+    uint8_t (*owners)[32], size_t owners_len, uint16_t *epochs, size_t epochs_len, uint64_t *totals, size_t totals_len,
     uint8_t old_present, petasunok_head old_flags,
     const uint16_t *old_epochs, size_t old_epochs_len, const uint32_t *old_counts, size_t old_counts_len,
     uint8_t new_present, petasunok_head new_flags,

@@ -77,6 +77,7 @@ static const struct {
     FIELD(petasunok_maybe_owner, id, 5),
     SIZE(petasunok_repaired, 24), FIELD(petasunok_repaired, refusal, 0), FIELD(petasunok_repaired, bytes, 8),
     FIELD(petasunok_repaired, lines, 16),
+    SIZE(petasunok_total, 48), FIELD(petasunok_total, owner, 0), FIELD(petasunok_total, epoch, 32), FIELD(petasunok_total, total, 40),
 };
 
 static void check_layouts(void) {
@@ -178,7 +179,8 @@ static void check_room(const example *e, const told *answer) {
         if (!(calls[e->call].parts & WRITTEN_TABLES & BIT(i)) || places(answer, i) == 0) continue;
         build(e, &g, &exact);
         g.parts[i].len = places(answer, i) - 1;
-        if (g.parts[i].len < g.left.rows + g.rows) continue; /* the left removal or the totals do not fit: 11, see check_short */
+        /* the left removal or the totals do not fit: 11, see check_short; in a work area they do not have to */
+        if (!(BIT(i) & WORK_TABLES) && g.parts[i].len < g.left.rows + g.rows) continue;
         check_call(e->call, &g, "c/test_cases.c", e->line, "room one short", "refused 10");
     }
 }
@@ -195,7 +197,7 @@ static void check_short(const example *e) {
             : BIT(i) & THEIRS_TABLES ? g.theirs.records
             : BIT(i) & REMOVAL_TABLES ? g.removal.rows
             : BIT(i) & LEFT_TABLES ? g.left.rows
-            : BIT(i) & TOTAL_TABLES ? g.rows : 0;
+            : BIT(i) & (TOTAL_TABLES | BIT(TOTAL_STRUCTS)) ? g.rows : 0;
         if (!(calls[e->call].parts & BIT(i)) || counted == 0 || counted == SIZE_MAX) continue;
         g.parts[i].len = counted - 1;
         check_call(e->call, &g, "c/test_cases.c", e->line, "a count one past its table", "refused 11");
@@ -256,7 +258,7 @@ static void check_optional(const example *e) {
     lending l = lending_of(ENOUGH, 1, AT_THE_END);
     given g;
     int i;
-    if (!merge && e->call != TOTALS_REPLACE) return;
+    if (!merge && calls[e->call].answer != TABLE) return;
     for (i = 0; i < 3; i++) {
         build(e, &g, &l);
         if (g.present) g.present = yes[i];
@@ -266,7 +268,7 @@ static void check_optional(const example *e) {
 }
 
 /* An example with much room, at both sides of its pages; then what follows from it. */
-static void check_from(const example *e) {
+static told check_from(const example *e) {
     told answer = check_example(e, lending_of(ENOUGH, 0, AT_THE_END), "as it is", e->told);
     example optional = *e;
     check_example(e, lending_of(ENOUGH, 2, AT_THE_START), "longer tables", e->told);
@@ -280,6 +282,19 @@ static void check_from(const example *e) {
         optional.call++;
         if (answer.refusal == 0) check_room(&optional, &answer);
     }
+    return answer;
+}
+
+/* A change of totals tells the same over structs, also where the work area is shorter than the table and the rows have just room in it. */
+static void check_structs(const example *slices) {
+    lending l = lending_of(ENOUGH, 0, AT_THE_END);
+    example e = *slices;
+    told answer;
+    if (slices->call != TOTALS_REPLACE) return;
+    e.call = TOTALS_REPLACE_STRUCTS;
+    answer = check_from(&e);
+    l.room[WORK_OWNERS] = l.room[WORK_EPOCHS] = l.room[WORK_TOTALS] = places(&answer, WORK_OWNERS);
+    check_example(&e, l, "a long table and a short work area", e.told);
 }
 
 /* ---- null pointers */
@@ -290,7 +305,7 @@ static const char *const with_nulls[CALLS] = {
     [READ_MULTI_OWNED] = "refused 2", [SERIALIZE] = "refused 10", [SERIALIZED_SIZE] = "3",
     [COMBINE_OWNER_ID] = "whose 0", [COMBINE_ADDED] = "0@5", [OPTIONAL_ADDED] = "0@5", [COMBINE_REMOVED] = "0@5",
     [OPTIONAL_REMOVED] = "0@5", [SPLIT_REMOVED] = "none, none, visited 0", [ADD_ASSIGN] = "none", [HAS_REMOVAL] = "0",
-    [TOTAL_REMOVED] = "0", [REPAIR] = "", [TOTALS_REPLACE] = "totals",
+    [TOTAL_REMOVED] = "0", [REPAIR] = "", [TOTALS_REPLACE] = "totals", [TOTALS_REPLACE_STRUCTS] = "totals",
 };
 
 /* Every pointer null; then each alone, beside tables that are not read and room that is not needed. */
@@ -394,7 +409,10 @@ static void check_seen(void) {
 static void check_all(void) {
     size_t i;
     check_layouts();
-    for (i = 0; i < examples_len; i++) check_from(&examples[i]);
+    for (i = 0; i < examples_len; i++) {
+        check_from(&examples[i]);
+        check_structs(&examples[i]);
+    }
     check_nulls();
     check_sizes();
     check_heads();

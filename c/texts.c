@@ -78,11 +78,25 @@ static void give_pairs(given *g, int owners, const rows *r, size_t more, int sid
     give_table(g, owners + 1, r->epochs, r->len, more, side);
 }
 
+/* Lends rows as structs. */
+static void give_structs(given *g, const rows *r, size_t more, int side) {
+    petasunok_total structs[MOST];
+    size_t i;
+    memset(structs, 0, sizeof structs);
+    for (i = 0; i < r->len; i++) {
+        memcpy(structs[i].owner, r->owners[i], 32);
+        structs[i].epoch = r->epochs[i];
+        structs[i].total = r->numbers[i];
+    }
+    give_table(g, TOTAL_STRUCTS, structs, r->len, more, side);
+}
+
 void give_totals(given *g, const char *text, size_t more, int side) {
     rows r = rows_of(text + strlen("totals"));
     g->rows = r.len;
     give_pairs(g, TOTAL_OWNERS, &r, more, side);
     give_table(g, TOTALS, r.numbers, r.len, more, side);
+    give_structs(g, &r, more, side);
 }
 
 void give_removal(given *g, petasunok_removal *removal, int ids, const char *text, size_t more, int side) {
@@ -182,14 +196,18 @@ static void put_repaired(const given *g, const told *answer) {
     }
 }
 
-/* The rows of a table of totals. */
-static void put_totals(const given *g, const told *answer) {
+/* The rows of a table of totals, from its three slices or its structs. */
+static void put_totals(const call *c, const given *g, const told *answer) {
     uint8_t(*owners)[32] = g->parts[TOTAL_OWNERS].at;
     const uint16_t *epochs = g->parts[TOTAL_EPOCHS].at;
     const uint64_t *totals = g->parts[TOTALS].at;
+    const petasunok_total *structs = c->parts & BIT(TOTAL_STRUCTS) ? g->parts[TOTAL_STRUCTS].at : NULL;
     size_t i;
     put("totals");
-    for (i = 0; i < answer->count; i++) put(" %c/%u:%llu", letter_of(owners[i]), epochs[i], (unsigned long long)totals[i]);
+    for (i = 0; i < answer->count; i++) {
+        const uint8_t *owner = structs ? structs[i].owner : owners[i];
+        put(" %c/%u:%llu", letter_of(owner), structs ? structs[i].epoch : epochs[i], (unsigned long long)(structs ? structs[i].total : totals[i]));
+    }
 }
 
 /* The removals of a split, and the number of records visited. */
@@ -209,7 +227,7 @@ const char *text_of(const call *c, const given *g, const told *answer) {
     else if (c->answer == SUM) put_removal(g, &answer->removal, LEFT_IDS);
     else if (c->answer == SPLIT) put_split(g, answer);
     else if (c->answer == REPAIRED) put_repaired(g, answer);
-    else if (c->answer == TABLE) put_totals(g, answer);
+    else if (c->answer == TABLE) put_totals(c, g, answer);
     else if (!answer->present) put("none");
     else if (c->answer == FLAGS) put_flags(g, answer);
     else if (c->answer == MAYBE_OWNER) put("owner %c", letter_of(answer->id.bytes));

@@ -9,8 +9,8 @@
 
 #include "lent.h"
 
-/* Lends what a text says: bytes, flags with their two tables, a removal or a table of totals with its three. There are `more` places behind
- * it. */
+/* Lends what a text says: bytes, flags with their two tables, a removal with its three, or a table of totals, as three slices and as structs.
+ * There are `more` places behind it. */
 void give_bytes(given *g, int part, const char *hex, int side);
 void give_flags(given *g, petasunok_head *head, int epochs, const char *text, size_t more, int side);
 void give_removal(given *g, petasunok_removal *removal, int ids, const char *text, size_t more, int side);

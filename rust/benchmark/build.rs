@@ -1,5 +1,5 @@
-//! Finds the archives of the programs `lookup` and `totals`: for x86-64 those that `rt staticlib` makes, for another processor those of
-//! tools/native. What else is built on this package's library does not need them.
+//! Finds the archive of the program `lookup`: for x86-64 that which `rt staticlib` makes, for another processor that of tools/native. What
+//! else is built on this package's library does not need it.
 use std::env;
 use std::path::Path;
 
@@ -7,9 +7,7 @@ fn main() {
     let here = env::var("CARGO_MANIFEST_DIR").expect("cargo names this folder");
     let arch = env::var("CARGO_CFG_TARGET_ARCH").expect("cargo names the processor");
     let folder = if arch == "x86_64" { "target/staticlib" } else { "build/native" };
-    for (program, name) in [("lookup", "lookup"), ("totals", "index_speed")] {
-        let archive = Path::new(&here).join("../..").join(folder).join(format!("lib{name}.a"));
-        println!("cargo:rerun-if-changed={}", archive.display());
-        println!("cargo:rustc-link-arg-bin={program}={}", archive.display());
-    }
+    let archive = Path::new(&here).join("../..").join(folder).join("liblookup.a");
+    println!("cargo:rerun-if-changed={}", archive.display());
+    println!("cargo:rustc-link-arg-bin=lookup={}", archive.display());
 }

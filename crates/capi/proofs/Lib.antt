@@ -1,3 +1,5 @@
 -- What the proofs share. Assumes nothing.
 pub mod Telling
 pub mod Marked
+pub mod Walking
+pub mod Only

@@ -13,9 +13,11 @@ use Rattle.rows.specs.declared.removed.Removed.the-variants.{None, Basic, Secti
 use Rattle.sums.specs.Calls.{kept as keptSum}
 use Rattle.splitting.specs.Calls.{kept as keptSplit}
 use Rattle.totals.specs.Calls.{kept as keptTotals}
+use Rattle.totals_index.specs.declared.structs.Total.{Total}
 use Rattle.repair.specs.Calls.{kept as keptRepair}
 use Rattle.capi.specs.Given.{isTrue, isKind, kindFound, isStrategy, strategyGiven, isRemoval, removedGiven}
-use Rattle.capi.specs.Told.{flagsLeft, flagsTold, countTold, truthTold, bytesLeft, bytesTold, sumLeft, sumTold, splitLeft, splitTold, totalsLeft, totalsTold, repairLeft, repairTold}
+use Rattle.capi.specs.Calls.{keptStructs}
+use Rattle.capi.specs.Told.{flagsLeft, flagsTold, countTold, truthTold, bytesLeft, bytesTold, sumLeft, sumTold, splitLeft, splitTold, totalsLeft, totalsTold, structsLeft, structsTold, repairLeft, repairTold}
 
 -- 0 to 3 are the four kinds, and no other byte is one
 pub kinds :
@@ -62,6 +64,9 @@ module _ (n : ℕ) where
 
   pub totals-refused : (t : Tables) → totalsTold (keptTotals n t) ≡ totalsLeft (record { refusal = n; count = 0 }) t
   totals-refused t = refl
+
+  pub structs-refused : (ts : List Total) (w : Tables) → structsTold (keptStructs n ts w) ≡ structsLeft (record { refusal = n; count = 0 }) ts w
+  structs-refused ts w = refl
 
   pub repair-refused : (out os cs : List ℕ) → repairTold (keptRepair n out os cs) ≡ repairLeft (record { refusal = n; bytes = 0; lines = 0 }) out os cs
   repair-refused out os cs = refl

@@ -18,9 +18,11 @@ use Rattle.splitting.specs.Calls.{After as AfterSplit, told as toldSplit, shown
 use Rattle.splitting.specs.declared.split.Splitting.{Splitting}
 use Rattle.totals.specs.Calls.{After as AfterTotals, told as toldTotals, shown as shownTotals}
 use Rattle.totals.specs.declared.replacing.Replaced.{Replaced}
+use Rattle.totals_index.specs.Calls.{After as AfterStructs, shown as shownStructs}
+use Rattle.totals_index.specs.declared.structs.Total.{Total}
 use Rattle.repair.specs.Calls.{After as AfterRepair, sizes, shown as shownRepair}
 use Rattle.repair.specs.declared.repairing.Outcome.{Outcome}
-use Rattle.capi.specs.Told.{flagsLeft, flagsAnswer, flagsTold, countTold, bytesLeft, bytesTold, sumLeft, sumAnswer, sumTold, splitLeft, splitAnswer, splitTold, totalsLeft, totalsTold, repairLeft, repairAnswer, repairTold}
+use Rattle.capi.specs.Told.{flagsLeft, flagsAnswer, flagsTold, countTold, bytesLeft, bytesTold, sumLeft, sumAnswer, sumTold, splitLeft, splitAnswer, splitTold, totalsLeft, totalsTold, structsLeft, structsTold, repairLeft, repairAnswer, repairTold}
 use Rattle.capi.specs.declared.types.CFlags.{CFlags}
 use Rattle.capi.specs.declared.types.CCount.{CCount}
 use Rattle.capi.specs.declared.types.CSum.{CSum}
@@ -60,6 +62,9 @@ split-told r a kt vt x h k = ap (λ (z : CSplit). splitLeft z kt vt) h ∙ ap sp
 
 pub totals-told : (r : CCount) (a : Replaced) (t : Tables) (x : AfterTotals) → r ≡ countTold (toldTotals a) → shownTotals a t ≡ x → totalsLeft r t ≡ totalsTold x
 totals-told r a t x h k = ap (λ (z : CCount). totalsLeft z t) h ∙ ap totalsTold k
+
+pub structs-told : (r : CCount) (a : Replaced) (ts : List Total) (w : Tables) (x : AfterStructs) → r ≡ countTold (toldTotals a) → shownStructs a ts w ≡ x → structsLeft r ts w ≡ structsTold x
+structs-told r a ts w x h k = ap (λ (z : CCount). structsLeft z ts w) h ∙ ap structsTold k
 
 pub repair-told : (r : CRepaired) (a : Outcome) (out os cs : List ℕ) (x : AfterRepair) → r ≡ repairAnswer (sizes a) → shownRepair a out os cs ≡ x → repairLeft r out os cs ≡ repairTold x
 repair-told r a out os cs x h k = ap (λ (z : CRepaired). repairLeft z out os cs) h ∙ ap repairTold k

@@ -2,8 +2,9 @@
 -- Assumes nothing.
 use Prim.Native.Nat.{ℕ}
 use mathlib.Core.Bool.{Bool, true, cond, _&&_}
+use mathlib.Core.Option.{Option}
 use mathlib.Core.List.{List}
-use Rattle.records.specs.Flags.{typeByte, ownerOf, maybeOwner, withOwner}
+use Rattle.records.specs.Flags.{Flags, typeByte, ownerOf, maybeOwner, withOwner}
 use Rattle.records.specs.declared.head.Head.{Head}
 use Rattle.records.specs.declared.head.MaybeOwner.{MaybeOwner}
 use Rattle.records.specs.Answers.{Answer, ok, refused, After, kept, Written}
@@ -17,8 +18,10 @@ use Rattle.rows.specs.Calls.{hasRemoval, totalRemoved}
 use Rattle.sums.specs.Calls.{After as AfterSum, kept as keptSum, summed}
 use Rattle.splitting.specs.Calls.{After as AfterSplit, kept as keptSplit, splitRemoved}
 use Rattle.totals.specs.Calls.{After as AfterTotals, kept as keptTotals, given, properGiven, replacing}
+use Rattle.totals_index.specs.Calls.{After as AfterStructs, replacingStructs}
+use Rattle.totals_index.specs.declared.structs.Total.{Total}
 use Rattle.removal.specs.Calls.{combinedRemoved, optionalCombinedRemoved}
-use Rattle.capi.specs.Given.{isTrue, isKind, isKindIf, headGiven, isStrategy, strategyGiven, canMerge, isRemoval, removedGiven}
+use Rattle.capi.specs.Given.{isTrue, isKind, headGiven, isStrategy, strategyGiven, canMerge, canReplace, isRemoval, removedGiven}
 use Rattle.capi.specs.declared.types.CHead.{CHead}
 use Rattle.capi.specs.declared.types.CRemoval.{CRemoval}
 use Rattle.capi.specs.declared.types.CId.{CId}
@@ -77,13 +80,27 @@ hasRemovalC x t = cond (isRemoval (x .kind)) (hasRemoval (removedGiven x) t) (re
 abbrev pub totalRemovedC : CRemoval → Tables → Answer ℕ
 totalRemovedC x t = cond (isRemoval (x .kind)) (totalRemoved (removedGiven x) t) (refused 11)
 
+-- ---- changes of totals
+
+-- a change by flags as C gives them: whether they are proper, the old ones and the new ones
+abbrev pub withFlags : {A : Type 0} → (Bool → Option Flags → Option Flags → A) → ℕ → CHead → List ℕ → List ℕ → ℕ → CHead → List ℕ → List ℕ → A
+withFlags change op old oes ocs np new nes ncs =
+    change (properGiven (isTrue op) (headGiven old) oes ocs && properGiven (isTrue np) (headGiven new) nes ncs)
+    (given (isTrue op) (headGiven old) oes ocs)
+    (given (isTrue np) (headGiven new) nes ncs)
+
 -- `petasunok_totals_replace`
 abbrev pub totalsReplacedC : ℕ → Tables → ℕ → CHead → List ℕ → List ℕ → ℕ → CHead → List ℕ → List ℕ → AfterTotals
-totalsReplacedC n t op old oes ocs np new nes ncs =
-    cond (isKindIf (isTrue op) old && isKindIf (isTrue np) new)
-    (replacing n t (properGiven (isTrue op) (headGiven old) oes ocs && properGiven (isTrue np) (headGiven new) nes ncs)
-    (given (isTrue op) (headGiven old) oes ocs) (given (isTrue np) (headGiven new) nes ncs))
-    (keptTotals 11 t)
+totalsReplacedC n t op old oes ocs np new nes ncs = cond (canReplace op old np new) (withFlags (replacing n t) op old oes ocs np new nes ncs) (keptTotals 11 t)
+
+-- a refusal over a table of structs: neither the table nor the work area has changed
+abbrev pub keptStructs : ℕ → List Total → Tables → AfterStructs
+keptStructs k ts work = record { answer = refused k; table = ts; work = work }
+
+-- `petasunok_totals_replace_structs`
+abbrev pub structsReplacedC : ℕ → List Total → Tables → ℕ → CHead → List ℕ → List ℕ → ℕ → CHead → List ℕ → List ℕ → AfterStructs
+structsReplacedC n ts work op old oes ocs np new nes ncs =
+    cond (canReplace op old np new) (withFlags (replacingStructs n ts work) op old oes ocs np new nes ncs) (keptStructs 11 ts work)
 
 -- ---- the head alone
 

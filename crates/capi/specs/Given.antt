@@ -64,6 +64,12 @@ strategyGiven b = cond (eqb b 0) RaiseIssue (cond (eqb b 1) UseOurs UseTheirs)
 abbrev pub canMerge : Bool → CHead → CHead → ℕ → Bool
 canMerge present ours theirs strategy = cond present (isKind (ours .kind)) true && (isKind (theirs .kind) && isStrategy strategy)
 
+-- ---- totals
+
+-- whether the bytes of the old and the new flags are those of kinds; absent flags are not looked at
+abbrev pub canReplace : ℕ → CHead → ℕ → CHead → Bool
+canReplace op old np new = isKindIf (isTrue op) old && isKindIf (isTrue np) new
+
 -- ---- removals
 
 -- whether a byte is that of a removal

@@ -16,6 +16,8 @@ use Rattle.rows.specs.declared.removed.Removed.the-variants.{None, Basic, Secti
 use Rattle.sums.specs.Calls.{After as AfterSum}
 use Rattle.splitting.specs.Calls.{Told, After as AfterSplit}
 use Rattle.totals.specs.Calls.{After as AfterTotals}
+use Rattle.totals_index.specs.Calls.{After as AfterStructs}
+use Rattle.totals_index.specs.declared.structs.Total.{Total}
 use Rattle.repair.specs.Calls.{Sizes, After as AfterRepair}
 use Rattle.capi.specs.declared.types.CHead.{CHead}
 use Rattle.capi.specs.declared.types.CFlags.{CFlags}
@@ -159,6 +161,20 @@ totalsLeft a t = record { answer = a; rows = t }
 -- the number of rows, or a refusal's, with the lent table
 abbrev pub totalsTold : AfterTotals → TotalsLeft
 totalsTold a = totalsLeft (countTold (a .answer)) (a .rows)
+
+-- all that a change of totals in a table of structs leaves
+pub record StructsLeft : Type 0 where
+  pub answer : CCount
+  pub table : List Total
+  pub work : Tables
+
+-- what was answered and left
+abbrev pub structsLeft : CCount → List Total → Tables → StructsLeft
+structsLeft a ts work = record { answer = a; table = ts; work = work }
+
+-- the number of rows, or a refusal's, with the lent table and work area
+abbrev pub structsTold : AfterStructs → StructsLeft
+structsTold a = structsLeft (countTold (a .answer)) (a .table) (a .work)
 
 -- ---- repairs
 

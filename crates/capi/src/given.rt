@@ -1,6 +1,6 @@
 // What C gives, as the calls take it. A byte that names no kind, removal or strategy is found before a call is made.
 ghost use mathlib.Core.Path.{_≡_};
-ghost use Rattle.capi.specs.Given.{isTrue, isKind, isKindIf, kindFound, headGiven, changesGiven, isStrategy, strategyGiven, canMerge, isRemoval, removedGiven};
+ghost use Rattle.capi.specs.Given.{isTrue, isKind, isKindIf, kindFound, headGiven, changesGiven, isStrategy, strategyGiven, canMerge, canReplace, isRemoval, removedGiven};
 ghost use Rattle.records.specs.Flags.{kindOfByte};
 use crate::types::CHead;
 use crate::types::CRemoval;
@@ -98,6 +98,16 @@ pub fn can_merge(present: bool, ours: CHead, theirs: CHead, strategy: u8) -> boo
 {
     if is_kind_if(present, ours) {
         return is_kind(theirs.kind) & is_strategy(strategy);
+    }
+    false
+}
+
+// Whether the bytes of the old and the new flags are those of kinds; absent flags are not looked at.
+pub fn can_replace(old_present: u8, old: CHead, new_present: u8, new: CHead) -> bool
+    ensures { λ r. ⌜ r ≡ canReplace «old_present» old «new_present» new ⌝ }
+{
+    if is_kind_if(is_true(old_present), old) {
+        return is_kind_if(is_true(new_present), new);
     }
     false
 }

@@ -8,6 +8,7 @@ mod removals;
 mod removing;
 mod repairing;
 mod replacing;
+mod structs;
 mod told;
 mod types;
 mod writing;

@@ -7,8 +7,6 @@ use crate::given;
 use crate::told;
 use crate::types::CCount;
 use crate::types::CHead;
-use records::Refusal;
-use totals::Replaced;
 
 // Replaces one element's old flags by new ones in a table of totals; absent flags are not looked at.
 #[no_mangle]
@@ -28,23 +26,21 @@ pub extern "C" fn petasunok_totals_replace(
 ) -> CCount
     ensures { λ r. ⌜ totalsLeft r (tables (now (owners .exit)) (now (epochs .exit)) (now (totals .exit))) ≡ totalsTold (totalsReplacedC rows (tables (now (owners .entry)) (now (epochs .entry)) (now (totals .entry))) «old_present» old (now («old_epochs» .entry)) (now («old_counts» .entry)) «new_present» new (now («new_epochs» .entry)) (now («new_counts» .entry))) ⌝ }
 {
-    let old_given = given::is_true(old_present);
-    let new_given = given::is_true(new_present);
-    if given::is_kind_if(old_given, old) & given::is_kind_if(new_given, new) {
+    if given::can_replace(old_present, old, new_present, new) {
         return told::replaced(totals::replace(
             rows,
             owners,
             epochs,
             totals,
-            old_given,
+            given::is_true(old_present),
             given::head(old),
             old_epochs,
             old_counts,
-            new_given,
+            given::is_true(new_present),
             given::head(new),
             new_epochs,
             new_counts,
         ));
     }
-    told::replaced(Replaced::Refused(Refusal::BadTable))
+    told::bad_table()
 }

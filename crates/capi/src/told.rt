@@ -131,6 +131,13 @@ pub fn replaced(answer: Replaced) -> CCount
     }
 }
 
+// The refusal where a byte of the old or the new flags names no kind.
+pub fn bad_table() -> CCount
+    ensures { λ r. ⌜ r ≡ countTold (refused 11) ⌝ }
+{
+    replaced(Replaced::Refused(Refusal::BadTable))
+}
+
 // Whose owner, or a refusal.
 pub fn owner(choice: Choice) -> COwner
     ensures { λ r. ⌜ r ≡ ownerTold choice ⌝ }

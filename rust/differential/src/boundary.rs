@@ -133,6 +133,28 @@ fn totals_replace(change: &Change) -> Reply {
     Reply::Totals { answer, table: lent.back() }
 }
 
+/// A change of totals over structs, in a table of as many as have room in each slice, with such a work area. Nothing where that is not left as
+/// it has to be: as it was where the call is refused, else with the new rows at its start, then what is left of those before.
+pub fn totals_replace_structs(change: &Change, work: &Rows<u64>) -> Option<Reply> {
+    let before: Vec<_> = change.table.first(change.table.room()).collect();
+    let to_struct = |(owner, epoch, total)| petasunok_total { owner, epoch, total };
+    let structs: Vec<_> = before.iter().copied().map(to_struct).collect();
+    let mut lent = Lent::new(&structs, to_struct(([0xa5; 32], 0xa5a5, WIDE_GUARD)));
+    let mut lent_work = LentRows::new(work, WIDE_GUARD);
+    let answer = ask!(petasunok_totals_replace_structs;
+        number change.rows, out lent, into_rows lent_work,
+        number change.old_present, flags change.old, number change.new_present, flags change.new);
+    let after: Vec<_> = lent.back().into_iter().map(|row| (row.owner, row.epoch, row.total)).collect();
+    let count = answer.count as usize;
+    let worked = match answer.refusal {
+        0 => [after.get(..count)?, before.get(count..change.rows).unwrap_or_default()].concat(),
+        _ => Vec::new(),
+    };
+    let left_well = worked.len() <= work.room() && lent_work.back() == work.with(&Rows::of(&worked));
+    // guards that were written to stand beside the rows, which are then too many
+    (left_well && after.len() == before.len()).then(|| Reply::Totals { answer, table: change.table.with(&Rows::of(&after)) })
+}
+
 /// Whose owner stands, and the part of the encoding that the header names for it.
 fn combine_owner_id(ours: &[u8], theirs: &[u8], strategy: u8) -> Reply {
     let answer = ask!(petasunok_combine_owner_id; bytes ours, bytes theirs, number strategy);

@@ -1,11 +1,12 @@
 //! The comparison of one question after another, and what came of it.
 use crate::arguments::Only;
 use crate::boundary;
-use crate::expected::{expected, Expected};
+use crate::expected::expected;
 use crate::intended::INTENDED;
 use crate::owned;
 use crate::progress::Progress;
-use crate::question::{Question, Reply, CALLS};
+use crate::question::{Change, Question, Reply, CALLS};
+use crate::values::{petasunok_count, Rows};
 
 /// The largest number of a refusal.
 const LAST_REFUSAL: usize = 14;
@@ -26,7 +27,7 @@ pub struct Tally {
 
 /// Something that is not as it has to be.
 pub struct Difference {
-    /// Which of our sides: the C boundary, or the crate's owned values.
+    /// Which of our sides: the C boundary, the same over structs, or the crate's owned values.
     pub side: &'static str,
     pub question: Question,
     pub expected: Reply,
@@ -124,16 +125,45 @@ impl Run {
         if let Some(intended) = expected.intended {
             self.intended[intended.place()] += 1;
         }
-        self.judge("the C boundary", question, &expected, Some(at_boundary));
-        self.judge("the crate's owned values", question, &expected, by_owned);
+        self.judge("the C boundary", question, &expected.reply, Some(at_boundary));
+        self.judge("the crate's owned values", question, &expected.reply, by_owned);
+        if let (Question::TotalsReplace(change), Reply::Totals { answer, table: _ }) = (question, &expected.reply) {
+            self.compare_structs(question, change, answer, &expected.reply);
+        }
         self.progress.compared(question.name());
     }
 
+    /// Asks a change of totals over structs too: with a work area that just has room for the rows before and after, or none where it is refused;
+    /// then, where it is not, with one that is a place short in one of its slices.
+    fn compare_structs(&mut self, question: &Question, change: &Change, answer: &petasunok_count, expected: &Reply) {
+        let enough = if answer.refusal == 0 { change.rows.max(answer.count as usize) } else { 0 };
+        let mut work = Rows { ids: vec![[0x5a; 32]; enough], epochs: vec![0x5a5a; enough], bytes: vec![0x5a5a; enough] };
+        self.judge_structs(question, change, &work, expected);
+        if enough > 0 {
+            match self.compared() % 3 {
+                0 => work.ids.truncate(enough - 1),
+                1 => work.epochs.truncate(enough - 1),
+                _ => work.bytes.truncate(enough - 1),
+            }
+            let short = Reply::Totals { answer: petasunok_count { refusal: 10, count: 0 }, table: change.table.clone() };
+            self.judge_structs(question, change, &work, &short);
+        }
+    }
+
+    /// Notes a difference over structs, or a work area that is not left as it has to be.
+    fn judge_structs(&mut self, question: &Question, change: &Change, work: &Rows<u64>, expected: &Reply) {
+        let found = boundary::totals_replace_structs(change, work);
+        if found.is_none() {
+            self.broken.push(format!("a work area of {} places is not left as it has to be: {change:02x?}", work.room()));
+        }
+        self.judge("the C boundary over structs", question, expected, found);
+    }
+
     /// Notes a difference of one side.
-    fn judge(&mut self, side: &'static str, question: &Question, expected: &Expected, found: Option<Reply>) {
-        if let Some(found) = found.filter(|found| *found != expected.reply) {
+    fn judge(&mut self, side: &'static str, question: &Question, expected: &Reply, found: Option<Reply>) {
+        if let Some(found) = found.filter(|found| found != expected) {
             let after = self.compared();
-            self.differences.push(Difference { side, question: question.clone(), expected: expected.reply.clone(), found, after });
+            self.differences.push(Difference { side, question: question.clone(), expected: expected.clone(), found, after });
         }
     }
 }

@@ -1,8 +1,8 @@
 //! The calls on lent memory: nothing is allocated, and an answer stands at the start of what was lent for it.
 //!
 //! There is one function here for each of the C header. Flags are a [`Head`] and two tables, a removal is a [`Removal`] and three; the
-//! head says how many places of its tables count. Totals are three tables and a number of rows. A refusal changes nothing that was lent,
-//! and an answer leaves what lies behind it.
+//! head says how many places of its tables count. Totals are a number of rows and three tables, or a slice of [`Total`]. A refusal changes
+//! nothing that was lent, work areas included, and an answer leaves what lies behind it.
 //! Reading takes up to 180 KB of the thread's stack, in proportion to the records (12 KB for 1,024); repairing takes up to 1 MiB.
 //!
 //! ```
@@ -25,7 +25,7 @@
 use crate::{Identifier, StorageFlagsError};
 
 #[doc(inline)]
-pub use crate::sys::{petasunok_head as Head, petasunok_removal as Removal};
+pub use crate::sys::{petasunok_head as Head, petasunok_removal as Removal, petasunok_total as Total};
 
 /// Calls a function of the library: `call!(name(part, ..))`, where a part is `value`, `slice` (read) or `room` (written), or stands for
 /// the parts of `flags`, `optional` flags, `rows` (read) or `rows_room` (written) in the header's order. A slice goes as its pointer and
@@ -178,7 +178,7 @@ pub struct RowsMut<'a> {
     pub bytes: &'a mut [u32],
 }
 
-/// A table of totals, whose rows stand in the first places of three slices and make room for more.
+/// A table of totals, whose rows stand in the first places of three slices and make room for more; or a work area of the same form.
 #[derive(Debug)]
 pub struct TotalsMut<'a> {
     /// Who each row's total is of; 32 zero bytes for what has no owner.

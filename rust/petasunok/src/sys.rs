@@ -99,6 +99,18 @@ pub struct petasunok_repaired {
     pub lines: usize,
 }
 
+/// A row of a table of totals, which stands in the first places of a slice.
+#[repr(C)]
+#[derive(Clone, Copy, Debug, Default, PartialEq, Eq, PartialOrd, Ord, Hash)]
+pub struct petasunok_total {
+    /// Who paid; 32 zero bytes for what has no owner.
+    pub owner: [u8; 32],
+    /// In which epoch the bytes were added.
+    pub epoch: u16,
+    /// How many bytes all elements together count; not 0.
+    pub total: u64,
+}
+
 /// Declares functions of the library by their parts: `value`, `slice` (read) and `room` (written), and `flags`, `rows` (read) and
 /// `rows_room` (written), which stand for their tables in the header's order.
 macro_rules! declare {
@@ -157,5 +169,8 @@ declare! {
     petasunok_repair(slice src: u8, room out: u8, room offsets: usize, room changes: u8) -> petasunok_repaired;
     petasunok_totals_replace(
         value rows: usize, room owners: [u8; 32], room epochs: u16, room totals: u64,
+        value old_present: u8, flags old_flags, value new_present: u8, flags new_flags) -> petasunok_count;
+    petasunok_totals_replace_structs(
+        value rows: usize, room table: petasunok_total, room owners: [u8; 32], room epochs: u16, room totals: u64,
         value old_present: u8, flags old_flags, value new_present: u8, flags new_flags) -> petasunok_count;
 }

@@ -30,4 +30,5 @@ fn structs_are_laid_out_as_in_c() {
     assert_layout!(petasunok_id: 32, 1; bytes 0 32);
     assert_layout!(petasunok_maybe_owner: 40, 4; refusal 0 4, present 4 1, id 5 32);
     assert_layout!(petasunok_repaired: 24, 8; refusal 0 4, bytes 8 8, lines 16 8);
+    assert_layout!(petasunok_total: 48, 8; owner 0 32, epoch 32 2, total 40 8);
 }

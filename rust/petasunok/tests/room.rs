@@ -91,12 +91,22 @@ fn totals() {
             rooms[place] = short;
             assert_eq!(both::totals_replace(&totals, old, new, rooms), Err(NoRoom), "{rooms:?}");
         }
+        // over structs each slice of the work area needs as much, and more of a table than that does not matter
+        let over_structs = |works| both::totals_replace_structs(&totals, old, new, ENOUGH, works);
+        assert_eq!(over_structs([room; 3]), answer, "exact work area");
+        for (place, short) in (0..3).flat_map(|place| (0..room).map(move |short| (place, short))) {
+            let mut works = [ENOUGH; 3];
+            works[place] = short;
+            assert_eq!(over_structs(works), Err(NoRoom), "{works:?}");
+        }
     };
     needs_each(2, 4, None, Some(&new));
     needs_each(2, 3, None, Some(&owned(&new)));
     // the row at 9 goes and that at 6 comes
     needs_each(2, 2, Some(&owned(&old)), Some(&owned(&new)));
     needs_each(2, 3, Some(&owned(&old)), Some(&new));
+    // the row at 9 goes, and the rows before need room to work in
+    needs_each(2, 2, Some(&owned(&records([(9, 5)]))), None);
 }
 
 /// The tables need not be of one length; the shorter one decides.

@@ -1,7 +1,7 @@
 //! Totals per owner and epoch: what a change does to the rows, each refusal and their order, over the owned calls and the lent ones.
 mod both;
 use both::ENOUGH;
-use petasunok::lent::{self, Flags, Head, TotalsMut};
+use petasunok::lent::{self, Flags, Head, Total, TotalsMut};
 use petasunok::StorageFlags::{self, *};
 use petasunok::StorageFlagsError::{self, *};
 use petasunok::{EpochMap, Identifier, Totals};
@@ -50,13 +50,18 @@ fn replaced(rows: &[Row], old: Option<&StorageFlags>, new: Option<&StorageFlags>
 fn check(rows: &[Row], old: Option<&StorageFlags>, new: Option<&StorageFlags>, after: &[Row]) {
     assert_eq!(replaced(rows, old, new), Ok(totals(after)), "{old:?} to {new:?}");
     assert_eq!(replaced(after, new, old), Ok(totals(rows)), "{new:?} back to {old:?}");
+    let most = rows.len().max(after.len());
+    let just = both::totals_replace_structs(&totals(rows), old, new, ENOUGH, [most; 3]);
+    assert_eq!(just, Ok(totals(after)), "{old:?} to {new:?} with just enough to work in");
 }
 
-/// Checks a refusal, also where there is no room behind the rows.
+/// Checks a refusal, also where there is no room behind the rows, and over structs nothing to work in.
 fn refused(rows: &[Row], old: Option<&StorageFlags>, new: Option<&StorageFlags>, refusal: StorageFlagsError) {
     assert_eq!(replaced(rows, old, new), Err(refusal), "{old:?} to {new:?}");
     let tight = both::totals_replace(&totals(rows), old, new, [rows.len(); 3]);
     assert_eq!(tight, Err(refusal), "{old:?} to {new:?} without room");
+    let tight = both::totals_replace_structs(&totals(rows), old, new, rows.len(), [0; 3]);
+    assert_eq!(tight, Err(refusal), "{old:?} to {new:?} with nothing to work in");
 }
 
 #[test]
@@ -230,6 +235,41 @@ fn bad_lent_values() {
         });
         assert_eq!(call(2, [2; 3], Some(bad), None), Err(BadTable), "{kind}");
         assert_eq!(call(2, [2; 3], None, Some(bad)), Err(BadTable), "{kind}");
+    }
+}
+
+/// The same over structs: 11 comes before a work area is looked at.
+#[test]
+fn bad_lent_values_over_structs() {
+    let call = |rows: usize, room: usize, work: usize, old: Option<Flags>| {
+        let before = [7, 8].map(|epoch| Total { owner: A, epoch, total: 1 });
+        let (mut table, mut owners, mut epochs, mut totals) = (before, [B; 3], [9; 3], [9; 3]);
+        let work = TotalsMut {
+            owners: &mut owners[..work],
+            epochs: &mut epochs[..work],
+            totals: &mut totals[..work],
+        };
+        let answer = lent::totals_replace_structs(rows, &mut table[..room], work, old, None);
+        assert_eq!(table, before);
+        assert!(answer.is_ok() || (owners, epochs, totals) == ([B; 3], [9; 3], [9; 3]));
+        answer
+    };
+    let bad = |kind, records| {
+        Flags::of(Head {
+            kind,
+            records,
+            ..Head::default()
+        })
+    };
+    for work in [0, 1, 2, 3] {
+        for rows in [2, 3, usize::MAX] {
+            assert_eq!(call(rows, 1, work, None), Err(BadTable), "{rows}");
+        }
+        for (kind, records) in [(4, 0), (255, 0), (1, 1), (0, 1), (3, usize::MAX)] {
+            assert_eq!(call(2, 2, work, Some(bad(kind, records))), Err(BadTable), "{kind}");
+        }
+        assert_eq!(call(2, 2, work, None), if work < 2 { Err(NoRoom) } else { Ok(2) });
+        assert_eq!(call(0, 2, work, None), Ok(0));
     }
 }
 

@@ -2,7 +2,7 @@
 //!
 //! The names are those of the calls. The answers of both have to be equal, unless the room is too small.
 #![allow(dead_code)] // each test file uses a part of it
-use petasunok::lent::{self, Head, Removal, RowsMut, TotalsMut};
+use petasunok::lent::{self, Head, Removal, RowsMut, Total, TotalsMut};
 use petasunok::*;
 
 pub type Answer<T> = Result<T, StorageFlagsError>;
@@ -111,6 +111,16 @@ impl Rows<u32> {
     }
 }
 
+impl Rows<u64> {
+    fn lend(&mut self) -> TotalsMut<'_> {
+        TotalsMut {
+            owners: &mut self.0,
+            epochs: &mut self.1,
+            totals: &mut self.2,
+        }
+    }
+}
+
 /// The lent answer, after it was seen that the owned one is equal, or that only the room was too small.
 fn agreed<T: PartialEq + std::fmt::Debug>(owned: Answer<T>, lent: Answer<T>) -> Answer<T> {
     assert_ne!(owned, Err(StorageFlagsError::NoRoom), "an owned call has room");
@@ -212,19 +222,64 @@ pub fn repair(data: &[u8], rooms: RepairRoom) -> Answer<Repaired> {
     agreed(petasunok::repair(data), answer.map(|_| Repaired { bytes, lines }))
 }
 
-/// The totals after a change, with tables of such lengths, each at least as long as the given rows.
+/// The totals after a change, with tables of such lengths, each at least as long as the given rows. Over structs it is the same.
 pub fn totals_replace(totals: &Totals, old: Option<&StorageFlags>, new: Option<&StorageFlags>, rooms: [usize; 3]) -> Answer<Totals> {
     let before = Rows::in_room(totals.clone(), rooms);
     let mut rows = before.clone();
-    let table = TotalsMut {
-        owners: &mut rows.0,
-        epochs: &mut rows.1,
-        totals: &mut rows.2,
-    };
-    let answer = lent::totals_replace(totals.len(), table, old.map(StorageFlags::as_lent), new.map(StorageFlags::as_lent));
+    let answer = lent::totals_replace(
+        totals.len(),
+        rows.lend(),
+        old.map(StorageFlags::as_lent),
+        new.map(StorageFlags::as_lent),
+    );
     let after = rows.first(&before, answer.unwrap_or(0));
     let mut changed = totals.clone();
     let owned = changed.replace(old, new);
     assert!(owned.is_ok() || changed == *totals, "a refusal has changed the totals");
-    agreed(owned.map(|()| changed), answer.map(|_| after))
+    let lent = agreed(owned.map(|()| changed), answer.map(|_| after));
+    let structs = totals_replace_structs(totals, old, new, rooms[0].min(rooms[1]).min(rooms[2]), [ENOUGH; 3]);
+    assert_eq!(structs, lent, "structs and slices");
+    lent
+}
+
+/// Rows as structs, and back.
+fn to_structs(totals: &Totals) -> Vec<Total> {
+    let row = |(owner, epoch, total): (&Identifier, u16, u64)| Total {
+        owner: *owner,
+        epoch,
+        total,
+    };
+    totals.iter().map(row).collect()
+}
+
+fn from_structs(rows: &[Total]) -> Totals {
+    let (owners, epochs) = rows.iter().map(|row| (row.owner, row.epoch)).unzip();
+    Totals::from_tables(owners, epochs, rows.iter().map(|row| row.total).collect()).unwrap()
+}
+
+/// The totals after a change over structs, with so much room in the table, which has at least the given rows, and in the work area. A
+/// refusal changes neither; otherwise the work area has the new rows, then what is left of those before.
+pub fn totals_replace_structs(
+    totals: &Totals,
+    old: Option<&StorageFlags>,
+    new: Option<&StorageFlags>,
+    room: usize,
+    works: [usize; 3],
+) -> Answer<Totals> {
+    let (mut before, work_before) = (to_structs(totals), Rows::in_room(Totals::new(), works));
+    let mark = Total {
+        owner: [MARK; 32],
+        epoch: MARK.into(),
+        total: MARK.into(),
+    };
+    before.resize(room, mark);
+    let (mut table, mut work) = (before.clone(), work_before.clone());
+    let (old, new) = (old.map(StorageFlags::as_lent), new.map(StorageFlags::as_lent));
+    let answer = lent::totals_replace_structs(totals.len(), &mut table, work.lend(), old, new);
+    let rows = answer.unwrap_or(0);
+    assert_eq!(table[rows..], before[rows..], "behind the answer, or after a refusal");
+    let left = if answer.is_ok() { totals.len().max(rows) } else { 0 };
+    let worked = [&table[..rows], &before[rows.min(left)..left]].concat();
+    assert_eq!(work.first(&work_before, left), from_structs(&worked), "the work area");
+    answer.map(|rows| from_structs(&table[..rows]))
 }

@@ -2,36 +2,9 @@
 use crate::inputs::{Question, MORE};
 use crate::plain::{plain_totals_replace, Row};
 use benchmark::rounds::Contestant;
-use petasunok::lent::{self, Flags, Head, TotalsMut};
-use petasunok::sys::petasunok_head;
+use petasunok::lent::{self, Flags, TotalsMut};
 use petasunok::StorageFlags;
 use std::hint::black_box;
-
-extern "C" {
-    fn petasunok_index_replace(
-        rows: usize,
-        table: *mut Row,
-        table_len: usize,
-        owners: *mut [u8; 32],
-        owners_len: usize,
-        epochs: *mut u16,
-        epochs_len: usize,
-        totals: *mut u64,
-        totals_len: usize,
-        old_present: bool,
-        old: petasunok_head,
-        old_epochs: *const u16,
-        old_epochs_len: usize,
-        old_counts: *const u32,
-        old_counts_len: usize,
-        new_present: bool,
-        new: petasunok_head,
-        new_epochs: *const u16,
-        new_epochs_len: usize,
-        new_counts: *const u32,
-        new_counts_len: usize,
-    ) -> usize;
-}
 
 /// A table in three slices, with room behind its rows.
 pub struct Slices {
@@ -45,6 +18,10 @@ impl Slices {
         let rows = || rows.iter().copied().chain(std::iter::repeat_n(Row::default(), more));
         let (owners, epochs) = rows().map(|row| (row.owner, row.epoch)).unzip();
         Slices { owners, epochs, totals: rows().map(|row| row.total).collect() }
+    }
+
+    fn lend(&mut self) -> TotalsMut<'_> {
+        TotalsMut { owners: &mut self.owners, epochs: &mut self.epochs, totals: &mut self.totals }
     }
 }
 
@@ -128,8 +105,7 @@ pub fn core_in<'a>(question: &'a Question, copies: usize) -> impl Contest + 'a {
         copies,
         || Slices::new(question.table, MORE),
         move |table: &mut Slices| {
-            let table = TotalsMut { owners: &mut table.owners, epochs: &mut table.epochs, totals: &mut table.totals };
-            lent::totals_replace(rows, table, flags(&question.old), flags(&question.new)).expect("the change is accepted")
+            lent::totals_replace(rows, table.lend(), flags(&question.old), flags(&question.new)).expect("the change is accepted")
         },
     )
 }
@@ -141,27 +117,11 @@ pub fn structs_in<'a>(question: &'a Question, copies: usize) -> impl Contest + '
     Program::new(
         copies,
         || [question.table, &[Row::default(); MORE]].concat(),
-        move |table: &mut Vec<Row>| index_replace(rows, table, &mut work, flags(&question.old), flags(&question.new)),
+        move |table: &mut Vec<Row>| {
+            lent::totals_replace_structs(rows, table, work.lend(), flags(&question.old), flags(&question.new))
+                .expect("the change is accepted")
+        },
     )
-}
-
-/// Calls the function on a slice of structs.
-fn index_replace(rows: usize, table: &mut [Row], work: &mut Slices, old: Option<Flags>, new: Option<Flags>) -> usize {
-    let none = Flags::of(Head::default());
-    let (old_present, new_present) = (old.is_some(), new.is_some());
-    let (old, new) = (old.unwrap_or(none), new.unwrap_or(none));
-    // SAFETY: each pointer comes with the length of its slice, and what is written is lent to this call alone
-    #[rustfmt::skip] // a slice's pointer and length stand on one line
-    let answer = unsafe {
-        petasunok_index_replace(
-            rows, table.as_mut_ptr(), table.len(),
-            work.owners.as_mut_ptr(), work.owners.len(), work.epochs.as_mut_ptr(), work.epochs.len(), work.totals.as_mut_ptr(), work.totals.len(),
-            old_present, old.head, old.epochs.as_ptr(), old.epochs.len(), old.counts.as_ptr(), old.counts.len(),
-            new_present, new.head, new.epochs.as_ptr(), new.epochs.len(), new.counts.as_ptr(), new.counts.len(),
-        )
-    };
-    assert_ne!(answer, 0, "the change is accepted, and rows are left");
-    answer
 }
 
 /// The plain program.

@@ -82,7 +82,7 @@ fn counted(question: &Question, counts: bool) -> Result<String, String> {
     }
     let rows = question.rows().to_string();
     let arguments = ["once", &rows, question.owners.name(), question.change.name()];
-    let functions = ["petasunok_totals_replace", "petasunok_index_replace", "plain_totals_replace"];
+    let functions = ["petasunok_totals_replace", "petasunok_totals_replace_structs", "plain_totals_replace"];
     let [core, structs, plain] = callgrind::instructions(&arguments, functions)?;
     Ok(format!("{core} | {structs} | {plain}"))
 }

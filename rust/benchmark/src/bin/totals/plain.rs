@@ -1,20 +1,11 @@
 //! The change of totals in plain Rust: rows in one sorted vector, with the checks that the call makes.
 use petasunok::lent::Flags;
 
-/// A row of the table, laid out as C does it.
-#[repr(C)]
-#[derive(Clone, Copy, Debug, Default, PartialEq, Eq)]
-pub struct Row {
-    pub owner: [u8; 32],
-    pub epoch: u16,
-    pub total: u64,
-}
+pub use petasunok::lent::Total as Row;
 
-impl Row {
-    /// Its owner and epoch, by which rows ascend.
-    fn pair(&self) -> (&[u8; 32], u16) {
-        (&self.owner, self.epoch)
-    }
+/// A row's owner and epoch, by which rows ascend.
+fn pair(row: &Row) -> (&[u8; 32], u16) {
+    (&row.owner, row.epoch)
 }
 
 /// The records of flags that may be absent, and under whom they are counted.
@@ -51,7 +42,7 @@ impl<'a> Named<'a> {
 
 /// Where a pair's row stands, or would stand.
 fn find(table: &[Row], owner: &[u8; 32], epoch: u16) -> Result<usize, usize> {
-    table.binary_search_by(|row| row.pair().cmp(&(owner, epoch)))
+    table.binary_search_by(|row| pair(row).cmp(&(owner, epoch)))
 }
 
 /// The total of a pair.
@@ -61,7 +52,7 @@ fn total(table: &[Row], owner: &[u8; 32], epoch: u16) -> u64 {
 
 /// Whether rows ascend, no pair stands twice, and no total is 0.
 fn proper(table: &[Row]) -> bool {
-    table.is_sorted_by(|before, behind| before.pair() < behind.pair()) && table.iter().all(|row| row.total != 0)
+    table.is_sorted_by(|before, behind| pair(before) < pair(behind)) && table.iter().all(|row| row.total != 0)
 }
 
 /// Replaces an element's old flags by new ones, where no more than `room` rows may stand; the number of a refusal changes nothing.

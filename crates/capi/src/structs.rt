@@ -1,0 +1,50 @@
+// Replacing flags in a table of totals that is a slice of structs, for C.
+ghost use mathlib.Core.Path.{_≡_};
+ghost use Rattle.rows.specs.Rows.{tables};
+ghost use Rattle.capi.specs.Told.{structsLeft, structsTold};
+ghost use Rattle.capi.specs.Calls.{structsReplacedC};
+use crate::given;
+use crate::told;
+use crate::types::CCount;
+use crate::types::CHead;
+use totals_index::Total;
+
+// Replaces one element's old flags by new ones in a table of structs, with three slices as a work area; absent flags are not looked at. It branches
+// on the test of the form over slices, so that both are one definition with another call inside.
+#[no_mangle]
+pub extern "C" fn petasunok_totals_replace_structs(
+    rows: usize,
+    table: &mut [Total],
+    owners: &mut [[u8; 32]],
+    epochs: &mut [u16],
+    totals: &mut [u64],
+    old_present: u8,
+    old: CHead,
+    old_epochs: &[u16],
+    old_counts: &[u32],
+    new_present: u8,
+    new: CHead,
+    new_epochs: &[u16],
+    new_counts: &[u32],
+) -> CCount
+    ensures { λ r. ⌜ structsLeft r (now (table .exit)) (tables (now (owners .exit)) (now (epochs .exit)) (now (totals .exit))) ≡ structsTold (structsReplacedC rows (now (table .entry)) (tables (now (owners .entry)) (now (epochs .entry)) (now (totals .entry))) «old_present» old (now («old_epochs» .entry)) (now («old_counts» .entry)) «new_present» new (now («new_epochs» .entry)) (now («new_counts» .entry))) ⌝ }
+{
+    if given::can_replace(old_present, old, new_present, new) {
+        return told::replaced(totals_index::replace(
+            rows,
+            table,
+            owners,
+            epochs,
+            totals,
+            given::is_true(old_present),
+            given::head(old),
+            old_epochs,
+            old_counts,
+            given::is_true(new_present),
+            given::head(new),
+            new_epochs,
+            new_counts,
+        ));
+    }
+    told::bad_table()
+}
