@@ -16,7 +16,7 @@ use Rattle.totals.specs.Calls.{kept as keptTotals}
 use Rattle.totals_index.specs.declared.structs.Total.{Total}
 use Rattle.repair.specs.Calls.{kept as keptRepair}
 use Rattle.capi.specs.Given.{isTrue, isKind, kindFound, isStrategy, strategyGiven, isRemoval, removedGiven}
-use Rattle.capi.specs.Calls.{keptStructs}
+use Rattle.totals_index.specs.Calls.{kept as keptStructs}
 use Rattle.capi.specs.Told.{flagsLeft, flagsTold, countTold, truthTold, bytesLeft, bytesTold, sumLeft, sumTold, splitLeft, splitTold, totalsLeft, totalsTold, structsLeft, structsTold, repairLeft, repairTold}
 
 -- 0 to 3 are the four kinds, and no other byte is one

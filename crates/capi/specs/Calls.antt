@@ -18,7 +18,7 @@ use Rattle.rows.specs.Calls.{hasRemoval, totalRemoved}
 use Rattle.sums.specs.Calls.{After as AfterSum, kept as keptSum, summed}
 use Rattle.splitting.specs.Calls.{After as AfterSplit, kept as keptSplit, splitRemoved}
 use Rattle.totals.specs.Calls.{After as AfterTotals, kept as keptTotals, given, properGiven, replacing}
-use Rattle.totals_index.specs.Calls.{After as AfterStructs, replacingStructs}
+use Rattle.totals_index.specs.Calls.{After as AfterStructs, kept as keptStructs, replacingStructs}
 use Rattle.totals_index.specs.declared.structs.Total.{Total}
 use Rattle.removal.specs.Calls.{combinedRemoved, optionalCombinedRemoved}
 use Rattle.capi.specs.Given.{isTrue, isKind, headGiven, isStrategy, strategyGiven, canMerge, canReplace, isRemoval, removedGiven}
@@ -92,10 +92,6 @@ withFlags change op old oes ocs np new nes ncs =
 -- `petasunok_totals_replace`
 abbrev pub totalsReplacedC : ℕ → Tables → ℕ → CHead → List ℕ → List ℕ → ℕ → CHead → List ℕ → List ℕ → AfterTotals
 totalsReplacedC n t op old oes ocs np new nes ncs = cond (canReplace op old np new) (withFlags (replacing n t) op old oes ocs np new nes ncs) (keptTotals 11 t)
-
--- a refusal over a table of structs: neither the table nor the work area has changed
-abbrev pub keptStructs : ℕ → List Total → Tables → AfterStructs
-keptStructs k ts work = record { answer = refused k; table = ts; work = work }
 
 -- `petasunok_totals_replace_structs`
 abbrev pub structsReplacedC : ℕ → List Total → Tables → ℕ → CHead → List ℕ → List ℕ → ℕ → CHead → List ℕ → List ℕ → AfterStructs

@@ -16,3 +16,4 @@ pub mod Judged
 pub mod Folding
 pub mod Indexing
 pub mod Afterwards
+pub mod Marked
