@@ -117,9 +117,6 @@ module _ (j : Judging) where
   pub judging-typed : {M : Type 1} (𝓤 : URA M) (H : Heap 𝓤) (A : Atoms 𝓤) → Given 𝓤 H A → IsJudging → JudgingTyped
   judging-typed 𝓤 H A W g = LL.lawful J.the-type J′.the-laws 𝓤 H A W .typed j _ g .0
 
-  pub upto-fits : IsJudging → j .upto < 2 ^ 64
-  upto-fits g = LL.owed J.the-type J′.the-laws j _ g .1 .0 .1
-
 -- ---- every element of a row tells its relation; the row stays
 module _ {M : Type 1} {𝓤 : URA M} {H : Heap 𝓤} {A : Atoms 𝓤} {K : Type 0} {W : Given 𝓤 H A} {Γ : List (Item 𝓤)} {G : Goal 𝓤 H} where
   pub all-tell : K → (R : RattleType) (P : Rel R) → Shows 𝓤 H A R P → (vals : R .Denot → List Val) → Tells R P vals → (q : Share) (ys : List (R .Denot)) (d : R .Denot) (b o : ℕ) (m : ℕ) → m ≤ length ys

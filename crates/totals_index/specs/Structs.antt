@@ -2,8 +2,7 @@
 -- Assumes nothing.
 use Prim.Native.Nat.{ℕ}
 use mathlib.Core.List.{List, [], _∷_}
-use Rattle.records.specs.Tables.{recordsOf}
-use Rattle.rows.specs.Rows.{Row, Tables, tables, rowsOf}
+use Rattle.rows.specs.Rows.{Row, Tables, tables}
 use Rattle.totals_index.specs.declared.structs.Total.{Total}
 
 -- the owners of a table, in order
@@ -29,7 +28,3 @@ columns ts = tables (ownersOf ts) (epochsOf ts) (totalsOf ts)
 unfoldable pub structs : List Row → List Total
 structs [] = []
 structs (r ∷ rs) = record { owner = r .identifier; epoch = r .part .epoch; total = r .part .bytes } ∷ structs rs
-
--- three columns as structs, place by place
-abbrev pub structsIn : Tables → List Total
-structsIn t = structs (rowsOf (t .ids) (recordsOf (t .epochs) (t .bytes)))
