@@ -133,11 +133,17 @@ impl Run {
         self.progress.compared(question.name());
     }
 
-    /// Asks a change of totals over structs too: with a work area that just has room for the rows before and after, or none where it is refused;
-    /// then, where it is not, with one that is a place short in one of its slices.
+    /// Asks a change of totals over structs too. Where it is accepted, with a work area that just has room for the rows before and after, then
+    /// with one that is a place short in one of its slices; where it is refused, without a work area, then with one that is longer than the table.
     fn compare_structs(&mut self, question: &Question, change: &Change, answer: &petasunok_count, expected: &Reply) {
-        let enough = if answer.refusal == 0 { change.rows.max(answer.count as usize) } else { 0 };
-        let mut work = Rows { ids: vec![[0x5a; 32]; enough], epochs: vec![0x5a5a; enough], bytes: vec![0x5a5a; enough] };
+        let places = |n| Rows { ids: vec![[0x5a; 32]; n], epochs: vec![0x5a5a; n], bytes: vec![0x5a5a; n] };
+        if answer.refusal != 0 {
+            self.judge_structs(question, change, &places(0), expected);
+            self.judge_structs(question, change, &places(change.table.room() + 1), expected);
+            return;
+        }
+        let enough = change.rows.max(answer.count as usize);
+        let mut work = places(enough);
         self.judge_structs(question, change, &work, expected);
         if enough > 0 {
             match self.compared() % 3 {
