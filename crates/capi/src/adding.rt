@@ -1,12 +1,12 @@
 // The adding merge, for C.
 ghost use mathlib.Core.Path.{_≡_};
-ghost use Rattle.capi.specs.Told.{flagsLeft, flagsTold};
-ghost use Rattle.capi.specs.Calls.{combinedAddedC, optionalCombinedAddedC};
+ghost use Rattle.capi_spec.specs.Told.{flagsLeft, flagsTold};
+ghost use Rattle.capi_spec.specs.Calls.{combinedAddedC, optionalCombinedAddedC};
 use crate::given;
 use crate::told;
-use crate::types::CFlags;
-use crate::types::CHead;
-use records::Refusal;
+use capi_spec::CFlags;
+use capi_spec::CHead;
+use records_spec::Refusal;
 
 // Merges ours with the incoming flags that came with added bytes.
 #[no_mangle]

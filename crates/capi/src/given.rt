@@ -1,16 +1,16 @@
 // What C gives, as the calls take it. A byte that names no kind, removal or strategy is found before a call is made.
 ghost use mathlib.Core.Path.{_≡_};
-ghost use Rattle.capi.specs.Given.{isTrue, isKind, isKindIf, kindFound, headGiven, changesGiven, isStrategy, strategyGiven, canMerge, canReplace, isRemoval, removedGiven};
-ghost use Rattle.records.specs.Flags.{kindOfByte};
-use crate::types::CHead;
-use crate::types::CRemoval;
-use codec::Changes;
-use flags::MergingOwnersStrategy;
-use records::Head;
-use records::Kind;
-use records::KindByte;
-use rows::Removed;
-use rows::StorageRemovedBytes;
+ghost use Rattle.capi_spec.specs.Given.{isTrue, isKind, isKindIf, kindFound, headGiven, changesGiven, isStrategy, strategyGiven, canMerge, canReplace, isRemoval, removedGiven};
+ghost use Rattle.records_spec.specs.Flags.{kindOfByte};
+use capi_spec::CHead;
+use capi_spec::CRemoval;
+use codec_spec::Changes;
+use flags_spec::MergingOwnersStrategy;
+use records_spec::Head;
+use records_spec::Kind;
+use records_spec::KindByte;
+use rows_spec::Removed;
+use rows_spec::StorageRemovedBytes;
 
 // Whether a byte says yes.
 pub fn is_true(byte: u8) -> bool

@@ -1,20 +1,20 @@
 // The calls on a head alone, for C.
 ghost use mathlib.Core.Path.{_≡_};
-ghost use Rattle.records.specs.Flags.{ownerIf, headFor};
-ghost use Rattle.capi.specs.Given.{isTrue};
-ghost use Rattle.capi.specs.Told.{headTold, headAnswer, countTold, ownerIdTold};
-ghost use Rattle.capi.specs.Calls.{withOwnerC, baseC, ownerIdC, typeByteC};
+ghost use Rattle.records_spec.specs.Flags.{ownerIf, headFor};
+ghost use Rattle.capi_spec.specs.Given.{isTrue};
+ghost use Rattle.capi_spec.specs.Told.{headTold, headAnswer, countTold, ownerIdTold};
+ghost use Rattle.capi_spec.specs.Calls.{withOwnerC, baseC, ownerIdC, typeByteC};
 use crate::given;
 use crate::told;
-use crate::types::CCount;
-use crate::types::CFlags;
-use crate::types::CHead;
-use crate::types::CId;
-use crate::types::CMaybeOwner;
-use records::Counted;
-use records::Head;
-use records::MaybeOwner;
-use records::Refusal;
+use capi_spec::CCount;
+use capi_spec::CFlags;
+use capi_spec::CHead;
+use capi_spec::CId;
+use capi_spec::CMaybeOwner;
+use records_spec::Counted;
+use records_spec::Head;
+use records_spec::MaybeOwner;
+use records_spec::Refusal;
 
 // Flags whose bytes were all paid in one epoch.
 #[no_mangle]
@@ -26,7 +26,7 @@ pub extern "C" fn petasunok_new_single_epoch(epoch: u16, owned: u8, owner: CId) 
         owned: given::is_true(owned),
         id,
     };
-    told::head(Head::new_single_epoch(epoch, maybe_owner_id))
+    told::head(records::new_single_epoch(epoch, maybe_owner_id))
 }
 
 // The head with another owner, where it is owned.
@@ -37,7 +37,7 @@ pub extern "C" fn petasunok_set_owner_id(head: CHead, owner: CId) -> CFlags
     if given::is_kind(head.kind) {
         let found = given::head(head);
         let id = owner.bytes;
-        return told::flags(records::present(found.set_owner_id(id)));
+        return told::flags(records::present(records::set_owner_id(found, id)));
     }
     told::flags(records::refused(Refusal::BadTable))
 }
@@ -49,7 +49,7 @@ pub extern "C" fn petasunok_base_epoch(head: CHead) -> CCount
 {
     if given::is_kind(head.kind) {
         let found = given::head(head);
-        return told::count(Counted::Count(found.base_epoch() as usize));
+        return told::count(Counted::Count(records::base_epoch(found) as usize));
     }
     told::count(Counted::Refused(Refusal::BadTable))
 }
@@ -61,7 +61,7 @@ pub extern "C" fn petasunok_owner_id(head: CHead) -> CMaybeOwner
 {
     if given::is_kind(head.kind) {
         let found = given::head(head);
-        return told::owner_id(found.owner_id());
+        return told::owner_id(records::owner_id(found));
     }
     told::no_owner_id(Refusal::BadTable)
 }
@@ -73,7 +73,7 @@ pub extern "C" fn petasunok_type_byte(head: CHead) -> CCount
 {
     if given::is_kind(head.kind) {
         let found = given::head(head);
-        return told::count(Counted::Count(found.type_byte() as usize));
+        return told::count(Counted::Count(records::type_byte(found) as usize));
     }
     told::count(Counted::Refused(Refusal::BadTable))
 }

@@ -10,16 +10,4 @@ mod repairing;
 mod replacing;
 mod structs;
 mod told;
-mod types;
 mod writing;
-
-pub use types::CCount;
-pub use types::CFlags;
-pub use types::CHead;
-pub use types::CId;
-pub use types::CMaybeOwner;
-pub use types::COwner;
-pub use types::CRemoval;
-pub use types::CRepaired;
-pub use types::CSplit;
-pub use types::CSum;

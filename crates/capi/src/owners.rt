@@ -1,12 +1,12 @@
 // The owner rule, for C.
 ghost use mathlib.Core.Path.{_≡_};
-ghost use Rattle.capi.specs.Told.{ownerTold};
-ghost use Rattle.capi.specs.Calls.{ownerC};
+ghost use Rattle.capi_spec.specs.Told.{ownerTold};
+ghost use Rattle.capi_spec.specs.Calls.{ownerC};
 use crate::given;
 use crate::told;
-use crate::types::COwner;
-use flags::Choice;
-use records::Refusal;
+use capi_spec::COwner;
+use flags_spec::Choice;
+use records_spec::Refusal;
 
 // Whose owner stands in two encodings.
 #[no_mangle]

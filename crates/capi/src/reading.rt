@@ -1,10 +1,10 @@
 // Reading flags, for C.
 ghost use mathlib.Core.Path.{_≡_};
-ghost use Rattle.records.specs.declared.head.Kind.the-variants.{SingleEpoch, MultiEpoch, SingleEpochOwned, MultiEpochOwned};
-ghost use Rattle.codec.specs.Calls.{deserializedAs, deserialized};
-ghost use Rattle.capi.specs.Told.{flagsLeft, flagsTold};
+ghost use Rattle.records_spec.specs.declared.head.Kind.the-variants.{SingleEpoch, MultiEpoch, SingleEpochOwned, MultiEpochOwned};
+ghost use Rattle.codec_spec.specs.Calls.{deserializedAs, deserialized};
+ghost use Rattle.capi_spec.specs.Told.{flagsLeft, flagsTold};
 use crate::told;
-use crate::types::CFlags;
+use capi_spec::CFlags;
 
 // Reads flags of the kind that byte 0 names.
 #[no_mangle]

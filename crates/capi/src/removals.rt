@@ -1,20 +1,20 @@
 // Splitting and adding up removals, for C.
 ghost use mathlib.Core.Path.{_≡_};
-ghost use Rattle.rows.specs.Rows.{tables};
-ghost use Rattle.capi.specs.Told.{countTold, truthTold, sumLeft, sumTold, splitLeft, splitTold};
-ghost use Rattle.capi.specs.Calls.{splitRemovedC, summedC, hasRemovalC, totalRemovedC};
+ghost use Rattle.rows_spec.specs.Rows.{tables};
+ghost use Rattle.capi_spec.specs.Told.{countTold, truthTold, sumLeft, sumTold, splitLeft, splitTold};
+ghost use Rattle.capi_spec.specs.Calls.{splitRemovedC, summedC, hasRemovalC, totalRemovedC};
 use crate::given;
 use crate::told;
-use crate::types::CCount;
-use crate::types::CHead;
-use crate::types::CRemoval;
-use crate::types::CSplit;
-use crate::types::CSum;
-use records::Refusal;
-use rows::HasRemoval;
-use rows::Total;
-use splitting::Splitting;
-use sums::Summed;
+use capi_spec::CCount;
+use capi_spec::CHead;
+use capi_spec::CRemoval;
+use capi_spec::CSplit;
+use capi_spec::CSum;
+use records_spec::Refusal;
+use rows_spec::HasRemoval;
+use rows_spec::Total;
+use splitting_spec::Splitting;
+use sums_spec::Summed;
 
 // Splits a removal of key bytes and value bytes.
 #[no_mangle]

@@ -1,14 +1,14 @@
 // The removing merge, for C.
 ghost use mathlib.Core.Path.{_≡_};
-ghost use Rattle.rows.specs.Rows.{tables};
-ghost use Rattle.capi.specs.Told.{flagsLeft, flagsTold};
-ghost use Rattle.capi.specs.Calls.{combinedRemovedC, optionalCombinedRemovedC};
+ghost use Rattle.rows_spec.specs.Rows.{tables};
+ghost use Rattle.capi_spec.specs.Told.{flagsLeft, flagsTold};
+ghost use Rattle.capi_spec.specs.Calls.{combinedRemovedC, optionalCombinedRemovedC};
 use crate::given;
 use crate::told;
-use crate::types::CFlags;
-use crate::types::CHead;
-use crate::types::CRemoval;
-use records::Refusal;
+use capi_spec::CFlags;
+use capi_spec::CHead;
+use capi_spec::CRemoval;
+use records_spec::Refusal;
 
 // Merges ours with the incoming flags that came with removed bytes.
 #[no_mangle]

@@ -1,9 +1,9 @@
 // Repairing old flag bytes, for C.
 ghost use mathlib.Core.Path.{_≡_};
-ghost use Rattle.repair.specs.Calls.{repairedInto};
-ghost use Rattle.capi.specs.Told.{repairLeft, repairTold};
+ghost use Rattle.repair_spec.specs.Calls.{repairedInto};
+ghost use Rattle.capi_spec.specs.Told.{repairLeft, repairTold};
 use crate::told;
-use crate::types::CRepaired;
+use capi_spec::CRepaired;
 
 // Writes canonical bytes for old ones, and lists the changes with their offsets.
 #[no_mangle]

@@ -1,12 +1,12 @@
 // Replacing flags in a table of totals, for C.
 ghost use mathlib.Core.Path.{_≡_};
-ghost use Rattle.rows.specs.Rows.{tables};
-ghost use Rattle.capi.specs.Told.{totalsLeft, totalsTold};
-ghost use Rattle.capi.specs.Calls.{totalsReplacedC};
+ghost use Rattle.rows_spec.specs.Rows.{tables};
+ghost use Rattle.capi_spec.specs.Told.{totalsLeft, totalsTold};
+ghost use Rattle.capi_spec.specs.Calls.{totalsReplacedC};
 use crate::given;
 use crate::told;
-use crate::types::CCount;
-use crate::types::CHead;
+use capi_spec::CCount;
+use capi_spec::CHead;
 
 // Replaces one element's old flags by new ones in a table of totals; absent flags are not looked at.
 #[no_mangle]

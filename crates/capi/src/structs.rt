@@ -1,13 +1,13 @@
 // Replacing flags in a table of totals that is a slice of structs, for C.
 ghost use mathlib.Core.Path.{_≡_};
-ghost use Rattle.rows.specs.Rows.{tables};
-ghost use Rattle.capi.specs.Told.{structsLeft, structsTold};
-ghost use Rattle.capi.specs.Calls.{structsReplacedC};
+ghost use Rattle.rows_spec.specs.Rows.{tables};
+ghost use Rattle.capi_spec.specs.Told.{structsLeft, structsTold};
+ghost use Rattle.capi_spec.specs.Calls.{structsReplacedC};
 use crate::given;
 use crate::told;
-use crate::types::CCount;
-use crate::types::CHead;
-use totals_index::Total;
+use capi_spec::CCount;
+use capi_spec::CHead;
+use totals_index_spec::Total;
 
 // Replaces one element's old flags by new ones in a table of structs, with three slices as a work area; absent flags are not looked at. It branches
 // on the test of the form over slices, so that both are one definition with another call inside.

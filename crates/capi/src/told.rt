@@ -1,39 +1,39 @@
 // What the calls answer, as C gets it. In a refused answer everything but the number is 0.
 ghost use mathlib.Core.Path.{_≡_};
 ghost use mathlib.Core.List.{[]};
-ghost use Rattle.records.specs.Refusals.{number};
-ghost use Rattle.records.specs.Answers.{ok, refused, shown, counted};
-ghost use Rattle.rows.specs.Calls.{told, totalled};
-ghost use Rattle.sums.specs.Calls.{told as toldSum};
-ghost use Rattle.splitting.specs.Calls.{told as toldSplit};
-ghost use Rattle.totals.specs.Calls.{told as toldTotals};
-ghost use Rattle.repair.specs.Calls.{sizes};
-ghost use Rattle.rows.specs.declared.removed.Removed.the-variants.{None};
-ghost use Rattle.capi.specs.Told.{headTold, flagsAnswer, countTold, truthTold, ownerTold, ownerIdTold, removalTold, sumAnswer, splitAnswer, repairAnswer};
-use crate::types::CCount;
-use crate::types::CFlags;
-use crate::types::CHead;
-use crate::types::CId;
-use crate::types::CMaybeOwner;
-use crate::types::COwner;
-use crate::types::CRemoval;
-use crate::types::CRepaired;
-use crate::types::CSplit;
-use crate::types::CSum;
-use flags::Choice;
-use records::Answered;
-use records::Counted;
-use records::Head;
-use records::MaybeOwner;
-use records::Outcome;
-use records::Refusal;
-use rows::HasRemoval;
-use rows::Removed;
-use rows::StorageRemovedBytes;
-use rows::Total;
-use splitting::Splitting;
-use sums::Summed;
-use totals::Replaced;
+ghost use Rattle.records_spec.specs.Refusals.{number};
+ghost use Rattle.records_spec.specs.Answers.{ok, refused, shown, counted};
+ghost use Rattle.rows_spec.specs.Calls.{told, totalled};
+ghost use Rattle.sums_spec.specs.Calls.{told as toldSum};
+ghost use Rattle.splitting_spec.specs.Calls.{told as toldSplit};
+ghost use Rattle.totals_spec.specs.Calls.{told as toldTotals};
+ghost use Rattle.repair_spec.specs.Calls.{sizes};
+ghost use Rattle.rows_spec.specs.declared.removed.Removed.the-variants.{None};
+ghost use Rattle.capi_spec.specs.Told.{headTold, flagsAnswer, countTold, truthTold, ownerTold, ownerIdTold, removalTold, sumAnswer, splitAnswer, repairAnswer};
+use capi_spec::CCount;
+use capi_spec::CFlags;
+use capi_spec::CHead;
+use capi_spec::CId;
+use capi_spec::CMaybeOwner;
+use capi_spec::COwner;
+use capi_spec::CRemoval;
+use capi_spec::CRepaired;
+use capi_spec::CSplit;
+use capi_spec::CSum;
+use flags_spec::Choice;
+use records_spec::Answered;
+use records_spec::Counted;
+use records_spec::Head;
+use records_spec::MaybeOwner;
+use records_spec::Outcome;
+use records_spec::Refusal;
+use rows_spec::HasRemoval;
+use rows_spec::Removed;
+use rows_spec::StorageRemovedBytes;
+use rows_spec::Total;
+use splitting_spec::Splitting;
+use sums_spec::Summed;
+use totals_spec::Replaced;
 
 // A head, its kind a byte.
 pub fn head(h: Head) -> CHead
@@ -42,7 +42,7 @@ pub fn head(h: Head) -> CHead
     let owner = h.owner;
     let kind = h.kind;
     CHead {
-        kind: kind.type_byte(),
+        kind: records::kind_byte(kind),
         base: h.base,
         owner,
         records: h.records,
@@ -68,7 +68,7 @@ pub fn flags(answered: Answered) -> CFlags
             head,
         },
         Outcome::Refused(refusal) => CFlags {
-            refusal: refusal.number(),
+            refusal: records::number(refusal),
             present: 0,
             head,
         },
@@ -95,7 +95,7 @@ pub fn count(answer: Counted) -> CCount
 {
     match answer {
         Counted::Count(n) => some_number(n as u64),
-        Counted::Refused(refusal) => no_number(refusal.number()),
+        Counted::Refused(refusal) => no_number(records::number(refusal)),
     }
 }
 
@@ -106,7 +106,7 @@ pub fn has(answer: HasRemoval) -> CCount
     match answer {
         HasRemoval::Yes => some_number(1),
         HasRemoval::No => some_number(0),
-        HasRemoval::Refused(refusal) => no_number(refusal.number()),
+        HasRemoval::Refused(refusal) => no_number(records::number(refusal)),
     }
 }
 
@@ -116,7 +116,7 @@ pub fn total(answer: Total) -> CCount
 {
     match answer {
         Total::Bytes(n) => some_number(n as u64),
-        Total::Refused(refusal) => no_number(refusal.number()),
+        Total::Refused(refusal) => no_number(records::number(refusal)),
     }
 }
 
@@ -127,7 +127,7 @@ pub fn replaced(answer: Replaced) -> CCount
     match answer {
         Replaced::Rows(n) => some_number(n as u64),
         Replaced::IndexMismatch => no_number(14),
-        Replaced::Refused(refusal) => no_number(refusal.number()),
+        Replaced::Refused(refusal) => no_number(records::number(refusal)),
     }
 }
 
@@ -156,7 +156,7 @@ pub fn owner(choice: Choice) -> COwner
             which: 2,
         },
         Choice::Refused(refusal) => COwner {
-            refusal: refusal.number(),
+            refusal: records::number(refusal),
             which: 0,
         },
     }
@@ -186,7 +186,7 @@ pub fn no_owner_id(refusal: Refusal) -> CMaybeOwner
     ensures { λ r. ⌜ r ≡ ownerIdTold (refused (number refusal)) ⌝ }
 {
     CMaybeOwner {
-        refusal: refusal.number(),
+        refusal: records::number(refusal),
         present: 0,
         id: CId { bytes: [0u8; 32] },
     }
@@ -233,7 +233,7 @@ pub fn sum(summed: Summed) -> CSum
             removal: removal(state),
         },
         Summed::Refused(refusal) => CSum {
-            refusal: refusal.number(),
+            refusal: records::number(refusal),
             removal: no_removal(),
         },
     }
@@ -251,7 +251,7 @@ pub fn split(splitting: Splitting) -> CSplit
             visited: done.visited,
         },
         Splitting::Refused(refusal) => CSplit {
-            refusal: refusal.number(),
+            refusal: records::number(refusal),
             key: no_removal(),
             value: no_removal(),
             visited: 0,
@@ -260,17 +260,17 @@ pub fn split(splitting: Splitting) -> CSplit
 }
 
 // How many bytes and lines, or a refusal.
-pub fn repaired(outcome: repair::Outcome) -> CRepaired
+pub fn repaired(outcome: repair_spec::Outcome) -> CRepaired
     ensures { λ r. ⌜ r ≡ repairAnswer (sizes outcome) ⌝ }
 {
     match outcome {
-        repair::Outcome::Done { bytes, lines } => CRepaired {
+        repair_spec::Outcome::Done { bytes, lines } => CRepaired {
             refusal: 0,
             bytes,
             lines,
         },
-        repair::Outcome::Refused(refusal) => CRepaired {
-            refusal: refusal.number(),
+        repair_spec::Outcome::Refused(refusal) => CRepaired {
+            refusal: records::number(refusal),
             bytes: 0,
             lines: 0,
         },

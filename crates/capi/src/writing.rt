@@ -1,15 +1,15 @@
 // Writing flags and their sizes, for C.
 ghost use mathlib.Core.Path.{_≡_};
-ghost use Rattle.codec.specs.Sizes.{approximate};
-ghost use Rattle.capi.specs.Given.{isTrue, changesGiven};
-ghost use Rattle.capi.specs.Told.{countTold, bytesLeft, bytesTold};
-ghost use Rattle.capi.specs.Calls.{serializedC, sizeC};
+ghost use Rattle.codec_spec.specs.Sizes.{approximate};
+ghost use Rattle.capi_spec.specs.Given.{isTrue, changesGiven};
+ghost use Rattle.capi_spec.specs.Told.{countTold, bytesLeft, bytesTold};
+ghost use Rattle.capi_spec.specs.Calls.{serializedC, sizeC};
 use crate::given;
 use crate::told;
-use crate::types::CCount;
-use crate::types::CHead;
-use records::Counted;
-use records::Refusal;
+use capi_spec::CCount;
+use capi_spec::CHead;
+use records_spec::Counted;
+use records_spec::Refusal;
 
 // Writes flags as bytes.
 #[no_mangle]

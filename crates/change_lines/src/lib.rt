@@ -2,21 +2,15 @@
 ghost use Prim.Native.Nat.{_+_, _≤_};
 ghost use mathlib.Core.Path.{_≡_};
 ghost use lib.ListN.{length};
-ghost use Rattle.fields.specs.Writing.{Put};
-ghost use Rattle.repair.specs.Changes.{line};
-ghost use Rattle.change_lines.specs.Text.{words, changeOf};
-ghost use Rattle.change_lines.specs.Chunks.{longest, OneLine, Chunked};
+ghost use Rattle.fields_spec.specs.Writing.{Put};
+ghost use Rattle.repair_spec.specs.Changes.{line};
+ghost use Rattle.change_lines_spec.specs.Text.{words, changeOf};
+ghost use Rattle.change_lines_spec.specs.Chunks.{longest, OneLine, Chunked};
 use listing::put_decimal;
 use listing::put_text;
 
 // The most bytes of a line: 20 digits, a blank, words of 14 bytes and the line end.
 const LINE: usize = 36;
-
-// The line behind those that were put, and how many bytes their text has.
-pub struct Chunk {
-    pub next: usize,
-    pub size: usize,
-}
 
 // Writes the words of the change with a number at `at`; answers the place behind them.
 fn put_words(out: &mut [u8], at: usize, change: u8) -> usize

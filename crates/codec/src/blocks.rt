@@ -4,21 +4,15 @@ ghost use mathlib.Core.Path.{_≡_};
 ghost use mathlib.Core.Option.{none};
 ghost use Prim.Native.Nat.{_+_, _≤_, _<_};
 ghost use lib.ListN.{length, take, drop};
-ghost use Rattle.records.specs.Tables.{recordsOf};
-ghost use Rattle.codec.specs.Reading.{parse};
-ghost use Rattle.codec.specs.Blocks.{Blocked, filled, filledFrom};
-use crate::judging::Scan;
-use crate::record::Got;
+ghost use Rattle.records_spec.specs.Tables.{recordsOf};
+ghost use Rattle.codec_spec.specs.Reading.{parse};
+ghost use Rattle.codec_spec.specs.Blocks.{Blocked, filled, filledFrom};
 use crate::record::read_record;
 use crate::two_passes::read_twice;
-use records::Refusal;
-
-// What reading a block finds: the first fault and its place; or how many records there are, the place behind them, and the epoch of the
-// last.
-pub enum Block {
-    Faulty(Refusal, usize),
-    Read { n: usize, next: usize, last: u16 },
-}
+use codec_spec::Block;
+use codec_spec::Got;
+use codec_spec::Scan;
+use records_spec::Refusal;
 
 // Reads records from `start` on, at most 64, and puts them at the start of the two tables.
 pub fn read_block(

@@ -3,36 +3,20 @@ ghost use mathlib.Core.Path.{_≡_};
 ghost use mathlib.Core.Bool.{true, false};
 ghost use Prim.Native.Nat.{_+_, _≤_};
 ghost use lib.ListN.{length, take, drop};
-ghost use Rattle.records.specs.Flags.{multi, agrees, idOf, headFor};
-ghost use Rattle.codec.specs.Bytes.{headSize};
-ghost use Rattle.codec.specs.Reading.{parse, noFlags, refusedAt, baseIn, ownerIn, readAs, read};
-ghost use Rattle.codec.specs.Calls.{scanOf, judgement};
-use crate::blocks::Block;
+ghost use Rattle.records_spec.specs.Flags.{multi, agrees, idOf, headFor};
+ghost use Rattle.codec_spec.specs.Bytes.{headSize};
+ghost use Rattle.codec_spec.specs.Reading.{parse, noFlags, refusedAt, baseIn, ownerIn, readAs, read};
+ghost use Rattle.codec_spec.specs.Calls.{scanOf, judgement};
 use crate::blocks::read_block;
-use records::Head;
-use records::Kind;
-use records::KindByte;
-use records::OwnerId;
-use records::Refusal;
-
-// What judging records finds: the first fault and its place, or how many they are.
-pub enum Scan {
-    Faulty(Refusal, usize),
-    Records(usize),
-}
-
-// No flags, flags, or a refusal with the place of its fault.
-pub enum Verdict {
-    Absent,
-    Present,
-    Refused(Refusal, usize),
-}
-
-// A verdict with the flags' head, which is all zeros where there are none.
-pub struct Judgement {
-    pub verdict: Verdict,
-    pub head: Head,
-}
+use codec_spec::Block;
+use codec_spec::Judgement;
+use codec_spec::Scan;
+use codec_spec::Verdict;
+use records_spec::Head;
+use records_spec::Kind;
+use records_spec::KindByte;
+use records_spec::OwnerId;
+use records_spec::Refusal;
 
 // Judges all records from `start` to the end, block by block. The two tables are room for a block; what they are left with says nothing.
 pub fn judge_records(
@@ -75,7 +59,7 @@ pub fn judge_records(
 pub fn head_size(kind: Kind) -> usize
     ensures { λ r. ⌜ r ≡ headSize kind ⌝ }
 {
-    if kind.is_owned() {
+    if records::is_owned(kind) {
         return 35;
     }
     3
@@ -86,7 +70,7 @@ pub fn base_in(kind: Kind, src: &[u8]) -> u16
     requires { ⌜ headSize kind ≤ length (now src) ⌝ }
     ensures { λ r. ⌜ r ≡ baseIn kind (now (src .entry)) ⌝ }
 {
-    if kind.is_owned() {
+    if records::is_owned(kind) {
         return fields::be16_at(src, 33);
     }
     fields::be16_at(src, 1)
@@ -111,7 +95,7 @@ fn owner_in(kind: Kind, src: &[u8]) -> OwnerId
     requires { ⌜ headSize kind ≤ length (now src) ⌝ }
     ensures { λ r. ⌜ r ≡ idOf (ownerIn kind (now (src .entry))) ⌝ }
 {
-    if kind.is_owned() {
+    if records::is_owned(kind) {
         return owner_bytes(src);
     }
     [0u8; 32]
@@ -201,7 +185,7 @@ fn judge_single(kind: Kind, src: &[u8]) -> Judgement
 pub fn judge_as(kind: Kind, src: &[u8]) -> Judgement
     ensures { λ r. ⌜ r ≡ judgement (readAs kind (now (src .entry))) ⌝ }
 {
-    if kind.is_multi() {
+    if records::is_multi(kind) {
         return judge_multi(kind, src);
     }
     judge_single(kind, src)

@@ -7,8 +7,6 @@ mod sizes;
 mod two_passes;
 mod writing;
 
-pub use judging::Judgement;
-pub use judging::Verdict;
 pub use judging::base_in;
 pub use judging::head_in;
 pub use judging::head_size;
@@ -19,7 +17,6 @@ pub use reading::deserialize_multi_epoch;
 pub use reading::deserialize_multi_epoch_owned;
 pub use reading::deserialize_single_epoch;
 pub use reading::deserialize_single_epoch_owned;
-pub use sizes::Changes;
 pub use sizes::approximate_size;
 pub use sizes::serialized_size;
 pub use writing::serialize;

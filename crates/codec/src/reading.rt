@@ -3,19 +3,19 @@ ghost use mathlib.Core.Path.{_≡_};
 ghost use mathlib.Core.Bool.{true, false};
 ghost use mathlib.Core.List.{List};
 ghost use Prim.Native.Nat.{ℕ};
-ghost use Rattle.records.specs.Flags.{multi};
-ghost use Rattle.records.specs.Answers.{shown};
-ghost use Rattle.records.specs.declared.head.Kind.the-variants.{SingleEpoch, MultiEpoch, SingleEpochOwned, MultiEpochOwned};
-ghost use Rattle.codec.specs.Calls.{deserializedAs, deserialized};
+ghost use Rattle.records_spec.specs.Flags.{multi};
+ghost use Rattle.records_spec.specs.Answers.{shown};
+ghost use Rattle.records_spec.specs.declared.head.Kind.the-variants.{SingleEpoch, MultiEpoch, SingleEpochOwned, MultiEpochOwned};
+ghost use Rattle.codec_spec.specs.Calls.{deserializedAs, deserialized};
 use crate::blocks::read_blocks;
-use crate::judging::Scan;
 use crate::judging::base_in;
 use crate::judging::head_in;
 use crate::judging::head_size;
-use records::Answered;
-use records::Kind;
-use records::KindByte;
-use records::Refusal;
+use codec_spec::Scan;
+use records_spec::Answered;
+use records_spec::Kind;
+use records_spec::KindByte;
+use records_spec::Refusal;
 
 // Reads flags of kind 1 or 3.
 fn read_multi(kind: Kind, src: &[u8], epochs: &mut [u16], counts: &mut [u32]) -> Answered
@@ -55,7 +55,7 @@ fn read_single(kind: Kind, src: &[u8]) -> Answered
 fn read_as(kind: Kind, src: &[u8], epochs: &mut [u16], counts: &mut [u32]) -> Answered
     ensures { λ r. ⌜ shown r (now (epochs .exit)) (now (counts .exit)) ≡ deserializedAs kind (now (src .entry)) (now (epochs .entry)) (now (counts .entry)) ⌝ }
 {
-    if kind.is_multi() {
+    if records::is_multi(kind) {
         return read_multi(kind, src, epochs, counts);
     }
     read_single(kind, src)

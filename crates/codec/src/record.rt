@@ -2,16 +2,11 @@
 ghost use mathlib.Core.Path.{_≡_};
 ghost use Prim.Native.Nat.{_≤_};
 ghost use lib.ListN.{length, drop};
-ghost use Rattle.codec.specs.Reading.{next};
-ghost use Rattle.codec.specs.Blocks.{gotOf};
-use fields::Reading;
-use records::Refusal;
-
-// What reading a record finds: why it is refused, or its epoch, its count and the place behind it.
-pub enum Got {
-    Bad(Refusal),
-    Good { epoch: u16, count: u32, next: usize },
-}
+ghost use Rattle.codec_spec.specs.Reading.{next};
+ghost use Rattle.codec_spec.specs.Blocks.{gotOf};
+use codec_spec::Got;
+use fields_spec::Reading;
+use records_spec::Refusal;
 
 // Reads the record at `at`, whose epoch has to be above `prev`.
 pub fn read_record(src: &[u8], at: usize, prev: u16) -> Got

@@ -3,22 +3,17 @@ ghost use mathlib.Core.Path.{_≡_};
 ghost use Prim.Native.Nat.{_+_, _*_, _≤_};
 ghost use lib.Dec.{leb};
 ghost use lib.ListN.{length};
-ghost use Rattle.records.specs.Flags.{owned, ownerIf, ownerOf};
-ghost use Rattle.records.specs.Answers.{counted};
-ghost use Rattle.codec.specs.Bytes.{ownerBytes};
-ghost use Rattle.codec.specs.Sizes.{changesSize, approximate, countsSize};
-ghost use Rattle.codec.specs.Calls.{sizeOf};
-use records::Counted;
-use records::Head;
-use records::Kind;
-use records::OwnerId;
-use records::Refusal;
-
-// How many changes there are about, and the size of each, if given.
-pub enum Changes {
-    NotGiven,
-    Given(u16, u8),
-}
+ghost use Rattle.records_spec.specs.Flags.{owned, ownerIf, ownerOf};
+ghost use Rattle.records_spec.specs.Answers.{counted};
+ghost use Rattle.codec_spec.specs.Bytes.{ownerBytes};
+ghost use Rattle.codec_spec.specs.Sizes.{changesSize, approximate, countsSize};
+ghost use Rattle.codec_spec.specs.Calls.{sizeOf};
+use codec_spec::Changes;
+use records_spec::Counted;
+use records_spec::Head;
+use records_spec::Kind;
+use records_spec::OwnerId;
+use records_spec::Refusal;
 
 // The size of so many changes.
 fn changes_size(changes: Changes) -> u32
@@ -73,7 +68,7 @@ fn size_by_limits(counts: &[u32]) -> usize
 fn owner_id_size(kind: Kind, owner: OwnerId) -> usize
     ensures { λ r. ⌜ (r ≡ length (ownerBytes (ownerIf (owned kind) owner))) × (r ≤ 32) ⌝ }
 {
-    if kind.is_owned() {
+    if records::is_owned(kind) {
         return 32;
     }
     0

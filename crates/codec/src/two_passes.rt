@@ -2,12 +2,12 @@
 ghost use mathlib.Core.Path.{_≡_};
 ghost use Prim.Native.Nat.{_+_, _≤_, _<_};
 ghost use lib.ListN.{length, drop};
-ghost use Rattle.records.specs.Tables.{Placed};
-ghost use Rattle.codec.specs.Reading.{parse};
-ghost use Rattle.codec.specs.Blocks.{Sound, filled, filledFrom};
-use crate::judging::Scan;
+ghost use Rattle.records_spec.specs.Tables.{Placed};
+ghost use Rattle.codec_spec.specs.Reading.{parse};
+ghost use Rattle.codec_spec.specs.Blocks.{Sound, filled, filledFrom};
 use crate::judging::judge_records;
-use records::Refusal;
+use codec_spec::Scan;
+use records_spec::Refusal;
 
 // Puts the n records from `start` on into the two tables from the place k on; answers the place behind them.
 fn fill_records(

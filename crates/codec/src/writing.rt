@@ -2,19 +2,19 @@
 ghost use mathlib.Core.Path.{_≡_};
 ghost use Prim.Native.Nat.{_+_, _≤_};
 ghost use lib.ListN.{length};
-ghost use Rattle.fields.specs.Writing.{Put};
-ghost use Rattle.records.specs.Tables.{recordsOf};
-ghost use Rattle.records.specs.Flags.{ownerOf};
-ghost use Rattle.records.specs.Answers.{wrote};
-ghost use Rattle.codec.specs.Bytes.{ownerBytes, headBytes, recordsBytes};
-ghost use Rattle.codec.specs.Sizes.{countsSize};
-ghost use Rattle.codec.specs.Calls.{serialized};
+ghost use Rattle.fields_spec.specs.Writing.{Put};
+ghost use Rattle.records_spec.specs.Tables.{recordsOf};
+ghost use Rattle.records_spec.specs.Flags.{ownerOf};
+ghost use Rattle.records_spec.specs.Answers.{wrote};
+ghost use Rattle.codec_spec.specs.Bytes.{ownerBytes, headBytes, recordsBytes};
+ghost use Rattle.codec_spec.specs.Sizes.{countsSize};
+ghost use Rattle.codec_spec.specs.Calls.{serialized};
 use crate::sizes::fit;
 use crate::sizes::head_bytes_size;
-use records::Counted;
-use records::Head;
-use records::OwnerId;
-use records::Refusal;
+use records_spec::Counted;
+use records_spec::Head;
+use records_spec::OwnerId;
+use records_spec::Refusal;
 
 // Writes the owner's 32 bytes at `at`; answers the place behind them.
 fn put_owner(out: &mut [u8], at: usize, owner: OwnerId) -> usize
@@ -35,8 +35,8 @@ fn put_head(out: &mut [u8], head: Head) -> usize
     ensures { λ r. ⌜ Put (headBytes (head .kind) (ownerOf head) (head .base)) 0 r (now (out .entry)) (now (out .exit)) ⌝ }
 {
     let kind = head.kind;
-    out[0] = kind.type_byte();
-    if kind.is_owned() {
+    out[0] = records::kind_byte(kind);
+    if records::is_owned(kind) {
         let owner = head.owner;
         let at = put_owner(out, 1, owner);
         return fields::put_be16(out, at, head.base);

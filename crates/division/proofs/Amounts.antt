@@ -7,10 +7,10 @@ use Prim.Native.Nat.{ℕ, zero, suc, _+_, _≤_, _<_, min}
 use native.Mathlib.Omega.{arith}
 use lib.Dec.{ltb}
 use borrow.Author.Tests.{lt-ltb}
-use Rattle.records.specs.Tables.{At, has}
-use Rattle.records.proofs.Alike.{has-held}
-use Rattle.splitting.specs.Sections.{above, spare, asked}
-use Rattle.splitting.proofs.Sums.{sections-sum, gave-less}
+use Rattle.records_spec.specs.Tables.{At, has}
+use Rattle.records_spec.proofs.Alike.{has-held}
+use Rattle.splitting_spec.specs.Sections.{above, spare, asked}
+use Rattle.splitting_spec.proofs.Sums.{sections-sum, gave-less}
 use Rattle.division.specs.Fair.{OfEach, gives, together, AllDown, ThreeKept, LatestFirst, BaseLast, SectionIfAsked}
 
 -- sections ss of n bytes; each record gives the smaller of what is asked of it and what it holds above 3

@@ -5,16 +5,16 @@ use mathlib.Core.Path.{_≡_, sym, ap, subst, _∙_}
 use mathlib.Core.Bool.{true}
 use mathlib.Core.List.{List}
 use Prim.Native.Nat.{ℕ, _≤_}
-use Rattle.records.specs.Flags.{idOf, ownerOf, flagsOf, proper}
-use Rattle.records.specs.Answers.{ok}
-use Rattle.records.specs.declared.head.Head.{Head}
-use Rattle.records.proofs.Proper.{proper-inv, proper-ascends}
-use Rattle.rows.specs.Rows.{Tables, partsOf}
-use Rattle.rows.specs.Removals.{Removal, rowsOfRemoval}
-use Rattle.splitting.specs.Sections.{split}
-use Rattle.splitting.specs.Calls.{Told, splitRemoved}
-use Rattle.splitting.proofs.Ascending.{value-parts}
-use Rattle.splitting.proofs.Accepted.{flags-proper, value-stands}
+use Rattle.records_spec.specs.Flags.{idOf, ownerOf, flagsOf, proper}
+use Rattle.records_spec.specs.Answers.{ok}
+use Rattle.records_spec.specs.declared.head.Head.{Head}
+use Rattle.records_spec.proofs.Proper.{proper-inv, proper-ascends}
+use Rattle.rows_spec.specs.Rows.{Tables, partsOf}
+use Rattle.rows_spec.specs.Removals.{Removal, rowsOfRemoval}
+use Rattle.splitting_spec.specs.Sections.{split}
+use Rattle.splitting_spec.specs.Calls.{Told, splitRemoved}
+use Rattle.splitting_spec.proofs.Ascending.{value-parts}
+use Rattle.splitting_spec.proofs.Accepted.{flags-proper, value-stands}
 use Rattle.division.specs.Fair.{OnlyFair, NoLess, NeverLess}
 use Rattle.division.specs.Calls.{sectionsLeft}
 use Rattle.division.proofs.OnlyFair.{split-only-fair}

@@ -6,8 +6,8 @@ use mathlib.Core.Bool.{Bool, true, false, true≢false}
 use mathlib.Core.List.{List, [], _∷_, _++_, append-assoc}
 use Prim.Native.Nat.{ℕ}
 use native.Mathlib.Decide.{ℕ-discrete}
-use Rattle.records.specs.Tables.{At, has}
-use Rattle.records.proofs.Held.{has-none, has-passes}
+use Rattle.records_spec.specs.Tables.{At, has}
+use Rattle.records_spec.proofs.Held.{has-none, has-passes}
 use Rattle.division.specs.Fair.{OfEach}
 
 -- what holds of a record wherever it stands among all holds of each

@@ -7,8 +7,8 @@ use mathlib.Core.List.{List}
 use Prim.Native.Nat.{ℕ, _+_, _<_}
 use native.Mathlib.Omega.{arith}
 use lib.Dec.{ltb}
-use Rattle.records.specs.Tables.{At, epochsOf, ascending, has}
-use Rattle.splitting.specs.Sections.{asked}
+use Rattle.records_spec.specs.Tables.{At, epochsOf, ascending, has}
+use Rattle.splitting_spec.specs.Sections.{asked}
 use Rattle.division.specs.Fair.{Division, OfEach, gives, together, RightSum, ThreeKept, LatestFirst, BaseLast, SectionIfAsked, SectionWhereAsked, Fair}
 use Rattle.division.proofs.Sums.{total-gives}
 use Rattle.division.proofs.Amounts.{RecordsGive, RecordsHave, each-gives, give-together, keep, latest, base-after, if-asked, asked-if, each-has, has-each, section-given, each-given}

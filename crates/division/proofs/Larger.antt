@@ -5,9 +5,9 @@ use mathlib.Core.Bool.{true}
 use mathlib.Core.List.{List}
 use Prim.Native.Nat.{ℕ}
 use native.Mathlib.Omega.{arith}
-use Rattle.records.specs.Tables.{At, epochsOf, ascending}
-use Rattle.records.proofs.Alike.{held-none}
-use Rattle.splitting.specs.Sections.{split}
+use Rattle.records_spec.specs.Tables.{At, epochsOf, ascending}
+use Rattle.records_spec.proofs.Alike.{held-none}
+use Rattle.splitting_spec.specs.Sections.{split}
 use Rattle.division.specs.Fair.{NoLess, NeverLess}
 use Rattle.division.proofs.Each.{at-each, at-every}
 use Rattle.division.proofs.Split.{split-division, split-amounts}

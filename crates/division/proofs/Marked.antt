@@ -3,8 +3,8 @@
 use Prim.Native.Nat.{ℕ}
 use mathlib.Core.Path.{_≡_, refl}
 use mathlib.Core.List.{List, [], _∷_, map}
-use Rattle.records.specs.Tables.{At, _⦂_}
-use Rattle.splitting.specs.Sections.{spare, section, sections, split}
+use Rattle.records_spec.specs.Tables.{At, _⦂_}
+use Rattle.splitting_spec.specs.Sections.{spare, section, sections, split}
 
 pub examples : List (ℕ × List At)
 examples =

@@ -6,8 +6,8 @@ use mathlib.Core.List.{List, [], _∷_}
 use Prim.Native.Nat.{ℕ}
 use native.Mathlib.Omega.{arith}
 use native.Mathlib.Decide.{ℕ-discrete}
-use Rattle.records.specs.Tables.{At, _⦂_, epochsOf, ascending, rising, has, held}
-use Rattle.records.proofs.Held.{has-none, has-passes}
+use Rattle.records_spec.specs.Tables.{At, _⦂_, epochsOf, ascending, rising, has, held}
+use Rattle.records_spec.proofs.Held.{has-none, has-passes}
 use Rattle.division.specs.Fair.{Division, OfEach, total, together}
 use Rattle.division.specs.Needed.{Property, right-sum, three-kept, latest-first, base-last, section-where-asked, Says, AllBut}
 

@@ -6,9 +6,9 @@ use mathlib.Core.Bool.{true}
 use mathlib.Core.List.{List}
 use Prim.Native.Nat.{ℕ, min}
 use lib.Dec.{ltb}
-use Rattle.records.specs.Tables.{At, epochsOf, ascending, has, held}
-use Rattle.records.proofs.Alike.{held-none, alike}
-use Rattle.splitting.specs.Sections.{above, asked, split}
+use Rattle.records_spec.specs.Tables.{At, epochsOf, ascending, has, held}
+use Rattle.records_spec.proofs.Alike.{held-none, alike}
+use Rattle.splitting_spec.specs.Sections.{above, asked, split}
 use Rattle.division.specs.Fair.{Division, gives, RightSum, ThreeKept, LatestFirst, BaseLast, Fair, OnlyFair}
 use Rattle.division.proofs.Each.{read-alike}
 use Rattle.division.proofs.Fixed.{amounts, standing, fair}

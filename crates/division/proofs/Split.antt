@@ -5,10 +5,10 @@ use mathlib.Core.Bool.{true}
 use mathlib.Core.List.{List}
 use Prim.Native.Nat.{ℕ, min}
 use lib.Dec.{ltb}
-use Rattle.records.specs.Tables.{At, epochsOf, ascending, has}
-use Rattle.splitting.specs.Sections.{above, asked, split}
-use Rattle.splitting.proofs.Ascending.{split-ascends}
-use Rattle.splitting.proofs.Given.{record-has, record-gives, base-has, base-gives, nowhere-else}
+use Rattle.records_spec.specs.Tables.{At, epochsOf, ascending, has}
+use Rattle.splitting_spec.specs.Sections.{above, asked, split}
+use Rattle.splitting_spec.proofs.Ascending.{split-ascends}
+use Rattle.splitting_spec.proofs.Given.{record-has, record-gives, base-has, base-gives, nowhere-else}
 use Rattle.division.specs.Fair.{Division, gives}
 use Rattle.division.proofs.Each.{of-each}
 use Rattle.division.proofs.Fixed.{Amounts, Standing}

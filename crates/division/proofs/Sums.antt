@@ -7,10 +7,10 @@ use mathlib.Core.List.{List, [], _∷_}
 use Prim.Native.Nat.{ℕ, _+_}
 use native.Mathlib.Omega.{arith}
 use native.Mathlib.Decide.{ℕ-discrete}
-use Rattle.records.specs.Tables.{At, _⦂_, epochsOf, ascending, rising, has, held}
-use Rattle.records.proofs.Rising.{asc-rises}
-use Rattle.records.proofs.Held.{has-none, has-passes, held-passes, has-above, held-above}
-use Rattle.records.proofs.Alike.{apart, not-first, held-first, has-unless}
+use Rattle.records_spec.specs.Tables.{At, _⦂_, epochsOf, ascending, rising, has, held}
+use Rattle.records_spec.proofs.Rising.{asc-rises}
+use Rattle.records_spec.proofs.Held.{has-none, has-passes, held-passes, has-above, held-above}
+use Rattle.records_spec.proofs.Alike.{apart, not-first, held-first, has-unless}
 use Rattle.division.specs.Fair.{Division, total, gives, together}
 
 -- ---- one section more

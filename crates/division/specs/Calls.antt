@@ -1,10 +1,10 @@
 -- What an accepted call of `split_storage_removed_bytes` leaves, read as sections.
 -- Assumes nothing.
 use mathlib.Core.List.{List}
-use Rattle.records.specs.Tables.{At}
-use Rattle.rows.specs.Rows.{partsOf}
-use Rattle.rows.specs.Removals.{rowsOfRemoval, removalOf}
-use Rattle.splitting.specs.Calls.{Told, After}
+use Rattle.records_spec.specs.Tables.{At}
+use Rattle.rows_spec.specs.Rows.{partsOf}
+use Rattle.rows_spec.specs.Removals.{rowsOfRemoval, removalOf}
+use Rattle.splitting_spec.specs.Calls.{Told, After}
 
 -- the sections of the value's removal, from its state and the tables lent for its rows
 abbrev pub sectionsLeft : Told → After → List At

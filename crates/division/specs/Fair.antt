@@ -5,8 +5,8 @@ use mathlib.Core.Path.{_≡_}
 use mathlib.Core.Bool.{true, false}
 use mathlib.Core.List.{List, [], _∷_}
 use lib.Dec.{ltb}
-use Rattle.records.specs.Tables.{At, epochsOf, rising, has, held}
-use Rattle.splitting.specs.Sections.{minimum}
+use Rattle.records_spec.specs.Tables.{At, epochsOf, rising, has, held}
+use Rattle.splitting_spec.specs.Sections.{minimum}
 
 -- a set of sections at the base and the records' epochs: in ascending order, so that no epoch has two, and nowhere else
 pub record Division (base : ℕ) (rs ss : List At) : Type 0 where

@@ -4,7 +4,7 @@ use Prim.Native.Nat.{ℕ}
 use mathlib.Core.Path.{_≡_}
 use mathlib.Core.Bool.{true}
 use mathlib.Core.List.{List}
-use Rattle.records.specs.Tables.{At, epochsOf, ascending}
+use Rattle.records_spec.specs.Tables.{At, epochsOf, ascending}
 use Rattle.division.specs.Fair.{Division, RightSum, ThreeKept, LatestFirst, BaseLast, SectionWhereAsked}
 
 -- the five by name

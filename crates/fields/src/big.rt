@@ -2,8 +2,8 @@
 ghost use mathlib.Core.Path.{_≡_};
 ghost use Prim.Native.Nat.{_+_, _≤_};
 ghost use lib.ListN.{length, take, drop};
-ghost use Rattle.fields.specs.Big.{big, said};
-ghost use Rattle.fields.specs.Writing.{Put};
+ghost use Rattle.fields_spec.specs.Big.{big, said};
+ghost use Rattle.fields_spec.specs.Writing.{Put};
 
 // The number that the two bytes at `at` say.
 pub fn be16_at(src: &[u8], at: usize) -> u16

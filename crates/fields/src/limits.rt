@@ -2,8 +2,8 @@
 ghost use mathlib.Core.Path.{_≡_};
 ghost use Prim.Native.Nat.{_≤_};
 ghost use lib.ListN.{length};
-ghost use Rattle.fields.specs.Selects.{Selected};
-ghost use Rattle.fields.specs.Varint.{varint};
+ghost use Rattle.fields_spec.specs.Selects.{Selected};
+ghost use Rattle.fields_spec.specs.Varint.{varint};
 
 // 1 if the count passes the limit, else 0.
 fn above(limit: u32, count: u32) -> usize

@@ -4,9 +4,12 @@ ghost use mathlib.Core.Bool.{true, _&&_};
 ghost use Prim.Native.Nat.{_+_, _*_, _≤_, _<_};
 ghost use lib.Dec.{ltb};
 ghost use lib.ListN.{length, take, drop};
-ghost use Rattle.fields.specs.Selects.{Selected};
-ghost use Rattle.fields.specs.Varint.{varint, value, found, isWhole, judgedAt, readAt, Passed, Ending};
-ghost use Rattle.fields.specs.Writing.{Put};
+ghost use Rattle.fields_spec.specs.Selects.{Selected};
+ghost use Rattle.fields_spec.specs.Varint.{varint, value, found, isWhole, judgedAt, readAt, Passed, Ending};
+ghost use Rattle.fields_spec.specs.Writing.{Put};
+use fields_spec::Judged;
+use fields_spec::Reading;
+use fields_spec::Varint;
 
 // The largest count and the largest number of bytes: 32 bits.
 pub const LARGEST: u32 = 4294967295;
@@ -47,29 +50,6 @@ const LENGTHS: [usize; 33] = [
     5,
     5,
 ];
-
-// Where the varint at a place ends, or why it is refused, with the place.
-pub enum Judged {
-    // The bytes end first, or ten bytes all have the top bit set.
-    Incomplete(usize),
-    // It says more than 32 bits hold, or it is longer than minimal.
-    NotCanonical(usize),
-    // The place behind it.
-    Ends(usize),
-}
-
-// What a varint says, and the place behind it.
-pub struct Varint {
-    pub count: u32,
-    pub next: usize,
-}
-
-// What reading a varint finds: as judging, with what it says.
-pub enum Reading {
-    Incomplete(usize),
-    NotCanonical(usize),
-    Whole(Varint),
-}
 
 // The number of bytes of the minimal varint of `count`.
 pub fn varint_len(count: u32) -> usize

@@ -1,21 +1,21 @@
 // The adding merge, with the Rust's names where it has them.
 ghost use mathlib.Core.Path.{_≡_};
 ghost use mathlib.Core.Bool.{true};
-ghost use Rattle.records.specs.Tables.{recordsOf, union, Table, Above};
-ghost use Rattle.records.specs.Flags.{flags, ownerIf, flagsOf, proper};
-ghost use Rattle.records.specs.Answers.{shown, placing};
-ghost use Rattle.flags.specs.Merging.{raised, raisedAbove, added};
-ghost use Rattle.flags.specs.Calls.{handedOn, combinedAdded, optionalCombinedAdded};
-use crate::owners::MergingOwnersStrategy;
+ghost use Rattle.records_spec.specs.Tables.{recordsOf, union, Table, Above};
+ghost use Rattle.records_spec.specs.Flags.{flags, ownerIf, flagsOf, proper};
+ghost use Rattle.records_spec.specs.Answers.{shown, placing};
+ghost use Rattle.flags_spec.specs.Merging.{raised, raisedAbove, added};
+ghost use Rattle.flags_spec.specs.Calls.{handedOn, combinedAdded, optionalCombinedAdded};
 use crate::owners::combine_owners;
 use crate::placing::hand_on;
 use crate::placing::place_around;
 use crate::placing::place_union;
 use fields::LARGEST;
-use records::Answered;
-use records::Head;
-use records::MaybeOwner;
-use records::Refusal;
+use flags_spec::MergingOwnersStrategy;
+use records_spec::Answered;
+use records_spec::Head;
+use records_spec::MaybeOwner;
+use records_spec::Refusal;
 
 // The union with an amount at the incoming base: it is added to our record there, or a record is made.
 fn combine_with_higher_base_epoch(

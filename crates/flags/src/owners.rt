@@ -1,35 +1,17 @@
 // The owner rule, for heads and for encodings.
 ghost use mathlib.Core.Path.{_≡_};
-ghost use Rattle.records.specs.Flags.{ownerOf};
-ghost use Rattle.codec.specs.Reading.{read};
-ghost use Rattle.flags.specs.Owners.{disputed, choice, combinedOwner, chosenAs, ownerRead, unlessRefused};
-ghost use Rattle.flags.specs.Parts.{lent};
-ghost use Rattle.flags.specs.Calls.{ownerChoice, ownerHanded};
-use codec::Verdict;
-use records::Head;
-use records::MaybeOwner;
-use records::Refusal;
-
-// Which owner a merge keeps where both sides are owned and differ.
-pub enum MergingOwnersStrategy {
-    RaiseIssue,
-    UseOurs,
-    UseTheirs,
-}
-
-// Whose owner stands, or why none is chosen.
-pub enum Choice {
-    Ours,
-    Theirs,
-    Neither,
-    Refused(Refusal),
-}
-
-// The owner of a merge, or that the choice is refused, with no owner.
-pub struct ChosenOwner {
-    pub refused: bool,
-    pub owner: MaybeOwner,
-}
+ghost use Rattle.records_spec.specs.Flags.{ownerOf};
+ghost use Rattle.codec_spec.specs.Reading.{read};
+ghost use Rattle.flags_spec.specs.Owners.{disputed, choice, combinedOwner, chosenAs, ownerRead, unlessRefused};
+ghost use Rattle.flags_spec.specs.Parts.{lent};
+ghost use Rattle.flags_spec.specs.Calls.{ownerChoice, ownerHanded};
+use codec_spec::Verdict;
+use flags_spec::Choice;
+use flags_spec::ChosenOwner;
+use flags_spec::MergingOwnersStrategy;
+use records_spec::Head;
+use records_spec::MaybeOwner;
+use records_spec::Refusal;
 
 // The choice between two owners that differ.
 fn dispute(strategy: MergingOwnersStrategy) -> Choice
@@ -48,8 +30,8 @@ pub fn choose_owner(ours: Head, theirs: Head, strategy: MergingOwnersStrategy) -
 {
     let our_kind = ours.kind;
     let their_kind = theirs.kind;
-    if our_kind.is_owned() {
-        if their_kind.is_owned() {
+    if records::is_owned(our_kind) {
+        if records::is_owned(their_kind) {
             let our_owner = ours.owner;
             let their_owner = theirs.owner;
             if records::same_owner(our_owner, their_owner) {
@@ -59,7 +41,7 @@ pub fn choose_owner(ours: Head, theirs: Head, strategy: MergingOwnersStrategy) -
         }
         return Choice::Ours;
     }
-    if their_kind.is_owned() {
+    if records::is_owned(their_kind) {
         return Choice::Theirs;
     }
     Choice::Neither
@@ -72,11 +54,11 @@ pub fn combine_owners(ours: Head, theirs: Head, strategy: MergingOwnersStrategy)
     match choose_owner(ours, theirs, strategy) {
         Choice::Ours => ChosenOwner {
             refused: false,
-            owner: ours.owner_id(),
+            owner: records::owner_id(ours),
         },
         Choice::Theirs => ChosenOwner {
             refused: false,
-            owner: theirs.owner_id(),
+            owner: records::owner_id(theirs),
         },
         Choice::Neither => ChosenOwner {
             refused: false,

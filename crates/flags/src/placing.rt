@@ -5,16 +5,16 @@ ghost use mathlib.Core.Option.{some};
 ghost use mathlib.Core.List.{_∷_};
 ghost use Prim.Native.Nat.{_+_, _≤_};
 ghost use lib.ListN.{length, drop};
-ghost use Rattle.records.specs.Tables.{_⦂_, recordsOf, union, Table, Above};
-ghost use Rattle.records.specs.Unions.{spotOf};
-ghost use Rattle.records.specs.Flags.{flags, ownerIf, flagsOf, proper};
-ghost use Rattle.records.specs.Answers.{ok, shown, roomFor, after};
-use records::Answered;
-use records::Head;
-use records::MaybeOwner;
-use records::Refusal;
-use records::Spot;
+ghost use Rattle.records_spec.specs.Tables.{_⦂_, recordsOf, union, Table, Above};
+ghost use Rattle.records_spec.specs.Unions.{spotOf};
+ghost use Rattle.records_spec.specs.Flags.{flags, ownerIf, flagsOf, proper};
+ghost use Rattle.records_spec.specs.Answers.{ok, shown, roomFor, after};
 use records::fit;
+use records_spec::Answered;
+use records_spec::Head;
+use records_spec::MaybeOwner;
+use records_spec::Refusal;
+use records_spec::Spot;
 
 // Whether `before` records and the union of what stands from i on in ours with theirs have room. They are counted only where
 // the room is not surely enough.
@@ -77,7 +77,7 @@ pub fn place_union(
             counts,
             0,
         );
-        return records::present(Head::new(base, owner, n));
+        return records::present(records::new_head(base, owner, n));
     }
     records::refused(Refusal::NoRoom)
 }
@@ -128,7 +128,7 @@ pub fn place_around(
             counts,
             below + 1,
         );
-        return records::present(Head::new(base, owner, n));
+        return records::present(records::new_head(base, owner, n));
     }
     records::refused(Refusal::NoRoom)
 }
@@ -147,8 +147,8 @@ pub fn hand_on(
     let n = flags.records;
     if fit(n, epochs.len(), counts.len()) {
         records::copy_records(from_epochs, from_counts, n, epochs, counts);
-        let owner = flags.owner_id();
-        return records::present(Head::new(flags.base, owner, n));
+        let owner = records::owner_id(flags);
+        return records::present(records::new_head(flags.base, owner, n));
     }
     records::refused(Refusal::NoRoom)
 }

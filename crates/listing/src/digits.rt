@@ -2,9 +2,9 @@
 ghost use mathlib.Core.Path.{_≡_};
 ghost use Prim.Native.Nat.{_+_, _≤_, _<_};
 ghost use lib.ListN.{length};
-ghost use Rattle.fields.specs.Writing.{Put};
-ghost use Rattle.listing.specs.Sizes.{Sized};
-ghost use Rattle.listing.specs.Text.{decimal, hexDigit, hex};
+ghost use Rattle.fields_spec.specs.Writing.{Put};
+ghost use Rattle.listing_spec.specs.Sizes.{Sized};
+ghost use Rattle.listing_spec.specs.Text.{decimal, hexDigit, hex};
 
 // The number of decimal digits of `n`.
 pub fn decimal_len(n: u64) -> usize

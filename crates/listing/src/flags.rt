@@ -2,9 +2,9 @@
 ghost use mathlib.Core.Path.{_≡_};
 ghost use Prim.Native.Nat.{_≤_};
 ghost use lib.ListN.{length};
-ghost use Rattle.fields.specs.Writing.{Put};
-ghost use Rattle.listing.specs.Heads.{headText, outcomeText, Held};
-ghost use Rattle.listing.specs.Listed.{places};
+ghost use Rattle.fields_spec.specs.Writing.{Put};
+ghost use Rattle.listing_spec.specs.Heads.{headText, outcomeText, Held};
+ghost use Rattle.listing_spec.specs.Listed.{places};
 use crate::lines::line_len;
 use crate::lines::owner_len;
 use crate::lines::put_line;
@@ -12,16 +12,16 @@ use crate::lines::put_owner;
 use crate::lines::put_records;
 use crate::lines::put_text;
 use crate::lines::records_len;
-use records::Answered;
-use records::Head;
-use records::Outcome;
+use records_spec::Answered;
+use records_spec::Head;
+use records_spec::Outcome;
 
 // The length of the text of flags whose records are all of the two tables.
 fn flags_len(head: Head, epochs: &[u16], counts: &[u32]) -> usize
     requires { ⌜ (length (now epochs) ≡ length (now counts)) × (length (now epochs) ≤ places) ⌝ }
     ensures { λ r. ⌜ r ≡ length (headText head (now (epochs .entry)) (now (counts .entry))) ⌝ }
 {
-    let first = line_len(b"kind ", head.type_byte() as u64) + owner_len(head);
+    let first = line_len(b"kind ", records::type_byte(head) as u64) + owner_len(head);
     let base = line_len(b"base ", head.base as u64);
     let last = line_len(b"records ", epochs.len() as u64);
     first + base + records_len(epochs, counts) + last
@@ -33,7 +33,7 @@ fn put_flags(out: &mut [u8], head: Head, epochs: &[u16], counts: &[u32]) -> usiz
     requires { ⌜ length (headText head (now epochs) (now counts)) ≤ length (now out) ⌝ }
     ensures { λ r. ⌜ Put (headText head (now (epochs .entry)) (now (counts .entry))) 0 r (now (out .entry)) (now (out .exit)) ⌝ }
 {
-    let second = put_line(out, 0, b"kind ", head.type_byte() as u64);
+    let second = put_line(out, 0, b"kind ", records::type_byte(head) as u64);
     let third = put_owner(out, second, head);
     let fourth = put_line(out, third, b"base ", head.base as u64);
     let last = put_records(out, fourth, epochs, counts);
@@ -48,7 +48,7 @@ pub fn answer_len(answered: Answered, epochs: &[u16], counts: &[u32]) -> usize
     let outcome = answered.outcome;
     match outcome {
         Outcome::Absent => 5,
-        Outcome::Refused(refusal) => line_len(b"refused ", refusal.number() as u64),
+        Outcome::Refused(refusal) => line_len(b"refused ", records::number(refusal) as u64),
         Outcome::Present => {
             let head = answered.head;
             let n = head.records;
@@ -66,7 +66,7 @@ pub fn put_answer(out: &mut [u8], answered: Answered, epochs: &[u16], counts: &[
     let outcome = answered.outcome;
     match outcome {
         Outcome::Absent => put_text(out, 0, b"none\n"),
-        Outcome::Refused(refusal) => put_line(out, 0, b"refused ", refusal.number() as u64),
+        Outcome::Refused(refusal) => put_line(out, 0, b"refused ", records::number(refusal) as u64),
         Outcome::Present => {
             let head = answered.head;
             let n = head.records;

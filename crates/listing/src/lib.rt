@@ -9,12 +9,12 @@ pub use lines::put_text;
 ghost use mathlib.Core.Path.{_≡_};
 ghost use Prim.Native.Nat.{_≤_};
 ghost use lib.ListN.{length};
-ghost use Rattle.records.specs.Answers.{wrote, writing};
-ghost use Rattle.listing.specs.Listed.{most, places, listed};
+ghost use Rattle.records_spec.specs.Answers.{wrote, writing};
+ghost use Rattle.listing_spec.specs.Listed.{most, places, listed};
 use crate::flags::answer_len;
 use crate::flags::put_answer;
-use records::Counted;
-use records::Refusal;
+use records_spec::Counted;
+use records_spec::Refusal;
 
 // Lists bytes that are not too many, by way of two tables that have room for the records of so many bytes.
 fn list_flags(src: &[u8], epochs: &mut [u16], counts: &mut [u32], out: &mut [u8]) -> Counted

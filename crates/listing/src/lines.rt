@@ -3,16 +3,16 @@ ghost use mathlib.Core.Path.{_≡_};
 ghost use mathlib.Core.List.{_++_};
 ghost use Prim.Native.Nat.{_+_, _*_, _≤_};
 ghost use lib.ListN.{length};
-ghost use Rattle.fields.specs.Writing.{Put};
-ghost use Rattle.records.specs.Tables.{recordsOf, _⦂_};
-ghost use Rattle.records.specs.Flags.{ownerOf};
-ghost use Rattle.listing.specs.Sizes.{Sized};
-ghost use Rattle.listing.specs.Text.{ascii, decimal, ownerLine, recordLine, recordLines};
-ghost use Rattle.listing.specs.Listed.{places};
+ghost use Rattle.fields_spec.specs.Writing.{Put};
+ghost use Rattle.records_spec.specs.Tables.{recordsOf, _⦂_};
+ghost use Rattle.records_spec.specs.Flags.{ownerOf};
+ghost use Rattle.listing_spec.specs.Sizes.{Sized};
+ghost use Rattle.listing_spec.specs.Text.{ascii, decimal, ownerLine, recordLine, recordLines};
+ghost use Rattle.listing_spec.specs.Listed.{places};
 use crate::digits::decimal_len;
 use crate::digits::put_decimal;
 use crate::digits::put_hex;
-use records::Head;
+use records_spec::Head;
 
 // Writes a text at `at`; answers the place behind it.
 pub fn put_text(out: &mut [u8], at: usize, text: &[u8]) -> usize
@@ -51,7 +51,7 @@ pub fn owner_len(head: Head) -> usize
     ensures { λ r. ⌜ Sized (ownerLine (ownerOf head)) 71 r ⌝ }
 {
     let kind = head.kind;
-    if kind.is_owned() {
+    if records::is_owned(kind) {
         let owner = head.owner;
         let bytes: &[u8] = &owner;
         return 7 + 2 * bytes.len();
@@ -65,7 +65,7 @@ pub fn put_owner(out: &mut [u8], at: usize, head: Head) -> usize
     ensures { λ r. ⌜ Put (ownerLine (ownerOf head)) at r (now (out .entry)) (now (out .exit)) ⌝ }
 {
     let kind = head.kind;
-    if kind.is_owned() {
+    if records::is_owned(kind) {
         let owner = head.owner;
         let digits = put_text(out, at, b"owner ");
         let end = put_hex(out, digits, &owner);

@@ -3,10 +3,10 @@ ghost use Prim.Native.Nat.{_≤_};
 ghost use mathlib.Core.Path.{_≡_};
 ghost use lib.ListN.{length, take};
 ghost use Rattle.io.specs.Counts.{Counts};
-ghost use Rattle.records.specs.Refusals.{number};
-ghost use Rattle.listing.specs.Text.{line};
-use records::Refusal;
-use repair::Outcome;
+ghost use Rattle.records_spec.specs.Refusals.{number};
+ghost use Rattle.listing_spec.specs.Text.{line};
+use records_spec::Refusal;
+use repair_spec::Outcome;
 use streams::Input;
 use streams::say;
 
@@ -19,7 +19,7 @@ fn refusal_text(refusal: Refusal, out: &mut [u8]) -> usize
     ensures { λ r. ⌜ Counts r (now (out .exit)) ⌝ }
     ensures { λ r. ⌜ take r (now (out .exit)) ≡ line "refused " (number refusal) ⌝ }
 {
-    listing::put_line(out, 0, b"refused ", refusal.number() as u64)
+    listing::put_line(out, 0, b"refused ", records::number(refusal) as u64)
 }
 
 // Says which refusal there is.

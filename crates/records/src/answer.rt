@@ -1,29 +1,12 @@
 // What calls answer. An enum cannot hold a head, whose owner is an array, so the head stands beside the outcome.
 ghost use mathlib.Core.Path.{_≡_};
-ghost use Rattle.records.specs.Flags.{noHead};
-ghost use Rattle.records.specs.Answers.{roomFor};
-use crate::head::Head;
-use crate::head::Kind;
-use crate::refusal::Refusal;
-
-// No flags, flags, or a refusal.
-pub enum Outcome {
-    Absent,
-    Present,
-    Refused(Refusal),
-}
-
-// An outcome with the flags' head, which is all zeros where there are none.
-pub struct Answered {
-    pub outcome: Outcome,
-    pub head: Head,
-}
-
-// A number, or a refusal.
-pub enum Counted {
-    Count(usize),
-    Refused(Refusal),
-}
+ghost use Rattle.records_spec.specs.Flags.{noHead};
+ghost use Rattle.records_spec.specs.Answers.{roomFor};
+use records_spec::Answered;
+use records_spec::Head;
+use records_spec::Kind;
+use records_spec::Outcome;
+use records_spec::Refusal;
 
 // The head where there are no flags.
 pub fn no_head() -> Head

@@ -3,9 +3,9 @@ ghost use mathlib.Core.Path.{_≡_};
 ghost use mathlib.Core.Bool.{true};
 ghost use Prim.Native.Nat.{_+_, _≤_, _<_};
 ghost use lib.ListN.{length, drop};
-ghost use Rattle.fields.specs.Selects.{Selected};
-ghost use Rattle.records.specs.Tables.{recordsOf, rising, Placed};
-ghost use Rattle.records.specs.Runs.{run, lead, Room};
+ghost use Rattle.fields_spec.specs.Selects.{Selected};
+ghost use Rattle.records_spec.specs.Tables.{recordsOf, rising, Placed};
+ghost use Rattle.records_spec.specs.Runs.{run, lead, Room};
 use crate::table::find;
 
 // The lesser of two epochs. Which one it is cannot be foreseen, so no branch shall depend on it: an early return in a function as

@@ -3,16 +3,19 @@ ghost use mathlib.Core.Path.{_≡_};
 ghost use mathlib.Core.Bool.{true};
 ghost use Prim.Native.Nat.{_+_, _≤_, _<_};
 ghost use lib.ListN.{length, take, drop};
-ghost use Rattle.records.specs.Tables.{recordsOf, ascending, rising, placeOf, union, without, over, Table, Placed};
-ghost use Rattle.records.specs.Unions.{Within, Stepped, spotOf};
-ghost use Rattle.records.specs.Flags.{agrees, proper};
-use crate::head::Head;
-use crate::head::Kind;
+ghost use Rattle.records_spec.specs.Tables.{recordsOf, ascending, rising, placeOf, union, without, over, Table, Placed};
+ghost use Rattle.records_spec.specs.Unions.{Within, Stepped, spotOf};
+ghost use Rattle.records_spec.specs.Flags.{agrees, proper};
+use crate::head::is_multi;
 use crate::joining::copy_run;
 use crate::joining::lead_end;
 use crate::joining::lesser;
 use crate::joining::standing;
 use crate::joining::upto;
+use records_spec::Head;
+use records_spec::Kind;
+use records_spec::Next;
+use records_spec::Spot;
 
 // Whether the epochs ascend strictly and are all above the base. No early exit: a loop of this shape can become vector code.
 pub fn ascend(base: u16, epochs: &[u16]) -> bool
@@ -34,7 +37,7 @@ pub fn ascend(base: u16, epochs: &[u16]) -> bool
 fn agree(kind: Kind, records: usize) -> bool
     ensures { λ r. ⌜ r ≡ agrees kind records ⌝ }
 {
-    if kind.is_multi() {
+    if is_multi(kind) {
         return 1 <= records;
     }
     records == 0
@@ -81,13 +84,6 @@ pub fn find(epochs: &[u16], epoch: u16) -> usize
     at
 }
 
-// What stands around an epoch: how many records are below it, how many are at most there, and the count there, or 0.
-pub struct Spot {
-    pub below: usize,
-    pub upto: usize,
-    pub count: u32,
-}
-
 // Looks up an epoch.
 pub fn look_up(epochs: &[u16], counts: &[u32], epoch: u16) -> Spot
     requires { ⌜ Table (now epochs) (now counts) ⌝ }
@@ -123,14 +119,6 @@ pub fn copy_records(
     ensures { λ _. ⌜ Placed (take n (recordsOf (now («from_epochs» .entry)) (now («from_counts» .entry)))) 0 n (now (epochs .entry)) (now (counts .entry)) (now (epochs .exit)) (now (counts .exit)) ⌝ }
 {
     copy_run(from_epochs, from_counts, 0, n, epochs, counts, 0);
-}
-
-// The next record of a union, and the places behind it in the two tables.
-pub struct Next {
-    pub epoch: u16,
-    pub count: u32,
-    pub i: usize,
-    pub j: usize,
 }
 
 // The next record of the union of what stands from i on in ours and from j on in theirs. Where both have one it is found without

@@ -5,14 +5,7 @@ mod sections;
 
 pub use removing::combine_removed_bytes;
 pub use removing::optional_combine_removed_bytes;
-pub use rows::HasRemoval;
-pub use rows::Removed;
-pub use rows::StorageRemovedBytes;
-pub use rows::Total;
 pub use rows::has_removal;
 pub use rows::total_removed_bytes;
-pub use splitting::Split;
-pub use splitting::Splitting;
 pub use splitting::split_storage_removed_bytes;
-pub use sums::Summed;
 pub use sums::add_assign;

@@ -3,15 +3,15 @@ ghost use mathlib.Core.Path.{_≡_};
 ghost use mathlib.Core.Option.{some};
 ghost use Prim.Native.Nat.{_≤_};
 ghost use lib.ListN.{length};
-ghost use Rattle.records.specs.Tables.{recordsOf, union, Table, Placed};
-ghost use Rattle.records.specs.Flags.{flags, ownerIf};
-ghost use Rattle.records.specs.Answers.{ok, shown, roomFor, after};
-ghost use Rattle.removal.specs.Removing.{minus};
+ghost use Rattle.records_spec.specs.Tables.{recordsOf, union, Table, Placed};
+ghost use Rattle.records_spec.specs.Flags.{flags, ownerIf};
+ghost use Rattle.records_spec.specs.Answers.{ok, shown, roomFor, after};
+ghost use Rattle.removal_spec.specs.Removing.{minus};
 use crate::sections::remove_from;
-use records::Answered;
-use records::Head;
-use records::MaybeOwner;
-use records::Refusal;
+use records_spec::Answered;
+use records_spec::Head;
+use records_spec::MaybeOwner;
+use records_spec::Refusal;
 
 // How many records remain.
 fn remaining_len(
@@ -148,7 +148,7 @@ pub fn place_remaining(
             epochs,
             counts,
         );
-        return records::present(Head::new(base, owner, n));
+        return records::present(records::new_head(base, owner, n));
     }
     records::refused(Refusal::NoRoom)
 }

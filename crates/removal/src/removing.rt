@@ -1,25 +1,25 @@
 // The removing merge, with the Rust's names where it has them.
 ghost use mathlib.Core.Path.{_≡_};
 ghost use mathlib.Core.Bool.{true};
-ghost use Rattle.records.specs.Tables.{recordsOf, union, Table};
-ghost use Rattle.records.specs.Flags.{flags, ownerIf, flagsOf, proper};
-ghost use Rattle.records.specs.Answers.{shown, placing};
-ghost use Rattle.rows.specs.Rows.{tables, rowsIn, Proper};
-ghost use Rattle.rows.specs.Removals.{sectioned, removalOf, proper as properRemoval};
-ghost use Rattle.removal.specs.Removing.{lessSections, taken, removedAbove, removedBeside, removed as merged};
-ghost use Rattle.removal.specs.Calls.{combinedRemoved, optionalCombinedRemoved};
+ghost use Rattle.records_spec.specs.Tables.{recordsOf, union, Table};
+ghost use Rattle.records_spec.specs.Flags.{flags, ownerIf, flagsOf, proper};
+ghost use Rattle.records_spec.specs.Answers.{shown, placing};
+ghost use Rattle.rows_spec.specs.Rows.{tables, rowsIn, Proper};
+ghost use Rattle.rows_spec.specs.Removals.{sectioned, removalOf, proper as properRemoval};
+ghost use Rattle.removal_spec.specs.Removing.{lessSections, taken, removedAbove, removedBeside, removed as merged};
+ghost use Rattle.removal_spec.specs.Calls.{combinedRemoved, optionalCombinedRemoved};
 use crate::remaining::place_remaining;
-use crate::sections::Fault;
 use crate::sections::judge;
 use crate::sections::only_under;
-use flags::MergingOwnersStrategy;
-use records::Answered;
-use records::Head;
-use records::MaybeOwner;
-use records::OwnerId;
-use records::Refusal;
-use rows::Removed;
-use rows::StorageRemovedBytes;
+use flags_spec::MergingOwnersStrategy;
+use records_spec::Answered;
+use records_spec::Head;
+use records_spec::MaybeOwner;
+use records_spec::OwnerId;
+use records_spec::Refusal;
+use removal_spec::Fault;
+use rows_spec::Removed;
+use rows_spec::StorageRemovedBytes;
 
 // The union less the sections, unless one is at fault.
 fn remove_sections(
@@ -228,7 +228,7 @@ fn combine_with_higher_base_epoch_remove_bytes(
         return records::refused(Refusal::DifferentOwners);
     }
     let owner = chosen.owner;
-    let our_owner = ours.owner_id();
+    let our_owner = records::owner_id(ours);
     let id = our_owner.id;
     let m = theirs.records;
     remove_bytes(

@@ -1,30 +1,15 @@
 // The sections of a removal beside the records: whose they are, which is at fault, and what stays of a record.
 ghost use mathlib.Core.Path.{_≡_};
-ghost use Rattle.records.specs.Tables.{_⦂_, recordsOf, union, Table};
-ghost use Rattle.rows.specs.Rows.{tables, rowsIn, Room};
-ghost use Rattle.removal.specs.Removing.{onlyUnder, fault, lessened};
-ghost use Rattle.removal.specs.Findings.{found, faulted, faultOf, rested};
-use records::OwnerId;
-use records::Refusal;
+ghost use Rattle.records_spec.specs.Tables.{_⦂_, recordsOf, union, Table};
+ghost use Rattle.rows_spec.specs.Rows.{tables, rowsIn, Room};
+ghost use Rattle.removal_spec.specs.Removing.{onlyUnder, fault, lessened};
+ghost use Rattle.removal_spec.specs.Findings.{found, faulted, faultOf, rested};
+use records_spec::OwnerId;
+use records_spec::Refusal;
+use removal_spec::Fault;
+use removal_spec::Found;
+use removal_spec::Rest;
 use splitting::MINIMUM_NON_BASE_FLAGS_SIZE;
-
-// Whether a record stands at an epoch, and its count.
-pub struct Found {
-    pub stands: bool,
-    pub count: u32,
-}
-
-// The fault of sections, if there is one.
-pub enum Fault {
-    Nowhere,
-    At(Refusal),
-}
-
-// Whether a record stays, and its count.
-pub struct Rest {
-    pub stays: bool,
-    pub count: u32,
-}
 
 // Whether the first n rows have one identifier, and it is this.
 pub fn only_under(id: OwnerId, n: usize, ids: &[[u8; 32]], epochs: &[u16], bytes: &[u32]) -> bool

@@ -6,6 +6,4 @@ mod old;
 mod padded;
 mod repairing;
 
-pub use change::Change;
-pub use repairing::Outcome;
 pub use repairing::repair;

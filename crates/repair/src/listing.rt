@@ -6,13 +6,15 @@ ghost use mathlib.Core.List.{[], _∷_};
 ghost use Prim.Native.Nat.{_+_, _≤_, _<_};
 ghost use lib.Dec.{ltb, eqb};
 ghost use lib.ListN.{length, set};
-ghost use Rattle.repair.specs.Changes.{changeNumber, line, lineIf, keptLines, recordLines, dropped};
-ghost use Rattle.repair.specs.Repairing.{linesOf};
-ghost use Rattle.repair.specs.Steps.{allEpochs, oldOf, higher, linesFrom, Listed, Standing};
-use crate::change::Change;
-use crate::old::Got;
+ghost use Rattle.repair_spec.specs.Changes.{changeNumber, line, lineIf, keptLines, recordLines, dropped};
+ghost use Rattle.repair_spec.specs.Repairing.{linesOf};
+ghost use Rattle.repair_spec.specs.Steps.{allEpochs, oldOf, higher, linesFrom, Listed, Standing};
+use crate::change::number;
 use crate::old::read_old;
-use records::Kind;
+use records_spec::Kind;
+use repair_spec::Behind;
+use repair_spec::Change;
+use repair_spec::Got;
 
 // Puts an offset at the place k, if there is room.
 fn put_offset(offsets: &mut [usize], k: usize, at: usize)
@@ -31,7 +33,7 @@ fn put_change(changes: &mut [u8], k: usize, change: Change)
     if changes.len() <= k {
         return;
     }
-    changes[k] = change.number();
+    changes[k] = number(change);
 }
 
 // Lists a line at the place k; answers the place behind it.
@@ -80,12 +82,6 @@ fn list_kept(
     let is_moved = epoch < highest;
     let behind = put_line_if(is_longer, at, Change::ReEncoded, offsets, changes, k);
     put_line_if(is_moved, at, Change::Moved, offsets, changes, behind)
-}
-
-// The place behind a record's lines, and the highest epoch kept with it.
-pub struct Behind {
-    pub k: usize,
-    pub highest: u16,
 }
 
 // The higher of two epochs.
@@ -191,7 +187,7 @@ pub fn list_changes(
     ensures { λ r. ⌜ Listed (linesOf kind (now (src .entry))) 0 r (now (offsets .entry)) (now (changes .entry)) (now (offsets .exit)) (now (changes .exit)) ⌝ }
 {
     let start = codec::head_size(kind);
-    if kind.is_multi() {
+    if records::is_multi(kind) {
         let base = codec::base_in(kind, src);
         let is_empty = records == 0;
         let from = put_line_if(is_empty, 0, Change::KindChanged, offsets, changes, 0);

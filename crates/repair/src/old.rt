@@ -2,22 +2,15 @@
 ghost use mathlib.Core.Path.{_≡_};
 ghost use Prim.Native.Nat.{_+_, _≤_};
 ghost use lib.ListN.{length, take, drop};
-ghost use Rattle.fields.specs.Big.{said};
-ghost use Rattle.fields.specs.Varint.{found, notCanonical};
-ghost use Rattle.repair.specs.Olds.{oldAt};
-ghost use Rattle.repair.specs.Steps.{gotOf};
+ghost use Rattle.fields_spec.specs.Big.{said};
+ghost use Rattle.fields_spec.specs.Varint.{found, notCanonical};
+ghost use Rattle.repair_spec.specs.Olds.{oldAt};
+ghost use Rattle.repair_spec.specs.Steps.{gotOf};
 use crate::padded::TOO_LARGE;
 use crate::padded::capped_value;
 use crate::padded::end_of;
-use fields::Judged;
-
-// What reading an old record finds: none, since it is cut; one whose count is too large, and the place behind it; or one whose count
-// fits 32 bits.
-pub enum Got {
-    Cut,
-    TooLarge { next: usize },
-    Fits { epoch: u16, count: u32, next: usize },
-}
+use fields_spec::Judged;
+use repair_spec::Got;
 
 // Reads the record at `at`, whose varint is complete but not canonical.
 fn read_padded(src: &[u8], at: usize, epoch: u16) -> Got

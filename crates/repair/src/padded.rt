@@ -2,8 +2,8 @@
 ghost use mathlib.Core.Path.{_≡_};
 ghost use Prim.Native.Nat.{suc, _+_, _-_, _≤_, _<_};
 ghost use lib.ListN.{length, take, drop};
-ghost use Rattle.fields.specs.Varint.{high, value};
-ghost use Rattle.repair.specs.Steps.{capped};
+ghost use Rattle.fields_spec.specs.Varint.{high, value};
+ghost use Rattle.repair_spec.specs.Steps.{capped};
 
 // The first count that is too large.
 pub const TOO_LARGE: u64 = 4294967296;

@@ -4,28 +4,23 @@ ghost use mathlib.Core.Bool.{true, false};
 ghost use mathlib.Core.List.{List, []};
 ghost use Prim.Native.Nat.{ℕ, _≤_, _<_};
 ghost use lib.ListN.{length};
-ghost use Rattle.records.specs.Flags.{multi};
-ghost use Rattle.records.specs.Answers.{ok};
-ghost use Rattle.codec.specs.Bytes.{headSize};
-ghost use Rattle.repair.specs.Repairing.{repairedAs};
-ghost use Rattle.repair.specs.Calls.{shown, after, repairedInto};
-ghost use Rattle.repair.specs.Steps.{allEpochs, kindLeft, Blank, Standing, Ready};
+ghost use Rattle.records_spec.specs.Flags.{multi};
+ghost use Rattle.records_spec.specs.Answers.{ok};
+ghost use Rattle.codec_spec.specs.Bytes.{headSize};
+ghost use Rattle.repair_spec.specs.Repairing.{repairedAs};
+ghost use Rattle.repair_spec.specs.Calls.{shown, after, repairedInto};
+ghost use Rattle.repair_spec.specs.Steps.{allEpochs, kindLeft, Blank, Standing, Ready};
 use crate::listing::list_changes;
 use crate::marking::EPOCHS;
 use crate::marking::gather;
 use crate::marking::mark;
-use codec::Verdict;
-use records::Counted;
-use records::Head;
-use records::Kind;
-use records::KindByte;
-use records::Refusal;
-
-// How many bytes were written and how many lines listed, or a refusal.
-pub enum Outcome {
-    Done { bytes: usize, lines: usize },
-    Refused(Refusal),
-}
+use codec_spec::Verdict;
+use records_spec::Counted;
+use records_spec::Head;
+use records_spec::Kind;
+use records_spec::KindByte;
+use records_spec::Refusal;
+use repair_spec::Outcome;
 
 // Writes the flags that are left and lists the changes, where both have room. The lines are counted first.
 fn settle(
@@ -97,7 +92,7 @@ fn kind_left(kind: Kind, records: usize) -> Kind
     if 0 < records {
         return kind;
     }
-    if kind.is_owned() {
+    if records::is_owned(kind) {
         return Kind::SingleEpochOwned;
     }
     Kind::SingleEpoch
@@ -175,7 +170,7 @@ fn repair_as(
     if src.len() < codec::head_size(kind) {
         return Outcome::Refused(Refusal::WrongSize);
     }
-    if kind.is_multi() {
+    if records::is_multi(kind) {
         return repair_multi(kind, src, out, offsets, changes);
     }
     repair_single(kind, src, out, offsets, changes)

@@ -1,6 +1,6 @@
 // Replaying the calls on a head alone: 18 to 22.
-use records::Head;
-use records::MaybeOwner;
+use records_spec::Head;
+use records_spec::MaybeOwner;
 use wire::take_head;
 use wire::take_id;
 use wire::take_owner;
@@ -16,7 +16,7 @@ pub fn new_single_epoch(question: &[u8], reply: &[u8]) -> usize {
     let mut at: usize = 1;
     let epoch = take_u16(question, &mut at);
     let owner = take_owner(question, &mut at);
-    let head = Head::new_single_epoch(epoch, owner);
+    let head = records::new_single_epoch(epoch, owner);
     tell_head(reply, turn(question, at), head)
 }
 
@@ -25,14 +25,18 @@ pub fn set_owner_id(question: &[u8], reply: &[u8]) -> usize {
     let mut at: usize = 1;
     let head = take_head(question, &mut at);
     let owner = take_id(question, &mut at);
-    tell_head(reply, turn(question, at), head.set_owner_id(owner))
+    tell_head(
+        reply,
+        turn(question, at),
+        records::set_owner_id(head, owner),
+    )
 }
 
 // The base epoch.
 pub fn base_epoch(question: &[u8], reply: &[u8]) -> usize {
     let mut at: usize = 1;
     let head = take_head(question, &mut at);
-    tell_u16(reply, turn(question, at), head.base_epoch())
+    tell_u16(reply, turn(question, at), records::base_epoch(head))
 }
 
 // An owner or none.
@@ -48,12 +52,12 @@ fn tell_owner(reply: &[u8], at: usize, owner: MaybeOwner) -> usize {
 pub fn owner_id(question: &[u8], reply: &[u8]) -> usize {
     let mut at: usize = 1;
     let head = take_head(question, &mut at);
-    tell_owner(reply, turn(question, at), head.owner_id())
+    tell_owner(reply, turn(question, at), records::owner_id(head))
 }
 
 // Byte 0.
 pub fn type_byte(question: &[u8], reply: &[u8]) -> usize {
     let mut at: usize = 1;
     let head = take_head(question, &mut at);
-    tell_u8(reply, turn(question, at), head.type_byte())
+    tell_u8(reply, turn(question, at), records::type_byte(head))
 }

@@ -1,5 +1,5 @@
 // Replaying the owner rule: 9.
-use flags::Choice;
+use flags_spec::Choice;
 use wire::byte_of;
 use wire::take_part;
 use wire::take_strategy;

@@ -1,5 +1,5 @@
 // Replaying the readers: 1 to 5.
-use records::Answered;
+use records_spec::Answered;
 use wire::take_counts;
 use wire::take_epochs;
 use wire::take_part;

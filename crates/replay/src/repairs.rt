@@ -1,5 +1,5 @@
 // Replaying the repair: 23.
-use repair::Outcome;
+use repair_spec::Outcome;
 use wire::byte_of;
 use wire::take_bytes;
 use wire::take_offsets;

@@ -1,6 +1,6 @@
 // Replaying the writer and the sizes: 6 to 8.
-use codec::Changes;
-use records::Counted;
+use codec_spec::Changes;
+use records_spec::Counted;
 use wire::DIFFERS;
 use wire::byte_of;
 use wire::take_bool;

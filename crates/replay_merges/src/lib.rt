@@ -1,8 +1,8 @@
 // Replaying the merges: 10 to 13.
-use flags::MergingOwnersStrategy;
-use records::Answered;
-use records::Head;
-use rows::StorageRemovedBytes;
+use flags_spec::MergingOwnersStrategy;
+use records_spec::Answered;
+use records_spec::Head;
+use rows_spec::StorageRemovedBytes;
 use wire::take_bool;
 use wire::take_counts;
 use wire::take_epochs;

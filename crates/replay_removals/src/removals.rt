@@ -1,7 +1,7 @@
 // Replaying removal sums: 15 to 17.
-use rows::HasRemoval;
-use rows::Total;
-use sums::Summed;
+use rows_spec::HasRemoval;
+use rows_spec::Total;
+use sums_spec::Summed;
 use wire::byte_of;
 use wire::take_counts;
 use wire::take_epochs;

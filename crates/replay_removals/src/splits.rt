@@ -1,5 +1,5 @@
 // Replaying the split of a removal: 14.
-use splitting::Splitting;
+use splitting_spec::Splitting;
 use wire::byte_of;
 use wire::take_counts;
 use wire::take_epochs;

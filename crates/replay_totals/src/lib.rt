@@ -1,5 +1,5 @@
 // Replaying the change of a table of totals: 24.
-use totals::Replaced;
+use totals_spec::Replaced;
 use wire::byte_of;
 use wire::take_bool;
 use wire::take_counts;

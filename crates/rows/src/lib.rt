@@ -3,13 +3,8 @@ mod order;
 mod removed;
 mod row;
 
-pub use order::Order;
 pub use order::compare_ids;
 pub use order::compare_rows;
-pub use removed::HasRemoval;
-pub use removed::Removed;
-pub use removed::StorageRemovedBytes;
-pub use removed::Total;
 pub use removed::has_removal;
 pub use removed::is_proper;
 pub use removed::total_removed_bytes;

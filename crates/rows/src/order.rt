@@ -3,15 +3,9 @@ ghost use mathlib.Core.Path.{_≡_};
 ghost use Prim.Native.Nat.{_<_};
 ghost use mathlib.Core.List.{[]};
 ghost use lib.ListN.{length, getD};
-ghost use Rattle.rows.specs.Order.{by, order};
-ghost use Rattle.rows.specs.Rows.{row, compared};
-
-// How one thing stands to another.
-pub enum Order {
-    Less,
-    Equal,
-    Greater,
-}
+ghost use Rattle.rows_spec.specs.Order.{by, order};
+ghost use Rattle.rows_spec.specs.Rows.{row, compared};
+use rows_spec::Order;
 
 // How two identifiers stand to each other, byte by byte.
 pub fn compare_ids(a: &[u8], b: &[u8]) -> Order

@@ -1,37 +1,16 @@
 // What was removed: the state beside its rows, whether it is proper, and what it comes to.
 ghost use mathlib.Core.Path.{_≡_};
-ghost use Rattle.rows.specs.Rows.{tables, rowsIn, Room};
-ghost use Rattle.rows.specs.Removals.{proper, totalRows, anyBytes};
-ghost use Rattle.records.specs.Answers.{ok};
-ghost use Rattle.rows.specs.Calls.{told, totalled, within, hasRemoval, totalRemoved};
+ghost use Rattle.rows_spec.specs.Rows.{tables, rowsIn, Room};
+ghost use Rattle.rows_spec.specs.Removals.{proper, totalRows, anyBytes};
+ghost use Rattle.records_spec.specs.Answers.{ok};
+ghost use Rattle.rows_spec.specs.Calls.{told, totalled, within, hasRemoval, totalRemoved};
 use crate::row;
 use fields::LARGEST;
-use records::Refusal;
-
-// None, one number, or a number of rows.
-pub enum Removed {
-    None,
-    Basic(u32),
-    Sectioned(usize),
-}
-
-// A removal; its rows stand in the first places of three tables.
-pub struct StorageRemovedBytes {
-    pub removed: Removed,
-}
-
-// Whether something was removed, or a refusal.
-pub enum HasRemoval {
-    Yes,
-    No,
-    Refused(Refusal),
-}
-
-// A number of bytes, or a refusal.
-pub enum Total {
-    Bytes(u32),
-    Refused(Refusal),
-}
+use records_spec::Refusal;
+use rows_spec::HasRemoval;
+use rows_spec::Removed;
+use rows_spec::StorageRemovedBytes;
+use rows_spec::Total;
 
 // Whether a removal and its tables are proper.
 pub fn is_proper(removed: Removed, ids: &[[u8; 32]], epochs: &[u16], bytes: &[u32]) -> bool

@@ -1,9 +1,9 @@
 // The three tables of rows: place i of them holds an identifier, an epoch and a number of bytes.
 ghost use mathlib.Core.Path.{_≡_};
 ghost use Prim.Native.Nat.{_+_};
-ghost use Rattle.rows.specs.Rows.{row, tables, roomIn, properRows, setRow, Room};
+ghost use Rattle.rows_spec.specs.Rows.{row, tables, roomIn, properRows, setRow, Room};
 use crate::order;
-use crate::order::Order;
+use rows_spec::Order;
 
 // Whether n rows have room in all three tables.
 pub fn fit(n: usize, ids: &[[u8; 32]], epochs: &[u16], bytes: &[u32]) -> bool

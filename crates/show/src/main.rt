@@ -3,8 +3,8 @@ ghost use Prim.Native.Nat.{_≤_};
 ghost use mathlib.Core.Path.{_≡_};
 ghost use lib.ListN.{length, take};
 ghost use Rattle.io.specs.Counts.{Counts};
-ghost use Rattle.listing.specs.Listed.{longest, listed};
-use records::Counted;
+ghost use Rattle.listing_spec.specs.Listed.{longest, listed};
+use records_spec::Counted;
 use streams::Input;
 
 // Puts the text at the start of `out`, which has room for every text, so that the refusal does not occur.

@@ -2,9 +2,10 @@
 ghost use mathlib.Core.Path.{_≡_};
 ghost use Prim.Native.Nat.{_-_, min};
 ghost use lib.ListN.{length};
-ghost use Rattle.records.specs.Tables.{recordsOf};
-ghost use Rattle.splitting.specs.Sections.{minimum};
-ghost use Rattle.splitting.specs.Visits.{visits};
+ghost use Rattle.records_spec.specs.Tables.{recordsOf};
+ghost use Rattle.splitting_spec.specs.Sections.{minimum};
+ghost use Rattle.splitting_spec.specs.Visits.{visits};
+use splitting_spec::Visited;
 
 // What a record keeps, if it has as much; with so little left it is dropped.
 pub const MINIMUM_NON_BASE_FLAGS_SIZE: u32 = 3;
@@ -21,12 +22,6 @@ pub fn gives(asked: u32, count: u32) -> u32
         return most;
     }
     asked
-}
-
-// How many records were visited, and what they left for the base.
-pub struct Visited {
-    pub records: usize,
-    pub left: u32,
 }
 
 // Visits the records from the latest down, while bytes are left. Nothing is written.

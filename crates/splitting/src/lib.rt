@@ -3,6 +3,4 @@ mod giving;
 mod split;
 
 pub use giving::MINIMUM_NON_BASE_FLAGS_SIZE;
-pub use split::Split;
-pub use split::Splitting;
 pub use split::split_storage_removed_bytes;

@@ -2,35 +2,24 @@
 ghost use mathlib.Core.Path.{_≡_};
 ghost use mathlib.Core.List.{List, [], _∷_};
 ghost use lib.ListN.{length};
-ghost use Rattle.records.specs.Tables.{At, _⦂_, recordsOf};
-ghost use Rattle.records.specs.Answers.{ok};
-ghost use Rattle.rows.specs.Rows.{tables, Room};
-ghost use Rattle.splitting.specs.Sections.{split, allowed};
-ghost use Rattle.splitting.specs.Visits.{rowsAtBase};
-ghost use Rattle.splitting.specs.Calls.{removalOf, PlacedRemoval, parted, shown, placing, splitRemoved};
+ghost use Rattle.records_spec.specs.Tables.{At, _⦂_, recordsOf};
+ghost use Rattle.records_spec.specs.Answers.{ok};
+ghost use Rattle.rows_spec.specs.Rows.{tables, Room};
+ghost use Rattle.splitting_spec.specs.Sections.{split, allowed};
+ghost use Rattle.splitting_spec.specs.Visits.{rowsAtBase};
+ghost use Rattle.splitting_spec.specs.Calls.{removalOf, PlacedRemoval, parted, shown, placing, splitRemoved};
 use crate::giving::gives;
 use crate::giving::visit;
-use records::Head;
-use records::OwnerId;
-use records::Refusal;
-use rows::Removed;
-use rows::StorageRemovedBytes;
+use records_spec::Head;
+use records_spec::OwnerId;
+use records_spec::Refusal;
+use rows_spec::Removed;
+use rows_spec::StorageRemovedBytes;
+use splitting_spec::Split;
+use splitting_spec::Splitting;
 
 // The most that a value split of flags with records takes.
 const LARGEST_REMOVAL: u32 = 4294967292;
-
-// The removals of the key's and the value's bytes, and how many records were visited for the value's.
-pub struct Split {
-    pub key: StorageRemovedBytes,
-    pub value: StorageRemovedBytes,
-    pub visited: usize,
-}
-
-// A split, or a refusal.
-pub enum Splitting {
-    Done(Split),
-    Refused(Refusal),
-}
 
 // Whether a value split of flags with so many records takes so much.
 fn is_allowed(records: usize, bytes: u32) -> bool
@@ -197,7 +186,7 @@ pub fn split_storage_removed_bytes(
     if records::is_proper(flags, epochs, counts) {
         let n = flags.records;
         if is_allowed(n, removed_value_bytes) {
-            let owner = flags.owner_id();
+            let owner = records::owner_id(flags);
             let id = owner.id;
             return split_allowed(
                 flags.base,

@@ -8,27 +8,27 @@ use Prim.Native.Nat.{ℕ, zero, suc, _+_, _≤_}
 use native.Mathlib.Omega.{arith}
 use lib.ListN.{length, take}
 use borrow.Author.Tests.{le-leb, eqb-true}
-use Rattle.fields.specs.Varint.{largest}
-use Rattle.records.specs.Tables.{At, _⦂_, recordsOf, held, put, union}
-use Rattle.records.specs.Flags.{Flags, flags, multi, idOf, ownerOf, agrees}
-use Rattle.records.specs.Answers.{Answer, ok, After, placed, placing}
-use Rattle.records.proofs.Unions.{union-none}
-use Rattle.records.proofs.Answers.{after-placed}
-use Rattle.records.proofs.Proper.{proper-inv}
-use Rattle.flags.specs.declared.owners.MergingOwnersStrategy.{MergingOwnersStrategy}
-use Rattle.flags.specs.Merging.{added, raised, joined}
-use Rattle.flags.proofs.Choosing.{owner-stays}
-use Rattle.flags.proofs.Merging.{added-owned, raised-higher, combined-proper}
-use Rattle.rows.specs.Rows.{Row, Tables, Room, rowsUnder}
-use Rattle.rows.specs.Removals.{rowsOfRemoval, stateOf}
-use Rattle.rows.proofs.Rows.{has-room, room-less}
-use Rattle.splitting.specs.Sections.{split, allowed, largestRemoval}
-use Rattle.splitting.specs.Calls.{Split, removalOf as removalOfSplit, Told, placing as placingSplit, splitRemoved}
-use Rattle.splitting.proofs.Sections.{split-none}
-use Rattle.splitting.proofs.Counting.{value-rows, split-short}
-use Rattle.splitting.proofs.Calls.{split-fitting}
-use Rattle.splitting.proofs.Accepted.{splitFor, value-stands}
-use Rattle.removal.proofs.OwnSplit.{rest, Incoming, split-merged}
+use Rattle.fields_spec.specs.Varint.{largest}
+use Rattle.records_spec.specs.Tables.{At, _⦂_, recordsOf, held, put, union}
+use Rattle.records_spec.specs.Flags.{Flags, flags, multi, idOf, ownerOf, agrees}
+use Rattle.records_spec.specs.Answers.{Answer, ok, After, placed, placing}
+use Rattle.records_spec.proofs.Unions.{union-none}
+use Rattle.records_spec.proofs.Answers.{after-placed}
+use Rattle.records_spec.proofs.Proper.{proper-inv}
+use Rattle.flags_spec.specs.declared.owners.MergingOwnersStrategy.{MergingOwnersStrategy}
+use Rattle.flags_spec.specs.Merging.{added, raised, joined}
+use Rattle.flags_spec.proofs.Choosing.{owner-stays}
+use Rattle.flags_spec.proofs.Merging.{added-owned, raised-higher, combined-proper}
+use Rattle.rows_spec.specs.Rows.{Row, Tables, Room, rowsUnder}
+use Rattle.rows_spec.specs.Removals.{rowsOfRemoval, stateOf}
+use Rattle.rows_spec.proofs.Rows.{has-room, room-less}
+use Rattle.splitting_spec.specs.Sections.{split, allowed, largestRemoval}
+use Rattle.splitting_spec.specs.Calls.{Split, removalOf as removalOfSplit, Told, placing as placingSplit, splitRemoved}
+use Rattle.splitting_spec.proofs.Sections.{split-none}
+use Rattle.splitting_spec.proofs.Counting.{value-rows, split-short}
+use Rattle.splitting_spec.proofs.Calls.{split-fitting}
+use Rattle.splitting_spec.proofs.Accepted.{splitFor, value-stands}
+use Rattle.removal_spec.proofs.OwnSplit.{rest, Incoming, split-merged}
 use Rattle.steps.specs.Held.{Held, properHeld, flagsIn}
 use Rattle.steps.specs.History.{Edit, add, remove, State, state, leftBy, splitMerged, step}
 use Rattle.steps.proofs.Standing.{Stands, heldIn, stands-long}

@@ -7,21 +7,21 @@ use mathlib.Core.List.{List}
 use Prim.Native.Nat.{ℕ}
 use lib.Dec.{leb}
 use lib.ListN.{length}
-use Rattle.records.specs.Flags.{Flags, flagsOf, proper}
-use Rattle.records.specs.Answers.{Answer, ok, refused, After, kept, placed, roomFor, after, placing, Written, writing}
-use Rattle.records.specs.declared.head.Head.{Head}
-use Rattle.codec.specs.Bytes.{bytesOf}
-use Rattle.codec.specs.Calls.{serialized}
-use Rattle.flags.specs.Merging.{added}
-use Rattle.flags.specs.Calls.{handedOn, combinedAdded}
-use Rattle.rows.specs.Rows.{Tables, roomIn}
-use Rattle.rows.specs.Removals.{Removal, removalOf, rowsOfRemoval, proper as properRemoval}
-use Rattle.rows.specs.declared.removed.Removed.{Removed}
-use Rattle.sums.specs.Sums.{sum}
-use Rattle.sums.specs.Calls.{After as AfterSum, kept as keptSum, placing as placingSum, summed}
-use Rattle.splitting.specs.Calls.{Split, After as AfterSplit, kept as keptSplit, placing as placingSplit, splitOf, splitRemoved}
-use Rattle.removal.specs.Removing.{removed}
-use Rattle.removal.specs.Calls.{combinedRemoved}
+use Rattle.records_spec.specs.Flags.{Flags, flagsOf, proper}
+use Rattle.records_spec.specs.Answers.{Answer, ok, refused, After, kept, placed, roomFor, after, placing, Written, writing}
+use Rattle.records_spec.specs.declared.head.Head.{Head}
+use Rattle.codec_spec.specs.Bytes.{bytesOf}
+use Rattle.codec_spec.specs.Calls.{serialized}
+use Rattle.flags_spec.specs.Merging.{added}
+use Rattle.flags_spec.specs.Calls.{handedOn, combinedAdded}
+use Rattle.rows_spec.specs.Rows.{Tables, roomIn}
+use Rattle.rows_spec.specs.Removals.{Removal, removalOf, rowsOfRemoval, proper as properRemoval}
+use Rattle.rows_spec.specs.declared.removed.Removed.{Removed}
+use Rattle.sums_spec.specs.Sums.{sum}
+use Rattle.sums_spec.specs.Calls.{After as AfterSum, kept as keptSum, placing as placingSum, summed}
+use Rattle.splitting_spec.specs.Calls.{Split, After as AfterSplit, kept as keptSplit, placing as placingSplit, splitOf, splitRemoved}
+use Rattle.removal_spec.specs.Removing.{removed}
+use Rattle.removal_spec.specs.Calls.{combinedRemoved}
 use Rattle.steps.specs.Held.{Held, properHeld, flagsIn, addedInto, removedInto}
 use Rattle.steps.specs.Calls.{Keeps, Merge, numberIn, PublicCall, deserialize, deserialize-single-epoch, deserialize-multi-epoch, deserialize-single-epoch-owned, deserialize-multi-epoch-owned, judge, judge-as, serialize, serialized-size, approximate-size, list, new-single-epoch, set-owner-id, base-epoch, owner-id, type-byte, choose-owner, combine-owners, combine-owner-id, choose-owner-id, combine-added-bytes, optional-combine-added-bytes, combine-removed-bytes, optional-combine-removed-bytes, has-removal, total-removed-bytes, add-assign, split-storage-removed-bytes, contract}
 

@@ -7,15 +7,15 @@ use Prim.Native.Nat.{ℕ, _+_, _-_, _≤_, _<_, min}
 use native.Mathlib.Omega.{arith}
 use lib.ListN.{length, length-append}
 use borrow.Author.Tests.{eq-eqb}
-use Rattle.records.specs.Tables.{At, _⦂_, epochsOf, ascending, held, put}
-use Rattle.records.proofs.Tables.{epochs-append}
-use Rattle.records.proofs.Rising.{asc-tail}
-use Rattle.records.proofs.Unions.{put-at, put-past}
-use Rattle.records.proofs.Held.{held-put}
-use Rattle.splitting.specs.Sections.{minimum, above, section, split}
-use Rattle.splitting.proofs.Sections.{split-none, asked-all, asked-last, split-last}
-use Rattle.splitting.proofs.Given.{later}
-use Rattle.removal.specs.Removing.{left}
+use Rattle.records_spec.specs.Tables.{At, _⦂_, epochsOf, ascending, held, put}
+use Rattle.records_spec.proofs.Tables.{epochs-append}
+use Rattle.records_spec.proofs.Rising.{asc-tail}
+use Rattle.records_spec.proofs.Unions.{put-at, put-past}
+use Rattle.records_spec.proofs.Held.{held-put}
+use Rattle.splitting_spec.specs.Sections.{minimum, above, section, split}
+use Rattle.splitting_spec.proofs.Sections.{split-none, asked-all, asked-last, split-last}
+use Rattle.splitting_spec.proofs.Given.{later}
+use Rattle.removal_spec.specs.Removing.{left}
 use Rattle.steps.proofs.Remaining.{remaining, remaining-none, stays, remains, remaining-each, stays-left, given, given-append, part, part-sum, given-section}
 
 -- records up to a latest one, at e

@@ -2,23 +2,23 @@
 -- Assumes nothing.
 use mathlib.Core.Path.{_≡_, refl}
 use mathlib.Core.List.{map}
-use Rattle.fields.specs.Big.{saidAfter}
-use Rattle.fields.specs.Varint.{groups, varint, high, value, found}
-use Rattle.records.specs.Tables.{recordsOf, epochsOf, countsOf, ascending, has, held, put, union}
-use Rattle.records.specs.Flags.{same, proper}
-use Rattle.records.specs.Answers.{after}
-use Rattle.codec.specs.Reading.{next, parse, readAs, read}
-use Rattle.flags.specs.Merging.{added}
-use Rattle.flags.specs.Calls.{combinedAdded}
-use Rattle.rows.specs.Order.{order}
-use Rattle.rows.specs.Rows.{ascends, idsOf, partsOf, rowsUnder, rowsOf, properRows}
-use Rattle.sums.specs.Joins.{addRow}
-use Rattle.sums.specs.Sums.{anyOfZeros, withoutZeros, basicPlus}
-use Rattle.sums.specs.Calls.{placing as placingSum, summed}
-use Rattle.splitting.specs.Sections.{spare, section, sections, split}
-use Rattle.splitting.specs.Calls.{placing as placingSplit, splitRemoved}
-use Rattle.removal.specs.Removing.{allUnder, fault, minus, removed}
-use Rattle.removal.specs.Calls.{combinedRemoved}
+use Rattle.fields_spec.specs.Big.{saidAfter}
+use Rattle.fields_spec.specs.Varint.{groups, varint, high, value, found}
+use Rattle.records_spec.specs.Tables.{recordsOf, epochsOf, countsOf, ascending, has, held, put, union}
+use Rattle.records_spec.specs.Flags.{same, proper}
+use Rattle.records_spec.specs.Answers.{after}
+use Rattle.codec_spec.specs.Reading.{next, parse, readAs, read}
+use Rattle.flags_spec.specs.Merging.{added}
+use Rattle.flags_spec.specs.Calls.{combinedAdded}
+use Rattle.rows_spec.specs.Order.{order}
+use Rattle.rows_spec.specs.Rows.{ascends, idsOf, partsOf, rowsUnder, rowsOf, properRows}
+use Rattle.sums_spec.specs.Joins.{addRow}
+use Rattle.sums_spec.specs.Sums.{anyOfZeros, withoutZeros, basicPlus}
+use Rattle.sums_spec.specs.Calls.{placing as placingSum, summed}
+use Rattle.splitting_spec.specs.Sections.{spare, section, sections, split}
+use Rattle.splitting_spec.specs.Calls.{placing as placingSplit, splitRemoved}
+use Rattle.removal_spec.specs.Removing.{allUnder, fault, minus, removed}
+use Rattle.removal_spec.specs.Calls.{combinedRemoved}
 use Rattle.steps.specs.History.{step}
 use Rattle.steps.specs.Marked.{tell, Example, examples}
 

@@ -4,17 +4,17 @@
 use mathlib.Core.Path.{_≡_, refl}
 use mathlib.Core.Option.{none}
 use mathlib.Core.List.{List, [], _∷_, map}
-use Rattle.records.specs.Tables.{At, _⦂_, recordsOf, epochsOf, countsOf, ascending, has, held, put, union}
-use Rattle.records.specs.Flags.{flags, zeros, same, proper}
-use Rattle.records.specs.Answers.{after}
-use Rattle.flags.specs.Merging.{added}
-use Rattle.flags.specs.Calls.{combinedAdded}
-use Rattle.rows.specs.Order.{order}
-use Rattle.rows.specs.Rows.{ascends, idsOf, partsOf, rowsUnder, tables, rowsOf, properRows}
-use Rattle.splitting.specs.Sections.{spare, section, sections, split}
-use Rattle.splitting.specs.Calls.{placing, splitRemoved}
-use Rattle.removal.specs.Removing.{allUnder, fault, minus, removed}
-use Rattle.removal.specs.Calls.{combinedRemoved}
+use Rattle.records_spec.specs.Tables.{At, _⦂_, recordsOf, epochsOf, countsOf, ascending, has, held, put, union}
+use Rattle.records_spec.specs.Flags.{flags, zeros, same, proper}
+use Rattle.records_spec.specs.Answers.{after}
+use Rattle.flags_spec.specs.Merging.{added}
+use Rattle.flags_spec.specs.Calls.{combinedAdded}
+use Rattle.rows_spec.specs.Order.{order}
+use Rattle.rows_spec.specs.Rows.{ascends, idsOf, partsOf, rowsUnder, tables, rowsOf, properRows}
+use Rattle.splitting_spec.specs.Sections.{spare, section, sections, split}
+use Rattle.splitting_spec.specs.Calls.{placing, splitRemoved}
+use Rattle.removal_spec.specs.Removing.{allUnder, fault, minus, removed}
+use Rattle.removal_spec.specs.Calls.{combinedRemoved}
 use Rattle.steps.specs.History.{Edit, Step, add, remove, state, step, run}
 use Rattle.steps.specs.Marked.{Reply, someFlags, refusal, unowned, edit, toldOfStep}
 

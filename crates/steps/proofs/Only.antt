@@ -3,18 +3,18 @@
 use mathlib.Core.Path.{_≡_}
 use mathlib.Core.List.{List}
 use Prim.Native.Nat.{ℕ}
-use Rattle.records.specs.Answers.{After, shown, Written, wrote}
-use Rattle.records.specs.declared.answer.Answered.{Answered}
-use Rattle.records.specs.declared.answer.Counted.{Counted}
-use Rattle.records.proofs.Only.{same-only, counted-only, wrote-only, shown-only}
-use Rattle.rows.specs.Rows.{Tables}
-use Rattle.sums.specs.Calls.{After as AfterSum, shown as shownSum}
-use Rattle.sums.specs.declared.sum.Summed.{Summed}
-use Rattle.splitting.specs.Calls.{After as AfterSplit, shown as shownSplit}
-use Rattle.splitting.specs.declared.split.Splitting.{Splitting}
-use Rattle.rows.proofs.Only.{told-only, totalled-only}
-use Rattle.sums.proofs.Only as sums
-use Rattle.splitting.proofs.Only as splits
+use Rattle.records_spec.specs.Answers.{After, shown, Written, wrote}
+use Rattle.records_spec.specs.declared.answer.Answered.{Answered}
+use Rattle.records_spec.specs.declared.answer.Counted.{Counted}
+use Rattle.records_spec.proofs.Only.{same-only, counted-only, wrote-only, shown-only}
+use Rattle.rows_spec.specs.Rows.{Tables}
+use Rattle.sums_spec.specs.Calls.{After as AfterSum, shown as shownSum}
+use Rattle.sums_spec.specs.declared.sum.Summed.{Summed}
+use Rattle.splitting_spec.specs.Calls.{After as AfterSplit, shown as shownSplit}
+use Rattle.splitting_spec.specs.declared.split.Splitting.{Splitting}
+use Rattle.rows_spec.proofs.Only.{told-only, totalled-only}
+use Rattle.sums_spec.proofs.Only as sums
+use Rattle.splitting_spec.proofs.Only as splits
 use Rattle.steps.specs.Calls.{Only, PublicCall, deserialize, deserialize-single-epoch, deserialize-multi-epoch, deserialize-single-epoch-owned, deserialize-multi-epoch-owned, judge, judge-as, serialize, serialized-size, approximate-size, list, new-single-epoch, set-owner-id, base-epoch, owner-id, type-byte, choose-owner, combine-owners, combine-owner-id, choose-owner-id, combine-added-bytes, optional-combine-added-bytes, combine-removed-bytes, optional-combine-removed-bytes, has-removal, total-removed-bytes, add-assign, split-storage-removed-bytes, contract}
 
 -- outcomes of which x is shown, form by form

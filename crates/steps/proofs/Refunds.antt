@@ -5,9 +5,9 @@ use mathlib.Core.Bool.{Bool, true, false, cond}
 use mathlib.Core.List.{List, [], _∷_, _++_}
 use Prim.Native.Nat.{ℕ, _+_}
 use native.Mathlib.Omega.{arith}
-use Rattle.records.specs.Tables.{At}
-use Rattle.records.specs.Flags.{same}
-use Rattle.rows.specs.Rows.{Row, rowsUnder}
+use Rattle.records_spec.specs.Tables.{At}
+use Rattle.records_spec.specs.Flags.{same}
+use Rattle.rows_spec.specs.Rows.{Row, rowsUnder}
 use Rattle.steps.specs.History.{refundAt}
 use Rattle.steps.proofs.Remaining.{given}
 

@@ -10,13 +10,13 @@ use native.Mathlib.Omega.{arith}
 use native.Mathlib.Decide.{decLt}
 use lib.Dec.{ltb, eqb}
 use borrow.Author.Tests.{lt-ltb, le-ltb, le-leb, lt-leb}
-use Rattle.records.specs.Tables.{At, _⦂_, epochsOf, ascending}
-use Rattle.splitting.specs.Sections.{minimum, above, spare, asked, section, sections, split}
-use Rattle.splitting.proofs.Sections.{split-none}
-use Rattle.splitting.proofs.Given.{record-has, record-gives}
-use Rattle.removal.specs.Removing.{left, minus}
-use Rattle.removal.proofs.Lessening.{minus-none, minus-cons, minus-above}
-use Rattle.removal.proofs.OwnSplit.{minus-nothing}
+use Rattle.records_spec.specs.Tables.{At, _⦂_, epochsOf, ascending}
+use Rattle.splitting_spec.specs.Sections.{minimum, above, spare, asked, section, sections, split}
+use Rattle.splitting_spec.proofs.Sections.{split-none}
+use Rattle.splitting_spec.proofs.Given.{record-has, record-gives}
+use Rattle.removal_spec.specs.Removing.{left, minus}
+use Rattle.removal_spec.proofs.Lessening.{minus-none, minus-cons, minus-above}
+use Rattle.removal_spec.proofs.OwnSplit.{minus-nothing}
 
 -- what remains of records of which n bytes were removed
 abbrev pub remaining : ℕ → List At → ℕ → List At

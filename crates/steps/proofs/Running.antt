@@ -7,16 +7,16 @@ use mathlib.Core.List.{List, [], _∷_}
 use Prim.Native.Nat.{ℕ, _+_, _-_, _≤_, _<_}
 use native.Mathlib.Omega.{arith}
 use lib.ListN.{length}
-use Rattle.fields.specs.Varint.{largest}
-use Rattle.records.specs.Tables.{At, _⦂_, epochsOf, ascending, held, put}
-use Rattle.records.specs.Flags.{Flags, flags, idOf, ownerOf}
-use Rattle.records.specs.Answers.{ok, placed}
-use Rattle.rows.specs.Rows.{Row}
-use Rattle.rows.proofs.Rows.{room-less}
-use Rattle.splitting.specs.Sections.{split}
-use Rattle.splitting.proofs.Sections.{split-none}
-use Rattle.removal.proofs.Lessening.{minus-long, minus-above}
-use Rattle.removal.proofs.OwnSplit.{Incoming}
+use Rattle.fields_spec.specs.Varint.{largest}
+use Rattle.records_spec.specs.Tables.{At, _⦂_, epochsOf, ascending, held, put}
+use Rattle.records_spec.specs.Flags.{Flags, flags, idOf, ownerOf}
+use Rattle.records_spec.specs.Answers.{ok, placed}
+use Rattle.rows_spec.specs.Rows.{Row}
+use Rattle.rows_spec.proofs.Rows.{room-less}
+use Rattle.splitting_spec.specs.Sections.{split}
+use Rattle.splitting_spec.proofs.Sections.{split-none}
+use Rattle.removal_spec.proofs.Lessening.{minus-long, minus-above}
+use Rattle.removal_spec.proofs.OwnSplit.{Incoming}
 use Rattle.steps.specs.Held.{Held, flagsIn}
 use Rattle.steps.specs.History.{Edit, Step, add, remove, State, state, step, allAdded, allRemoved}
 use Rattle.steps.specs.Demand.{Single, Adds, Removes, First, Then}

@@ -6,10 +6,10 @@ use mathlib.Core.Option.{Option}
 use mathlib.Core.List.{List, [], _∷_, _++_, append-nil}
 use Prim.Native.Nat.{ℕ, _+_}
 use native.Mathlib.Omega.{arith}
-use Rattle.records.specs.Tables.{At}
-use Rattle.records.specs.Flags.{Flags, flags, same, idOf}
-use Rattle.records.specs.Answers.{Answer, ok, refused}
-use Rattle.rows.specs.Rows.{Row, rowsUnder}
+use Rattle.records_spec.specs.Tables.{At}
+use Rattle.records_spec.specs.Flags.{Flags, flags, same, idOf}
+use Rattle.records_spec.specs.Answers.{Answer, ok, refused}
+use Rattle.rows_spec.specs.Rows.{Row, rowsUnder}
 use Rattle.steps.specs.History.{Step, State, step, onward, run, refundAt}
 use Rattle.steps.proofs.Standing.{Stands}
 use Rattle.steps.proofs.Remaining.{given}

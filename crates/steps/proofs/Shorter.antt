@@ -6,14 +6,14 @@ use mathlib.Core.List.{List, [], _∷_, _++_}
 use Prim.Native.Nat.{ℕ, _≤_}
 use native.Mathlib.Omega.{arith}
 use lib.ListN.{length}
-use Rattle.fields.proofs.Varints.{length-mono}
-use Rattle.records.specs.Tables.{At, countsOf}
-use Rattle.records.specs.Flags.{flags}
-use Rattle.codec.specs.Bytes.{bytesOf}
-use Rattle.codec.specs.Sizes.{countsSize}
-use Rattle.codec.proofs.Sizing.{length-bytes}
-use Rattle.removal.specs.Removing.{minus}
-use Rattle.removal.proofs.Lessening.{lessened-cases}
+use Rattle.fields_spec.proofs.Varints.{length-mono}
+use Rattle.records_spec.specs.Tables.{At, countsOf}
+use Rattle.records_spec.specs.Flags.{flags}
+use Rattle.codec_spec.specs.Bytes.{bytesOf}
+use Rattle.codec_spec.specs.Sizes.{countsSize}
+use Rattle.codec_spec.proofs.Sizing.{length-bytes}
+use Rattle.removal_spec.specs.Removing.{minus}
+use Rattle.removal_spec.proofs.Lessening.{lessened-cases}
 
 counts-less : (rs ss : List At) → countsSize (countsOf (minus rs ss)) ≤ countsSize (countsOf rs)
 unfolding minus countsOf countsSize

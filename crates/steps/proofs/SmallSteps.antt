@@ -6,14 +6,14 @@ use mathlib.Core.List.{List, [], _∷_, _++_}
 use Prim.Native.Nat.{ℕ, _+_, _-_, _≤_}
 use native.Mathlib.Omega.{arith}
 use lib.ListN.{length}
-use Rattle.records.specs.Tables.{At, _⦂_, over}
-use Rattle.records.specs.Flags.{Flags, ownerOf}
-use Rattle.records.specs.Answers.{ok, writing}
-use Rattle.records.proofs.Answers.{writing-fits}
-use Rattle.codec.specs.Bytes.{bytesOf}
-use Rattle.codec.proofs.Writings.{serialized-proper}
-use Rattle.rows.specs.Rows.{rowsUnder}
-use Rattle.splitting.specs.Sections.{split}
+use Rattle.records_spec.specs.Tables.{At, _⦂_, over}
+use Rattle.records_spec.specs.Flags.{Flags, ownerOf}
+use Rattle.records_spec.specs.Answers.{ok, writing}
+use Rattle.records_spec.proofs.Answers.{writing-fits}
+use Rattle.codec_spec.specs.Bytes.{bytesOf}
+use Rattle.codec_spec.proofs.Writings.{serialized-proper}
+use Rattle.rows_spec.specs.Rows.{rowsUnder}
+use Rattle.splitting_spec.specs.Sections.{split}
 use Rattle.steps.specs.Held.{Held, bytesInto}
 use Rattle.steps.specs.History.{Edit, Step, add, remove, state, allAdded, allRemoved, refundAt}
 use Rattle.steps.specs.Demand.{First, Premises, Refunds}

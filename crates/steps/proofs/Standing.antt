@@ -6,11 +6,11 @@ use mathlib.Core.List.{List}
 use Prim.Native.Nat.{ℕ}
 use native.Mathlib.Omega.{arith}
 use lib.ListN.{length, take}
-use Rattle.records.specs.Tables.{epochsOf, countsOf, ascending, over}
-use Rattle.records.specs.Flags.{Flags}
-use Rattle.records.specs.Answers.{After, placed}
-use Rattle.records.proofs.Tables.{over-first, over-holds, length-epochsOf, length-countsOf}
-use Rattle.records.proofs.Proper.{proper-inv, proper-ascends, proper-long, stand-proper, stand-flags}
+use Rattle.records_spec.specs.Tables.{epochsOf, countsOf, ascending, over}
+use Rattle.records_spec.specs.Flags.{Flags}
+use Rattle.records_spec.specs.Answers.{After, placed}
+use Rattle.records_spec.proofs.Tables.{over-first, over-holds, length-epochsOf, length-countsOf}
+use Rattle.records_spec.proofs.Proper.{proper-inv, proper-ascends, proper-long, stand-proper, stand-flags}
 use Rattle.steps.specs.Held.{Held, holding, properHeld, flagsIn}
 
 -- held flags are proper, and these

@@ -8,22 +8,22 @@ use mathlib.Core.List.{List, [], _∷_, _++_, map}
 use Prim.Native.Nat.{ℕ, _≤_, _<_}
 use native.Mathlib.Omega.{arith}
 use lib.ListN.{replicate}
-use Rattle.fields.specs.Big.{big}
-use Rattle.fields.specs.Varint.{groups, varint}
-use Rattle.records.specs.Tables.{_⦂_, recordsOf, epochsOf, countsOf, ascending, has, held, put, union}
-use Rattle.records.specs.Flags.{Flags, flags, same, headOf, proper}
-use Rattle.records.specs.Answers.{Answer, ok, refused, after}
-use Rattle.codec.specs.Bytes.{recordsBytes, bytesOf}
-use Rattle.flags.specs.Merging.{added}
-use Rattle.flags.specs.Calls.{combinedAdded}
-use Rattle.flags.specs.declared.owners.MergingOwnersStrategy.{MergingOwnersStrategy}
-use Rattle.flags.specs.declared.owners.MergingOwnersStrategy.the-variants.{RaiseIssue, UseOurs, UseTheirs}
-use Rattle.rows.specs.Order.{order}
-use Rattle.rows.specs.Rows.{ascends, idsOf, partsOf, rowsUnder, Tables, tables, rowsOf, properRows}
-use Rattle.splitting.specs.Sections.{largestRemoval, spare, section, sections, split}
-use Rattle.splitting.specs.Calls.{placing, splitRemoved}
-use Rattle.removal.specs.Removing.{allUnder, fault, minus, removed}
-use Rattle.removal.specs.Calls.{combinedRemoved}
+use Rattle.fields_spec.specs.Big.{big}
+use Rattle.fields_spec.specs.Varint.{groups, varint}
+use Rattle.records_spec.specs.Tables.{_⦂_, recordsOf, epochsOf, countsOf, ascending, has, held, put, union}
+use Rattle.records_spec.specs.Flags.{Flags, flags, same, headOf, proper}
+use Rattle.records_spec.specs.Answers.{Answer, ok, refused, after}
+use Rattle.codec_spec.specs.Bytes.{recordsBytes, bytesOf}
+use Rattle.flags_spec.specs.Merging.{added}
+use Rattle.flags_spec.specs.Calls.{combinedAdded}
+use Rattle.flags_spec.specs.declared.owners.MergingOwnersStrategy.{MergingOwnersStrategy}
+use Rattle.flags_spec.specs.declared.owners.MergingOwnersStrategy.the-variants.{RaiseIssue, UseOurs, UseTheirs}
+use Rattle.rows_spec.specs.Order.{order}
+use Rattle.rows_spec.specs.Rows.{ascends, idsOf, partsOf, rowsUnder, Tables, tables, rowsOf, properRows}
+use Rattle.splitting_spec.specs.Sections.{largestRemoval, spare, section, sections, split}
+use Rattle.splitting_spec.specs.Calls.{placing, splitRemoved}
+use Rattle.removal_spec.specs.Removing.{allUnder, fault, minus, removed}
+use Rattle.removal_spec.specs.Calls.{combinedRemoved}
 use Rattle.steps.specs.Held.{Held, holding, flagsIn}
 use Rattle.steps.specs.History.{Edit, Step, add, remove, State, state, step, run, allAdded, allRemoved, refundAt}
 use Rattle.steps.specs.Demand.{Single, Adds, Removes, Premises, Refunds}

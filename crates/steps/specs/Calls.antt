@@ -5,33 +5,33 @@ use Prim.Native.Nat.{ℕ}
 use mathlib.Core.Path.{_≡_}
 use mathlib.Core.Bool.{Bool}
 use mathlib.Core.List.{List}
-use Rattle.records.specs.Flags.{typeByte, ownerIf, maybeOwner, ownerOf, headFor, withOwner}
-use Rattle.records.specs.Answers.{Answer, ok, refused, After, shown, kept, counted, Written, wrote, writing}
-use Rattle.records.specs.declared.head.Head.{Head}
-use Rattle.records.specs.declared.head.Kind.{Kind}
-use Rattle.records.specs.declared.head.Kind.the-variants.{SingleEpoch, MultiEpoch, SingleEpochOwned, MultiEpochOwned}
-use Rattle.records.specs.declared.head.MaybeOwner.{MaybeOwner}
-use Rattle.records.specs.declared.answer.Answered.{Answered}
-use Rattle.records.specs.declared.answer.Counted.{Counted}
-use Rattle.codec.specs.Reading.{readAs, read}
-use Rattle.codec.specs.Sizes.{approximate}
-use Rattle.codec.specs.Calls.{judgement, deserializedAs, deserialized, serialized, sizeOf}
-use Rattle.codec.specs.declared.sizes.Changes.{Changes}
-use Rattle.flags.specs.Owners.{choice, combinedOwner, chosenAs}
-use Rattle.flags.specs.Parts.{Part}
-use Rattle.flags.specs.Calls.{ownerChoice, ownerHanded, combinedAdded, optionalCombinedAdded}
-use Rattle.flags.specs.declared.owners.MergingOwnersStrategy.{MergingOwnersStrategy}
-use Rattle.rows.specs.Rows.{Tables}
-use Rattle.rows.specs.Calls.{told, totalled, hasRemoval, totalRemoved}
-use Rattle.rows.specs.declared.removed.Removed.{Removed}
-use Rattle.rows.specs.declared.removed.HasRemoval.{HasRemoval}
-use Rattle.rows.specs.declared.removed.Total.{Total}
-use Rattle.sums.specs.Calls.{After as AfterSum, shown as shownSum, kept as keptSum, summed}
-use Rattle.sums.specs.declared.sum.Summed.{Summed}
-use Rattle.splitting.specs.Calls.{After as AfterSplit, shown as shownSplit, kept as keptSplit, splitRemoved}
-use Rattle.splitting.specs.declared.split.Splitting.{Splitting}
-use Rattle.removal.specs.Calls.{combinedRemoved, optionalCombinedRemoved}
-use Rattle.listing.specs.Listed.{listed}
+use Rattle.records_spec.specs.Flags.{typeByte, ownerIf, maybeOwner, ownerOf, headFor, withOwner}
+use Rattle.records_spec.specs.Answers.{Answer, ok, refused, After, shown, kept, counted, Written, wrote, writing}
+use Rattle.records_spec.specs.declared.head.Head.{Head}
+use Rattle.records_spec.specs.declared.head.Kind.{Kind}
+use Rattle.records_spec.specs.declared.head.Kind.the-variants.{SingleEpoch, MultiEpoch, SingleEpochOwned, MultiEpochOwned}
+use Rattle.records_spec.specs.declared.head.MaybeOwner.{MaybeOwner}
+use Rattle.records_spec.specs.declared.answer.Answered.{Answered}
+use Rattle.records_spec.specs.declared.answer.Counted.{Counted}
+use Rattle.codec_spec.specs.Reading.{readAs, read}
+use Rattle.codec_spec.specs.Sizes.{approximate}
+use Rattle.codec_spec.specs.Calls.{judgement, deserializedAs, deserialized, serialized, sizeOf}
+use Rattle.codec_spec.specs.declared.sizes.Changes.{Changes}
+use Rattle.flags_spec.specs.Owners.{choice, combinedOwner, chosenAs}
+use Rattle.flags_spec.specs.Parts.{Part}
+use Rattle.flags_spec.specs.Calls.{ownerChoice, ownerHanded, combinedAdded, optionalCombinedAdded}
+use Rattle.flags_spec.specs.declared.owners.MergingOwnersStrategy.{MergingOwnersStrategy}
+use Rattle.rows_spec.specs.Rows.{Tables}
+use Rattle.rows_spec.specs.Calls.{told, totalled, hasRemoval, totalRemoved}
+use Rattle.rows_spec.specs.declared.removed.Removed.{Removed}
+use Rattle.rows_spec.specs.declared.removed.HasRemoval.{HasRemoval}
+use Rattle.rows_spec.specs.declared.removed.Total.{Total}
+use Rattle.sums_spec.specs.Calls.{After as AfterSum, shown as shownSum, kept as keptSum, summed}
+use Rattle.sums_spec.specs.declared.sum.Summed.{Summed}
+use Rattle.splitting_spec.specs.Calls.{After as AfterSplit, shown as shownSplit, kept as keptSplit, splitRemoved}
+use Rattle.splitting_spec.specs.declared.split.Splitting.{Splitting}
+use Rattle.removal_spec.specs.Calls.{combinedRemoved, optionalCombinedRemoved}
+use Rattle.listing_spec.specs.Listed.{listed}
 use Rattle.steps.specs.Held.{Held}
 
 -- what goes in, what comes out, and what is shown of that; what this is to equal; of what is shown, the number of a refusal, or 0; and what a

@@ -7,13 +7,13 @@ use mathlib.Core.Bool.{true, false}
 use mathlib.Core.Option.{none}
 use mathlib.Core.List.{List, [], _∷_, _++_}
 use lib.ListN.{length}
-use Rattle.fields.specs.Varint.{largest}
-use Rattle.records.specs.Tables.{At, _⦂_, over}
-use Rattle.records.specs.Flags.{multi, idOf, ownerOf}
-use Rattle.records.specs.Answers.{ok}
-use Rattle.codec.specs.Bytes.{bytesOf}
-use Rattle.rows.specs.Rows.{row, Room}
-use Rattle.splitting.specs.Sections.{largestRemoval}
+use Rattle.fields_spec.specs.Varint.{largest}
+use Rattle.records_spec.specs.Tables.{At, _⦂_, over}
+use Rattle.records_spec.specs.Flags.{multi, idOf, ownerOf}
+use Rattle.records_spec.specs.Answers.{ok}
+use Rattle.codec_spec.specs.Bytes.{bytesOf}
+use Rattle.rows_spec.specs.Rows.{row, Room}
+use Rattle.splitting_spec.specs.Sections.{largestRemoval}
 use Rattle.steps.specs.Held.{Held, properHeld, flagsIn, bytesInto}
 use Rattle.steps.specs.History.{Edit, Step, add, remove, State, state, run, allAdded, allRemoved, refundAt}
 

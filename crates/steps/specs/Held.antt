@@ -3,16 +3,16 @@
 use Prim.Native.Nat.{ℕ}
 use mathlib.Core.Bool.{Bool}
 use mathlib.Core.List.{List}
-use Rattle.records.specs.Flags.{Flags, flagsOf, proper}
-use Rattle.records.specs.Answers.{After, Written}
-use Rattle.records.specs.declared.head.Head.{Head}
-use Rattle.codec.specs.Calls.{serialized}
-use Rattle.flags.specs.Calls.{combinedAdded}
-use Rattle.flags.specs.declared.owners.MergingOwnersStrategy.{MergingOwnersStrategy}
-use Rattle.rows.specs.Rows.{Tables}
-use Rattle.rows.specs.declared.removed.Removed.{Removed}
-use Rattle.splitting.specs.Calls.{After as AfterSplit, splitRemoved}
-use Rattle.removal.specs.Calls.{combinedRemoved}
+use Rattle.records_spec.specs.Flags.{Flags, flagsOf, proper}
+use Rattle.records_spec.specs.Answers.{After, Written}
+use Rattle.records_spec.specs.declared.head.Head.{Head}
+use Rattle.codec_spec.specs.Calls.{serialized}
+use Rattle.flags_spec.specs.Calls.{combinedAdded}
+use Rattle.flags_spec.specs.declared.owners.MergingOwnersStrategy.{MergingOwnersStrategy}
+use Rattle.rows_spec.specs.Rows.{Tables}
+use Rattle.rows_spec.specs.declared.removed.Removed.{Removed}
+use Rattle.splitting_spec.specs.Calls.{After as AfterSplit, splitRemoved}
+use Rattle.removal_spec.specs.Calls.{combinedRemoved}
 
 -- a head and its two tables
 pub record Held : Type 0 where

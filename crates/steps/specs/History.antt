@@ -4,12 +4,12 @@ use Prim.Native.Nat.{ℕ, _+_}
 use mathlib.Core.Bool.{cond, _&&_}
 use mathlib.Core.List.{List, [], _∷_, _++_}
 use lib.Dec.{eqb}
-use Rattle.records.specs.Flags.{same}
-use Rattle.records.specs.Answers.{Answer, ok, refused, After}
-use Rattle.flags.specs.declared.owners.MergingOwnersStrategy.{MergingOwnersStrategy}
-use Rattle.rows.specs.Rows.{Row, Tables}
-use Rattle.rows.specs.Removals.{removalOf, rowsOfRemoval}
-use Rattle.splitting.specs.Calls.{Told}
+use Rattle.records_spec.specs.Flags.{same}
+use Rattle.records_spec.specs.Answers.{Answer, ok, refused, After}
+use Rattle.flags_spec.specs.declared.owners.MergingOwnersStrategy.{MergingOwnersStrategy}
+use Rattle.rows_spec.specs.Rows.{Row, Tables}
+use Rattle.rows_spec.specs.Removals.{removalOf, rowsOfRemoval}
+use Rattle.splitting_spec.specs.Calls.{Told}
 use Rattle.steps.specs.Held.{Held, holding, addedInto, splitInto, removedInto}
 
 -- ---- steps

@@ -6,16 +6,16 @@ use mathlib.Core.Option.{none}
 use mathlib.Core.List.{List, [], _∷_}
 use lib.Dec.{eqb}
 use lib.ListN.{replicate}
-use Rattle.records.specs.Tables.{At, _⦂_, epochsOf, countsOf}
-use Rattle.records.specs.Flags.{Flags, flags, zeros, headOf, flagsOf}
-use Rattle.records.specs.Answers.{Answer, ok, refused, After}
-use Rattle.codec.specs.Calls.{deserialized}
-use Rattle.flags.specs.declared.owners.MergingOwnersStrategy.the-variants.{RaiseIssue}
-use Rattle.rows.specs.Rows.{row, partsOf, Tables, tables, overRows}
-use Rattle.rows.specs.Removals.{Removal, basic, sectioned, removalOf, rowsOfRemoval, stateOf}
-use Rattle.rows.specs.declared.removed.Removed.{Removed}
-use Rattle.sums.specs.Calls.{summed}
-use Rattle.splitting.specs.Calls.{Told}
+use Rattle.records_spec.specs.Tables.{At, _⦂_, epochsOf, countsOf}
+use Rattle.records_spec.specs.Flags.{Flags, flags, zeros, headOf, flagsOf}
+use Rattle.records_spec.specs.Answers.{Answer, ok, refused, After}
+use Rattle.codec_spec.specs.Calls.{deserialized}
+use Rattle.flags_spec.specs.declared.owners.MergingOwnersStrategy.the-variants.{RaiseIssue}
+use Rattle.rows_spec.specs.Rows.{row, partsOf, Tables, tables, overRows}
+use Rattle.rows_spec.specs.Removals.{Removal, basic, sectioned, removalOf, rowsOfRemoval, stateOf}
+use Rattle.rows_spec.specs.declared.removed.Removed.{Removed}
+use Rattle.sums_spec.specs.Calls.{summed}
+use Rattle.splitting_spec.specs.Calls.{Told}
 use Rattle.steps.specs.Held.{Held, holding, flagsIn, splitInto}
 use Rattle.steps.specs.History.{Edit, add, remove, State, state, step}
 

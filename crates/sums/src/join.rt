@@ -2,10 +2,11 @@
 ghost use mathlib.Core.Path.{_≡_};
 ghost use Prim.Native.Nat.{_<_};
 ghost use lib.ListN.{length};
-ghost use Rattle.rows.specs.Rows.{tables, rowsIn, overRows, Room, Proper};
-ghost use Rattle.sums.specs.Joins.{capped, joined, Last};
+ghost use Rattle.rows_spec.specs.Rows.{tables, rowsIn, overRows, Room, Proper};
+ghost use Rattle.sums_spec.specs.Joins.{capped, joined, Last};
 use fields::LARGEST;
-use rows::Order;
+use rows_spec::Order;
+use sums_spec::LastRow;
 
 // Two numbers of bytes together, at most the largest.
 pub fn saturating_add(m: u32, n: u32) -> u32
@@ -15,15 +16,6 @@ pub fn saturating_add(m: u32, n: u32) -> u32
         return LARGEST;
     }
     m + n
-}
-
-// The last row of a join, and how many rows of both sides are before it.
-pub struct LastRow {
-    pub id: [u8; 32],
-    pub epoch: u16,
-    pub bytes: u32,
-    pub i: usize,
-    pub j: usize,
 }
 
 // The last row of the join of our first i rows and their first j, of which there is one.

@@ -3,5 +3,4 @@ mod join;
 mod sum;
 
 pub use join::saturating_add;
-pub use sum::Summed;
 pub use sum::add_assign;

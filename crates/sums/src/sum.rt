@@ -1,25 +1,20 @@
 // The sum of two removals, in place: the left one's tables are lent, and have the sum's rows, if it has any, at their start.
 ghost use mathlib.Core.Path.{_≡_};
 ghost use mathlib.Core.Bool.{true};
-ghost use Rattle.rows.specs.Rows.{tables, rowsIn, Proper};
-ghost use Rattle.rows.specs.Removals.{nothing, basic, sectioned, removalOf, proper};
-ghost use Rattle.sums.specs.Joins.{addRow, joined};
-ghost use Rattle.sums.specs.Sums.{unknown, basicPlus, sum, Lost};
-ghost use Rattle.sums.specs.Calls.{shown, placing, summed};
+ghost use Rattle.rows_spec.specs.Rows.{tables, rowsIn, Proper};
+ghost use Rattle.rows_spec.specs.Removals.{nothing, basic, sectioned, removalOf, proper};
+ghost use Rattle.sums_spec.specs.Joins.{addRow, joined};
+ghost use Rattle.sums_spec.specs.Sums.{unknown, basicPlus, sum, Lost};
+ghost use Rattle.sums_spec.specs.Calls.{shown, placing, summed};
 use crate::join;
-use records::Refusal;
-use rows::Order;
-use rows::Removed;
-use rows::StorageRemovedBytes;
+use records_spec::Refusal;
+use rows_spec::Order;
+use rows_spec::Removed;
+use rows_spec::StorageRemovedBytes;
+use sums_spec::Summed;
 
 // The epoch of bytes of which none is known.
 const UNKNOWN_EPOCH: u16 = 65535;
-
-// A sum, or a refusal.
-pub enum Summed {
-    Sum(StorageRemovedBytes),
-    Refused(Refusal),
-}
 
 // Adds the right one's first m rows to our first n: counted first, then refused or joined.
 fn add_rows(

@@ -3,11 +3,12 @@ ghost use mathlib.Core.Path.{_≡_};
 ghost use mathlib.Core.List.{[]};
 ghost use Prim.Native.Nat.{_+_, _<_};
 ghost use lib.ListN.{length, getD};
-ghost use Rattle.rows.specs.Order.{isLess};
-ghost use Rattle.rows.specs.Rows.{row, compared, tables};
-ghost use Rattle.totals.specs.Steps.{placeIn, between, spotIn, Standing};
+ghost use Rattle.rows_spec.specs.Order.{isLess};
+ghost use Rattle.rows_spec.specs.Rows.{row, compared, tables};
+ghost use Rattle.totals_spec.specs.Steps.{placeIn, between, spotIn, Standing};
 use crate::words::is_less;
-use rows::Order;
+use rows_spec::Order;
+use totals_spec::Spot;
 
 // How row i stands to an owner and epoch.
 fn compare_row(owners: &[[u8; 32]], epochs: &[u16], i: usize, owner: [u8; 32], epoch: u16) -> Order
@@ -56,12 +57,6 @@ fn find(
         }
     }
     at
-}
-
-// A place, and the total of the row that stands there; 0 where it is another owner's or epoch's, or none.
-pub struct Spot {
-    pub place: usize,
-    pub total: u64,
 }
 
 // Looks up an owner and epoch among the rows from one place up to another.

@@ -3,22 +3,16 @@
 ghost use mathlib.Core.Path.{_≡_};
 ghost use mathlib.Core.Bool.{true, cond, _&&_};
 ghost use Prim.Native.Nat.{_≤_};
-ghost use Rattle.records.specs.Tables.{Table};
-ghost use Rattle.rows.specs.Rows.{row, tables, rowsIn};
-ghost use Rattle.totals.specs.Table.{totalAt};
-ghost use Rattle.totals.specs.Replacing.{covered};
-ghost use Rattle.totals.specs.Steps.{under, judged, judgedOld, judgedNew, Standing};
+ghost use Rattle.records_spec.specs.Tables.{Table};
+ghost use Rattle.rows_spec.specs.Rows.{row, tables, rowsIn};
+ghost use Rattle.totals_spec.specs.Table.{totalAt};
+ghost use Rattle.totals_spec.specs.Replacing.{covered};
+ghost use Rattle.totals_spec.specs.Steps.{under, judged, judgedOld, judgedNew, Standing};
 use crate::finding::look_up;
+use totals_spec::Judged;
 
 // The largest total.
 pub const LARGEST_TOTAL: u64 = 18446744073709551615;
-
-// A number of rows, or why the change is refused.
-pub enum Judged {
-    Mismatch,
-    TooLarge,
-    Number(usize),
-}
 
 // 1 where both are so, else 0.
 fn one_if(a: bool, b: bool) -> usize

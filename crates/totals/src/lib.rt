@@ -9,8 +9,6 @@ mod writing;
 
 pub use judging::LARGEST_TOTAL;
 pub use judging::count_at;
-pub use replacing::Named;
-pub use replacing::Replaced;
 pub use replacing::is_good;
 pub use replacing::names_of;
 pub use replacing::replace;

@@ -1,8 +1,8 @@
 // Moving rows inside the table. Loops of this shape can become vector code.
 ghost use mathlib.Core.Path.{_≡_};
 ghost use Prim.Native.Nat.{_+_, _-_, _≤_};
-ghost use Rattle.rows.specs.Rows.{tables, Room};
-ghost use Rattle.totals.specs.Steps.{moved};
+ghost use Rattle.rows_spec.specs.Rows.{tables, Room};
+ghost use Rattle.totals_spec.specs.Steps.{moved};
 
 // Moves the rows from one place up to another down to the place `to`, the first of them first.
 pub fn move_down(

@@ -1,27 +1,22 @@
 // Replacing one element's flags: the table is judged and counted first, then written.
 ghost use mathlib.Core.Path.{_≡_};
 ghost use mathlib.Core.Bool.{true, _&&_};
-ghost use Rattle.records.specs.Tables.{Table};
-ghost use Rattle.rows.specs.Rows.{tables, rowsIn};
-ghost use Rattle.totals.specs.Replacing.{changed};
-ghost use Rattle.records.specs.Answers.{ok};
-ghost use Rattle.totals.specs.Steps.{under, judged, countedRows, namedBy, Standing};
-ghost use Rattle.totals.specs.Calls.{shown, placing, given, properGiven, replacing};
-use crate::judging::Judged;
+ghost use Rattle.records_spec.specs.Tables.{Table};
+ghost use Rattle.rows_spec.specs.Rows.{tables, rowsIn};
+ghost use Rattle.totals_spec.specs.Replacing.{changed};
+ghost use Rattle.records_spec.specs.Answers.{ok};
+ghost use Rattle.totals_spec.specs.Steps.{under, judged, countedRows, namedBy, Standing};
+ghost use Rattle.totals_spec.specs.Calls.{shown, placing, given, properGiven, replacing};
 use crate::judging::judge_new;
 use crate::judging::judge_old;
 use crate::table;
 use crate::writing::add_rows;
 use crate::writing::take_rows;
-use records::Head;
-use records::Refusal;
-
-// The new number of rows, or a refusal; 14 is told by a name of its own.
-pub enum Replaced {
-    Rows(usize),
-    IndexMismatch,
-    Refused(Refusal),
-}
+use records_spec::Head;
+use records_spec::Refusal;
+use totals_spec::Judged;
+use totals_spec::Named;
+use totals_spec::Replaced;
 
 // Judges a change of the first n rows: how many rows there are afterwards, or why it is refused.
 fn judge(
@@ -158,18 +153,12 @@ pub fn is_good(present: bool, head: Head, epochs: &[u16], counts: &[u32]) -> boo
     true
 }
 
-// An owner, and how many records are named under it.
-pub struct Named {
-    pub owner: [u8; 32],
-    pub records: usize,
-}
-
 // What flags name: nothing where they are absent; 32 zero bytes stand for no owner.
 pub fn names_of(present: bool, head: Head) -> Named
     ensures { λ r. ⌜ r ≡ namedBy present head ⌝ }
 {
     if present {
-        let owner = head.owner_id();
+        let owner = records::owner_id(head);
         let id = owner.id;
         return Named {
             owner: id,

@@ -3,10 +3,10 @@ ghost use mathlib.Core.Path.{_≡_};
 ghost use mathlib.Core.List.{[]};
 ghost use Prim.Native.Nat.{_+_, _<_};
 ghost use lib.ListN.{length, getD};
-ghost use Rattle.rows.specs.Order.{isLess};
-ghost use Rattle.rows.specs.Rows.{row, compared, ascends, tables, rowsIn, roomIn, setRow, Room};
-ghost use Rattle.totals.specs.Table.{above};
-ghost use Rattle.totals.specs.Calls.{properTable};
+ghost use Rattle.rows_spec.specs.Order.{isLess};
+ghost use Rattle.rows_spec.specs.Rows.{row, compared, ascends, tables, rowsIn, roomIn, setRow, Room};
+ghost use Rattle.totals_spec.specs.Table.{above};
+ghost use Rattle.totals_spec.specs.Calls.{properTable};
 use crate::words::is_less;
 
 // Whether n rows have room in all three slices.

@@ -4,9 +4,9 @@ ghost use mathlib.Core.Bool.{true, false, cond};
 ghost use Prim.Native.Nat.{_+_, _≤_};
 ghost use lib.Dec.{ltb};
 ghost use lib.ListN.{length, take, drop};
-ghost use Rattle.fields.specs.Big.{said};
-ghost use Rattle.rows.specs.Order.{isLess};
-ghost use Rattle.rows.specs.Rows.{row, compared};
+ghost use Rattle.fields_spec.specs.Big.{said};
+ghost use Rattle.rows_spec.specs.Order.{isLess};
+ghost use Rattle.rows_spec.specs.Rows.{row, compared};
 
 // The number that the eight bytes at `at` say. By pairs of bytes, because that shape becomes one load.
 fn word(id: &[u8], at: usize) -> u64

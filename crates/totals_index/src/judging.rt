@@ -3,32 +3,16 @@ ghost use mathlib.Core.Path.{_≡_};
 ghost use mathlib.Core.Bool.{Bool, true, cond};
 ghost use Prim.Native.Nat.{_-_, _≤_};
 ghost use lib.ListN.{length, take};
-ghost use Rattle.rows.specs.Order.{isLess};
-ghost use Rattle.rows.specs.Rows.{row, rowsIn, compared};
-ghost use Rattle.totals.specs.Table.{totalAt};
-ghost use Rattle.totals_index.specs.Structs.{columns};
-ghost use Rattle.totals_index.specs.Judging.{one, positives, beginning, unjudged, started, rowOf, rowsNamed, next, judged, AskedOf, Asked, Small};
-use crate::structs::Total;
-use records::Head;
+ghost use Rattle.rows_spec.specs.Order.{isLess};
+ghost use Rattle.rows_spec.specs.Rows.{row, rowsIn, compared};
+ghost use Rattle.totals_spec.specs.Table.{totalAt};
+ghost use Rattle.totals_index_spec.specs.Structs.{columns};
+ghost use Rattle.totals_index_spec.specs.Judging.{one, positives, beginning, unjudged, started, rowOf, rowsNamed, next, judged, AskedOf, Asked, Small};
+use records_spec::Head;
 use totals::LARGEST_TOTAL;
-use totals::Named;
-
-// What is known of a table after some of its rows: whether they are proper, the last of them, how many old counts no row holds yet, whether
-// every total fits, how many rows do not go, and how many new counts make a row.
-pub struct Judging {
-    pub rows: usize,
-    pub upto: usize,
-    pub old: Named,
-    pub new: Named,
-    pub good: bool,
-    pub any: bool,
-    pub owner: [u8; 32],
-    pub epoch: u16,
-    pub owed: usize,
-    pub fits: bool,
-    pub left: usize,
-    pub made: usize,
-}
+use totals_index_spec::Judging;
+use totals_index_spec::Total;
+use totals_spec::Named;
 
 // How many counts are above 0.
 fn count_positives(counts: &[u32]) -> usize

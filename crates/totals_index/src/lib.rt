@@ -5,4 +5,3 @@ mod structs;
 mod work;
 
 pub use replacing::replace;
-pub use structs::Total;

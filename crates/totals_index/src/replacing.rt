@@ -1,23 +1,23 @@
 // Replacing one element's flags in a table of structs: judged first, then taken apart, changed and put together.
 ghost use mathlib.Core.Path.{_≡_};
 ghost use mathlib.Core.Bool.{_&&_};
-ghost use Rattle.rows.specs.Rows.{tables};
-ghost use Rattle.totals.specs.Calls.{given, properGiven};
-ghost use Rattle.totals.specs.Steps.{countedRows};
-ghost use Rattle.totals_index.specs.Calls.{shown, verdict, replacingStructs};
-ghost use Rattle.totals_index.specs.Judging.{verdictOf};
-use crate::judging::Judging;
+ghost use Rattle.rows_spec.specs.Rows.{tables};
+ghost use Rattle.totals_spec.specs.Calls.{given, properGiven};
+ghost use Rattle.totals_spec.specs.Steps.{countedRows};
+ghost use Rattle.totals_index_spec.specs.Calls.{shown, verdict, replacingStructs};
+ghost use Rattle.totals_index_spec.specs.Judging.{verdictOf};
 use crate::judging::judge_rows;
 use crate::judging::rows_to_judge;
 use crate::judging::start;
-use crate::structs::Total;
 use crate::structs::put_together;
 use crate::structs::take_apart;
 use crate::work::replace_in;
 use crate::work::rows_to_put;
 use crate::work::rows_to_take;
-use records::Head;
-use totals::Replaced;
+use records_spec::Head;
+use totals_index_spec::Judging;
+use totals_index_spec::Total;
+use totals_spec::Replaced;
 
 // Makes a change that was judged, where it is accepted and has room.
 fn replace_judged(

@@ -2,17 +2,10 @@
 ghost use mathlib.Core.Path.{_≡_};
 ghost use Prim.Native.Nat.{_≤_};
 ghost use lib.ListN.{length};
-ghost use Rattle.records.specs.Tables.{over};
-ghost use Rattle.rows.specs.Rows.{tables, rowsIn, overRows, Room};
-ghost use Rattle.totals_index.specs.Structs.{columns, structs};
-
-// A row of the table: who paid, in which epoch, and how many bytes in all.
-#[repr(C)]
-pub struct Total {
-    pub owner: [u8; 32],
-    pub epoch: u16,
-    pub total: u64,
-}
+ghost use Rattle.records_spec.specs.Tables.{over};
+ghost use Rattle.rows_spec.specs.Rows.{tables, rowsIn, overRows, Room};
+ghost use Rattle.totals_index_spec.specs.Structs.{columns, structs};
+use totals_index_spec::Total;
 
 // Copies the first n rows of the table to the start of three columns.
 pub fn take_apart(

@@ -1,15 +1,15 @@
 // What is done in the work area, once the table was judged.
 ghost use mathlib.Core.Path.{_≡_};
 ghost use mathlib.Core.Bool.{cond, _&&_};
-ghost use Rattle.records.specs.Answers.{refused};
-ghost use Rattle.rows.specs.Rows.{tables};
-ghost use Rattle.totals.specs.Calls.{told, shown, given, properGiven};
-ghost use Rattle.totals_index.specs.Judging.{refusalOf, roomOf, fitted};
-ghost use Rattle.totals_index.specs.Steps.{rowsTold, replacingIn};
-use crate::judging::Judging;
-use records::Head;
-use records::Refusal;
-use totals::Replaced;
+ghost use Rattle.records_spec.specs.Answers.{refused};
+ghost use Rattle.rows_spec.specs.Rows.{tables};
+ghost use Rattle.totals_spec.specs.Calls.{told, shown, given, properGiven};
+ghost use Rattle.totals_index_spec.specs.Judging.{refusalOf, roomOf, fitted};
+ghost use Rattle.totals_index_spec.specs.Steps.{rowsTold, replacingIn};
+use records_spec::Head;
+use records_spec::Refusal;
+use totals_index_spec::Judging;
+use totals_spec::Replaced;
 
 // Whether three columns of these lengths have n places.
 fn has_room(n: usize, owners: usize, epochs: usize, totals: usize) -> bool

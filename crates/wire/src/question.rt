@@ -1,12 +1,12 @@
 // Reading a question, field by field. Numbers are big-endian. What is read beyond the end, or names nothing, moves the place to
 // `BEYOND`, where it stays: a question is whole where the place at last is its length.
 ghost use Prim.Native.Nat.{_≤_};
-use flags::MergingOwnersStrategy;
-use records::Head;
-use records::KindByte;
-use records::MaybeOwner;
-use rows::Removed;
-use rows::StorageRemovedBytes;
+use flags_spec::MergingOwnersStrategy;
+use records_spec::Head;
+use records_spec::KindByte;
+use records_spec::MaybeOwner;
+use rows_spec::Removed;
+use rows_spec::StorageRemovedBytes;
 
 // The place beyond every end.
 pub const BEYOND: usize = 0xffff_ffff;

@@ -1,12 +1,12 @@
 // Holding an answer against a stored reply, field by field. Each function takes a place in the reply and answers the place behind its
 // field, or `DIFFERS` where the reply says something else or is too short.
 use crate::question::BEYOND;
-use records::Answered;
-use records::Head;
-use records::Outcome;
-use records::Refusal;
-use rows::Removed;
-use rows::StorageRemovedBytes;
+use records_spec::Answered;
+use records_spec::Head;
+use records_spec::Outcome;
+use records_spec::Refusal;
+use rows_spec::Removed;
+use rows_spec::StorageRemovedBytes;
 
 // The place behind a field that differs.
 pub const DIFFERS: usize = 0xffff_fffe;
@@ -161,7 +161,7 @@ pub fn tell_totals_rows(
 
 // A refusal's number.
 pub fn byte_of(refusal: Refusal) -> u8 {
-    let n = refusal.number();
+    let n = records::number(refusal);
     if n < 256 {
         return n as u8;
     }
@@ -171,7 +171,7 @@ pub fn byte_of(refusal: Refusal) -> u8 {
 // The head of flags.
 pub fn tell_head(reply: &[u8], at: usize, head: Head) -> usize {
     let owner = head.owner;
-    let base = tell_u8(reply, at, head.type_byte());
+    let base = tell_u8(reply, at, records::type_byte(head));
     let id = tell_u16(reply, base, head.base);
     let records = tell_bytes(reply, id, &owner);
     tell_len(reply, records, head.records)

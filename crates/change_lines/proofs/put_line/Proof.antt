@@ -4,12 +4,12 @@ use native.Mathlib.Omega.{arith}
 use mathlib.Core.Path.{refl}
 use borrow.Author.Needs.{needs}
 use lib.ListN.{length}
-use Rattle.fields.proofs.Parts.{parts-start, parts-put, parts-last}
-use Rattle.listing.proofs.Decimals.{length-below}
-use Rattle.repair.specs.Changes.{Line, line}
-use Rattle.change_lines.specs.Text.{changeOf, lineText}
-use Rattle.change_lines.specs.Chunks.{longest}
-use Rattle.change_lines.proofs.Texts.{length-line, line-short}
+use Rattle.fields_spec.proofs.Parts.{parts-start, parts-put, parts-last}
+use Rattle.listing_spec.proofs.Decimals.{length-below}
+use Rattle.repair_spec.specs.Changes.{Line, line}
+use Rattle.change_lines_spec.specs.Text.{changeOf, lineText}
+use Rattle.change_lines_spec.specs.Chunks.{longest}
+use Rattle.change_lines_spec.proofs.Texts.{length-line, line-short}
 use Rattle.change_lines.proofs.put_line.Statement.{statement}
 use Rattle.change_lines.proofs.put_line.Tie as tie
 

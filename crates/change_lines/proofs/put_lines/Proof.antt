@@ -4,7 +4,7 @@ use Prim.Native.Nat.{_-_}
 use native.Mathlib.Omega.{arith}
 use borrow.Author.Needs.{needs}
 use lib.ListN.{length}
-use Rattle.change_lines.proofs.Chunks.{Putting, putting-start, putting-line, putting-full, putting-all}
+use Rattle.change_lines_spec.proofs.Chunks.{Putting, putting-start, putting-line, putting-full, putting-all}
 use Rattle.change_lines.proofs.put_lines.Statement.{statement}
 use Rattle.change_lines.proofs.put_lines.Tie as tie
 

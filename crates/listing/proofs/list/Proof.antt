@@ -2,10 +2,10 @@
 use mathlib.Core.Path.{sym}
 use native.Mathlib.Omega.{arith}
 use borrow.Author.Needs.{needs}
-use Rattle.records.proofs.Answers.{writing-short}
-use Rattle.codec.proofs.Writings.{put-written}
-use Rattle.listing.specs.Text.{ascii}
-use Rattle.listing.proofs.Bounds.{listed-long}
+use Rattle.records_spec.proofs.Answers.{writing-short}
+use Rattle.codec_spec.proofs.Writings.{put-written}
+use Rattle.listing_spec.specs.Text.{ascii}
+use Rattle.listing_spec.proofs.Bounds.{listed-long}
 use Rattle.listing.proofs.list.Statement.{statement}
 use Rattle.listing.proofs.list.Tie as tie
 

@@ -3,13 +3,13 @@ use mathlib.Core.Path.{_≡_, sym, ap, _∙_}
 use native.Mathlib.Omega.{arith}
 use lib.ListN.{length}
 use borrow.Author.Needs.{needs}
-use Rattle.codec.specs.Reading.{read}
-use Rattle.listing.specs.Heads.{outcomeText}
-use Rattle.listing.specs.Listed.{listed}
-use Rattle.records.proofs.Answers.{writing-short}
-use Rattle.codec.proofs.Writings.{put-written}
-use Rattle.listing.proofs.Bounds.{listed-read}
-use Rattle.listing.proofs.Shown.{Telling, telling}
+use Rattle.codec_spec.specs.Reading.{read}
+use Rattle.listing_spec.specs.Heads.{outcomeText}
+use Rattle.listing_spec.specs.Listed.{listed}
+use Rattle.records_spec.proofs.Answers.{writing-short}
+use Rattle.codec_spec.proofs.Writings.{put-written}
+use Rattle.listing_spec.proofs.Bounds.{listed-read}
+use Rattle.listing_spec.proofs.Shown.{Telling, telling}
 use Rattle.listing.proofs.list_flags.Statement.{statement}
 use Rattle.listing.proofs.list_flags.Tie as tie
 

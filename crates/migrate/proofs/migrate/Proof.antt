@@ -2,8 +2,8 @@
 use mathlib.Core.Path.{sym, _∙_}
 use borrow.Author.Needs.{needs}
 use lib.Seq.{length-take-le}
-use Rattle.repair.specs.Repairing.{repaired}
-use Rattle.change_lines.proofs.Repairs.{Left, left-repair}
+use Rattle.repair_spec.specs.Repairing.{repaired}
+use Rattle.change_lines_spec.proofs.Repairs.{Left, left-repair}
 use Rattle.migrate.proofs.migrate.Statement.{statement}
 use Rattle.migrate.proofs.migrate.Tie as tie
 

@@ -6,12 +6,12 @@ use mathlib.Core.List.{List}
 use borrow.Author.Needs.{needs}
 use lib.ListN.{length, take}
 use Rattle.io.specs.Counts.{Counts}
-use Rattle.fields.specs.Writing.{Put}
-use Rattle.fields.proofs.Parts.{put-long}
-use Rattle.records.proofs.Tables.{over-first, over-sets}
-use Rattle.records.specs.Refusals.{number}
-use Rattle.listing.specs.Text.{ascii, line}
-use Rattle.listing.proofs.Bounds.{short-number, number-below}
+use Rattle.fields_spec.specs.Writing.{Put}
+use Rattle.fields_spec.proofs.Parts.{put-long}
+use Rattle.records_spec.proofs.Tables.{over-first, over-sets}
+use Rattle.records_spec.specs.Refusals.{number}
+use Rattle.listing_spec.specs.Text.{ascii, line}
+use Rattle.listing_spec.proofs.Bounds.{short-number, number-below}
 use Rattle.migrate.proofs.refusal_text.Statement.{statement}
 use Rattle.migrate.proofs.refusal_text.Tie as tie
 

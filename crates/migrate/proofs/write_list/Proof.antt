@@ -5,7 +5,7 @@ use mathlib.Core.Path.{_≡_, sym, _∙_}
 use borrow.Author.Needs.{needs}
 use lib.ListN.{length}
 use lib.Seq.{length-take-le}
-use Rattle.fields.proofs.Parts.{put-long}
+use Rattle.fields_spec.proofs.Parts.{put-long}
 use Rattle.migrate.proofs.write_list.Statement.{statement}
 use Rattle.migrate.proofs.write_list.Tie as tie
 

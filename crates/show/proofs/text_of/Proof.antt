@@ -6,15 +6,15 @@ use mathlib.Core.List.{List}
 use lib.ListN.{length, take}
 use borrow.Author.Needs.{needs}
 use Rattle.io.specs.Counts.{Counts}
-use Rattle.records.specs.Tables.{over}
-use Rattle.records.specs.Answers.{wrote, writing}
-use Rattle.records.specs.declared.answer.Counted.{Counted}
-use Rattle.records.specs.declared.answer.Counted.the-variants.{Count, Refused}
-use Rattle.records.proofs.Tables.{over-first, over-holds}
-use Rattle.records.proofs.Answers.{writing-fits}
-use Rattle.records.proofs.Only.{wrote-only}
-use Rattle.listing.specs.Listed.{listed}
-use Rattle.listing.proofs.Bounds.{listed-fits}
+use Rattle.records_spec.specs.Tables.{over}
+use Rattle.records_spec.specs.Answers.{wrote, writing}
+use Rattle.records_spec.specs.declared.answer.Counted.{Counted}
+use Rattle.records_spec.specs.declared.answer.Counted.the-variants.{Count, Refused}
+use Rattle.records_spec.proofs.Tables.{over-first, over-holds}
+use Rattle.records_spec.proofs.Answers.{writing-fits}
+use Rattle.records_spec.proofs.Only.{wrote-only}
+use Rattle.listing_spec.specs.Listed.{listed}
+use Rattle.listing_spec.proofs.Bounds.{listed-fits}
 use Rattle.show.proofs.text_of.Statement.{statement}
 use Rattle.show.proofs.text_of.Tie as tie
 

@@ -1,6 +1,6 @@
 -- `capi::adding::petasunok_combine_added_bytes` meets its contract: the call's own answer is told, or 11. Assumes nothing.
 use mathlib.Core.Path.{sym, _∙_}
-use Rattle.capi.proofs.Telling.{when-true, flags-told, flags-bad}
+use Rattle.capi_spec.proofs.Telling.{when-true, flags-told, flags-bad}
 use borrow.Author.Needs.{needs}
 use Rattle.capi.proofs.adding.petasunok_combine_added_bytes.Statement.{statement}
 use Rattle.capi.proofs.adding.petasunok_combine_added_bytes.Tie as tie

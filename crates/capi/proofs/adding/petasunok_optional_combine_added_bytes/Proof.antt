@@ -1,8 +1,8 @@
 -- `capi::adding::petasunok_optional_combine_added_bytes` meets its contract: the call's own answer is told, or 11. Assumes nothing.
 use mathlib.Core.Path.{_≡_, sym, _∙_}
-use Rattle.capi.proofs.Telling.{when-true, flags-told, flags-bad}
+use Rattle.capi_spec.proofs.Telling.{when-true, flags-told, flags-bad}
 use mathlib.Core.Bool.{true, false}
-use Rattle.capi.specs.Given.{isTrue, canMerge}
+use Rattle.capi_spec.specs.Given.{isTrue, canMerge}
 use borrow.Author.Needs.{needs}
 use Rattle.capi.proofs.adding.petasunok_optional_combine_added_bytes.Statement.{statement}
 use Rattle.capi.proofs.adding.petasunok_optional_combine_added_bytes.Tie as tie

@@ -1,6 +1,6 @@
 -- `capi::given::is_kind` meets its contract: the byte is a kind's exactly where a kind was found. Assumes nothing.
 use mathlib.Core.Path.{sym, ap, _∙_}
-use Rattle.capi.specs.Given.{known}
+use Rattle.capi_spec.specs.Given.{known}
 use borrow.Author.Needs.{needs}
 use Rattle.capi.proofs.given.is_kind.Statement.{statement}
 use Rattle.capi.proofs.given.is_kind.Tie as tie

@@ -1,6 +1,6 @@
 -- `capi::given::kind` meets its contract: the kind is the one that was found. Assumes nothing.
 use mathlib.Core.Path.{sym, ap, _∙_}
-use Rattle.capi.specs.Given.{kindFound}
+use Rattle.capi_spec.specs.Given.{kindFound}
 use borrow.Author.Needs.{needs}
 use Rattle.capi.proofs.given.kind.Statement.{statement}
 use Rattle.capi.proofs.given.kind.Tie as tie

@@ -1,9 +1,9 @@
 -- `capi::heads::petasunok_base_epoch` meets its contract: the call's own number is told, or 11. Assumes nothing.
 use mathlib.Core.Path.{refl, sym, ap, _∙_}
 use Prim.Native.Nat.{ℕ}
-use Rattle.records.specs.Answers.{ok}
-use Rattle.capi.proofs.Telling.{when-true, when-false}
-use Rattle.capi.specs.Told.{countTold}
+use Rattle.records_spec.specs.Answers.{ok}
+use Rattle.capi_spec.proofs.Telling.{when-true, when-false}
+use Rattle.capi_spec.specs.Told.{countTold}
 use borrow.Author.Needs.{needs}
 use Rattle.capi.proofs.heads.petasunok_base_epoch.Statement.{statement}
 use Rattle.capi.proofs.heads.petasunok_base_epoch.Tie as tie

@@ -1,7 +1,7 @@
 -- `capi::owners::petasunok_combine_owner_id` meets its contract: the call's own choice is told, or 11. Assumes nothing.
 use mathlib.Core.Path.{refl, sym, ap, _∙_}
-use Rattle.capi.proofs.Telling.{when-true, when-false}
-use Rattle.capi.specs.Told.{ownerTold}
+use Rattle.capi_spec.proofs.Telling.{when-true, when-false}
+use Rattle.capi_spec.specs.Told.{ownerTold}
 use borrow.Author.Needs.{needs}
 use Rattle.capi.proofs.owners.petasunok_combine_owner_id.Statement.{statement}
 use Rattle.capi.proofs.owners.petasunok_combine_owner_id.Tie as tie

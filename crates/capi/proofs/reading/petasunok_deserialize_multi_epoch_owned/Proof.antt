@@ -1,5 +1,5 @@
 -- `capi::reading::petasunok_deserialize_multi_epoch_owned` meets its contract: the call's own answer is told. Assumes nothing.
-use Rattle.capi.proofs.Telling.{flags-told}
+use Rattle.capi_spec.proofs.Telling.{flags-told}
 use borrow.Author.Needs.{needs}
 use Rattle.capi.proofs.reading.petasunok_deserialize_multi_epoch_owned.Statement.{statement}
 use Rattle.capi.proofs.reading.petasunok_deserialize_multi_epoch_owned.Tie as tie

@@ -1,10 +1,10 @@
 -- `capi::removals::petasunok_add_assign` meets its contract: the call's own answer is told, or 11. Assumes nothing.
-use Rattle.records.specs.declared.refusal.Refusal.the-variants.{BadTable}
-use Rattle.sums.specs.declared.sum.Summed.the-variants.{Refused}
+use Rattle.records_spec.specs.declared.refusal.Refusal.the-variants.{BadTable}
+use Rattle.sums_spec.specs.declared.sum.Summed.the-variants.{Refused}
 use mathlib.Core.Path.{_≡_, refl, sym, _∙_}
 use mathlib.Core.Bool.{true, false, _&&_}
-use Rattle.capi.proofs.Telling.{when-true, when-false, sum-told}
-use Rattle.capi.specs.Given.{isRemoval}
+use Rattle.capi_spec.proofs.Telling.{when-true, when-false, sum-told}
+use Rattle.capi_spec.specs.Given.{isRemoval}
 use borrow.Author.Needs.{needs}
 use Rattle.capi.proofs.removals.petasunok_add_assign.Statement.{statement}
 use Rattle.capi.proofs.removals.petasunok_add_assign.Tie as tie

@@ -1,7 +1,7 @@
 -- `capi::removals::petasunok_has_removal` meets its contract: the call's own answer is told, or 11. Assumes nothing.
 use mathlib.Core.Path.{refl, sym, ap, _∙_}
-use Rattle.capi.proofs.Telling.{when-true, when-false}
-use Rattle.capi.specs.Told.{truthTold}
+use Rattle.capi_spec.proofs.Telling.{when-true, when-false}
+use Rattle.capi_spec.specs.Told.{truthTold}
 use borrow.Author.Needs.{needs}
 use Rattle.capi.proofs.removals.petasunok_has_removal.Statement.{statement}
 use Rattle.capi.proofs.removals.petasunok_has_removal.Tie as tie

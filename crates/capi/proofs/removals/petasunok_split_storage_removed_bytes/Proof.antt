@@ -1,8 +1,8 @@
 -- `capi::removals::petasunok_split_storage_removed_bytes` meets its contract: the call's own answer is told, or 11. Assumes nothing.
-use Rattle.records.specs.declared.refusal.Refusal.the-variants.{BadTable}
-use Rattle.splitting.specs.declared.split.Splitting.the-variants.{Refused}
+use Rattle.records_spec.specs.declared.refusal.Refusal.the-variants.{BadTable}
+use Rattle.splitting_spec.specs.declared.split.Splitting.the-variants.{Refused}
 use mathlib.Core.Path.{refl, sym, _∙_}
-use Rattle.capi.proofs.Telling.{when-true, when-false, split-told}
+use Rattle.capi_spec.proofs.Telling.{when-true, when-false, split-told}
 use borrow.Author.Needs.{needs}
 use Rattle.capi.proofs.removals.petasunok_split_storage_removed_bytes.Statement.{statement}
 use Rattle.capi.proofs.removals.petasunok_split_storage_removed_bytes.Tie as tie

@@ -1,8 +1,8 @@
 -- `capi::removing::petasunok_combine_removed_bytes` meets its contract: the call's own answer is told, or 11. Assumes nothing.
 use mathlib.Core.Path.{_≡_, sym, _∙_}
-use Rattle.capi.proofs.Telling.{when-true, flags-told, flags-bad}
+use Rattle.capi_spec.proofs.Telling.{when-true, flags-told, flags-bad}
 use mathlib.Core.Bool.{true, false, _&&_}
-use Rattle.capi.specs.Given.{canMerge, isRemoval}
+use Rattle.capi_spec.specs.Given.{canMerge, isRemoval}
 use borrow.Author.Needs.{needs}
 use Rattle.capi.proofs.removing.petasunok_combine_removed_bytes.Statement.{statement}
 use Rattle.capi.proofs.removing.petasunok_combine_removed_bytes.Tie as tie

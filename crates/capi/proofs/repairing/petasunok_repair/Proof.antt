@@ -1,5 +1,5 @@
 -- `capi::repairing::petasunok_repair` meets its contract: the call's own answer is told. Assumes nothing.
-use Rattle.capi.proofs.Telling.{repair-told}
+use Rattle.capi_spec.proofs.Telling.{repair-told}
 use borrow.Author.Needs.{needs}
 use Rattle.capi.proofs.repairing.petasunok_repair.Statement.{statement}
 use Rattle.capi.proofs.repairing.petasunok_repair.Tie as tie

@@ -1,10 +1,10 @@
 -- `capi::replacing::petasunok_totals_replace` meets its contract: the call's own answer is told, or 11. Assumes nothing.
 use mathlib.Core.Path.{_≡_, refl, sym, _∙_}
 use mathlib.Core.Bool.{true, false}
-use Rattle.records.specs.declared.refusal.Refusal.the-variants.{BadTable}
-use Rattle.totals.specs.declared.replacing.Replaced.the-variants.{Refused}
-use Rattle.capi.specs.Given.{canReplace}
-use Rattle.capi.proofs.Telling.{when-true, when-false, totals-told}
+use Rattle.records_spec.specs.declared.refusal.Refusal.the-variants.{BadTable}
+use Rattle.totals_spec.specs.declared.replacing.Replaced.the-variants.{Refused}
+use Rattle.capi_spec.specs.Given.{canReplace}
+use Rattle.capi_spec.proofs.Telling.{when-true, when-false, totals-told}
 use borrow.Author.Needs.{needs}
 use Rattle.capi.proofs.replacing.petasunok_totals_replace.Statement.{statement}
 use Rattle.capi.proofs.replacing.petasunok_totals_replace.Tie as tie

@@ -42,34 +42,34 @@ use denote.Triple.Spec.{Meets, tripleOf}
 use denote.Triple.Table.{entered, cited}
 use denote.Triple.Walked.{says, Stays, gave-slice, stay-dropped, walkOf, goes-gave-slice, goes-dropped, Walks, ends-at, walked, walk-meets}
 use denote.Exit.{yes}
-use Rattle.records.specs.Answers.{refused}
-use Rattle.records.specs.declared.head.Head.{Head}
-use Rattle.records.proofs.head.Head as HT
-use Rattle.records.proofs.head.Head.Laws as HT′
-use Rattle.rows.specs.Rows.{Tables, tables}
-use Rattle.totals.specs.Calls.{told, given, properGiven}
-use Rattle.totals.specs.declared.replacing.Replaced.{Replaced}
-use Rattle.totals.proofs.replacing.Replaced as R
-use Rattle.totals.proofs.replacing.Replaced.Laws as R′
-use Rattle.totals_index.specs.Calls.{After, shown, replacingStructs}
-use Rattle.totals_index.specs.declared.structs.Total.{Total}
-use Rattle.totals_index.proofs.structs.Total as T
-use Rattle.totals_index.proofs.Walks.{Id, holds, fails}
+use Rattle.records_spec.specs.Answers.{refused}
+use Rattle.records_spec.specs.declared.head.Head.{Head}
+use Rattle.records_spec.proofs.head.Head as HT
+use Rattle.records_spec.proofs.head.Head.Laws as HT′
+use Rattle.rows_spec.specs.Rows.{Tables, tables}
+use Rattle.totals_spec.specs.Calls.{told, given, properGiven}
+use Rattle.totals_spec.specs.declared.replacing.Replaced.{Replaced}
+use Rattle.totals_spec.proofs.replacing.Replaced as R
+use Rattle.totals_spec.proofs.replacing.Replaced.Laws as R′
+use Rattle.totals_index_spec.specs.Calls.{After, shown, replacingStructs}
+use Rattle.totals_index_spec.specs.declared.structs.Total.{Total}
+use Rattle.totals_index_spec.proofs.structs.Total as T
+use Rattle.totals_index_spec.proofs.Walks.{Id, holds, fails}
 use Rattle.totals_index.proofs.replace as replaces
 use Rattle.totals_index.proofs.replace.Symbol as replaces-def
 use Rattle.totals_index.proofs.replace.Symbol.{name as #replaces}
 use Rattle.totals_index.proofs.replace.Met as replaces-thm
-use Rattle.capi.specs.Given.{isTrue, headGiven, canReplace}
-use Rattle.capi.specs.Told.{countTold, structsLeft, structsTold}
-use Rattle.capi.specs.Calls.{structsReplacedC}
-use Rattle.capi.specs.declared.types.CHead.{CHead}
-use Rattle.capi.specs.declared.types.CCount.{CCount}
-use Rattle.capi.proofs.types.CHead as CT
-use Rattle.capi.proofs.types.CHead.Laws as CT′
-use Rattle.capi.proofs.types.CCount as NT
-use Rattle.capi.proofs.types.CCount.Laws as NT′
-use Rattle.capi.proofs.Telling.{when-true, when-false, structs-told}
-use Rattle.capi.proofs.Walking.{or-else, hears, gives-up}
+use Rattle.capi_spec.specs.Given.{isTrue, headGiven, canReplace}
+use Rattle.capi_spec.specs.Told.{countTold, structsLeft, structsTold}
+use Rattle.capi_spec.specs.Calls.{structsReplacedC}
+use Rattle.capi_spec.specs.declared.types.CHead.{CHead}
+use Rattle.capi_spec.specs.declared.types.CCount.{CCount}
+use Rattle.capi_spec.proofs.types.CHead as CT
+use Rattle.capi_spec.proofs.types.CHead.Laws as CT′
+use Rattle.capi_spec.proofs.types.CCount as NT
+use Rattle.capi_spec.proofs.types.CCount.Laws as NT′
+use Rattle.capi_spec.proofs.Telling.{when-true, when-false, structs-told}
+use Rattle.capi_spec.proofs.Walking.{or-else, hears, gives-up}
 use Rattle.capi.proofs.given.can_replace as tests
 use Rattle.capi.proofs.given.can_replace.Symbol as tests-def
 use Rattle.capi.proofs.given.can_replace.Symbol.{name as #tests}

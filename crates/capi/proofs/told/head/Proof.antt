@@ -4,4 +4,4 @@ use Rattle.capi.proofs.told.head.Statement.{statement}
 use Rattle.capi.proofs.told.head.Tie as tie
 
 pub head-spec : {M : Type 1} → statement M
-head-spec = tie.close (tie.spec (λ c κs. search needs) (λ c. rw (c .type-byte .ensures)))
+head-spec = tie.close (tie.spec (λ c κs. search needs) (λ c. rw (c .kind-byte .ensures)))

@@ -1,8 +1,8 @@
 -- `capi::writing::petasunok_serialize` meets its contract: the call's own answer is told, or 11. Assumes nothing.
-use Rattle.records.specs.declared.refusal.Refusal.the-variants.{BadTable}
-use Rattle.records.specs.declared.answer.Counted.the-variants.{Refused}
+use Rattle.records_spec.specs.declared.refusal.Refusal.the-variants.{BadTable}
+use Rattle.records_spec.specs.declared.answer.Counted.the-variants.{Refused}
 use mathlib.Core.Path.{refl, sym, _∙_}
-use Rattle.capi.proofs.Telling.{when-true, when-false, bytes-told}
+use Rattle.capi_spec.proofs.Telling.{when-true, when-false, bytes-told}
 use borrow.Author.Needs.{needs}
 use Rattle.capi.proofs.writing.petasunok_serialize.Statement.{statement}
 use Rattle.capi.proofs.writing.petasunok_serialize.Tie as tie

@@ -1,7 +1,7 @@
 -- `capi::writing::petasunok_serialized_size` meets its contract: the call's own answer is told, or 11. Assumes nothing.
 use mathlib.Core.Path.{refl, sym, ap, _∙_}
-use Rattle.capi.proofs.Telling.{when-true, when-false}
-use Rattle.capi.specs.Told.{countTold}
+use Rattle.capi_spec.proofs.Telling.{when-true, when-false}
+use Rattle.capi_spec.specs.Told.{countTold}
 use borrow.Author.Needs.{needs}
 use Rattle.capi.proofs.writing.petasunok_serialized_size.Statement.{statement}
 use Rattle.capi.proofs.writing.petasunok_serialized_size.Tie as tie

@@ -7,8 +7,8 @@ use borrow.Author.Needs.{needs}
 use lib.ListN.{length}
 use borrow.Fn.Kinds.{In}
 use borrow.Fn.PlainCycle.{Measures, is, falls, and}
-use Rattle.codec.proofs.Stacking.{filled-faulty, filled-whole, filled-alike, taken-long, last-filled, stacked-room, stacked}
-use Rattle.codec.proofs.Taking.{taken-epochs, taken-counts}
+use Rattle.codec_spec.proofs.Stacking.{filled-faulty, filled-whole, filled-alike, taken-long, last-filled, stacked-room, stacked}
+use Rattle.codec_spec.proofs.Taking.{taken-epochs, taken-counts}
 use Rattle.codec.proofs.blocks.read_blocks.Reads as reads
 use Rattle.codec.proofs.blocks.read_blocks.Kinds as kinds
 use Rattle.codec.proofs.blocks.+read_blocks.Lts-read_blocks as lts

@@ -5,11 +5,11 @@ use mathlib.Core.List.{List}
 use Prim.Native.Nat.{ℕ, _+_}
 use borrow.Author.Needs.{needs}
 use lib.ListN.{length, take}
-use Rattle.records.specs.Tables.{At, recordsOf}
-use Rattle.records.specs.Answers.{roomFor}
-use Rattle.records.proofs.Tables.{first-long}
-use Rattle.records.proofs.Answers.{room-both}
-use Rattle.codec.proofs.Stacking.{filled-short, filled-all}
+use Rattle.records_spec.specs.Tables.{At, recordsOf}
+use Rattle.records_spec.specs.Answers.{roomFor}
+use Rattle.records_spec.proofs.Tables.{first-long}
+use Rattle.records_spec.proofs.Answers.{room-both}
+use Rattle.codec_spec.proofs.Stacking.{filled-short, filled-all}
 use Rattle.codec.proofs.blocks.place_last.Statement.{statement}
 use Rattle.codec.proofs.blocks.place_last.Tie as tie
 

@@ -4,8 +4,8 @@ use Prim.Native.Nat.{_-_, _≤_, _<_}
 use native.Mathlib.Omega.{arith}
 use borrow.Author.Needs.{needs}
 use lib.ListN.{length}
-use Rattle.codec.specs.Blocks.{Taken}
-use Rattle.codec.proofs.Taking.{taken-start, taken-epochs, taken-counts, taken-bad, taken-more, blocked-faulty, blocked-taken}
+use Rattle.codec_spec.specs.Blocks.{Taken}
+use Rattle.codec_spec.proofs.Taking.{taken-start, taken-epochs, taken-counts, taken-bad, taken-more, blocked-faulty, blocked-taken}
 use Rattle.codec.proofs.blocks.read_block.Statement.{statement}
 use Rattle.codec.proofs.blocks.read_block.Tie as tie
 

@@ -1,7 +1,7 @@
 -- `codec::judging::base_in` meets its contract: whether the kind is owned says where the base epoch stands. Assumes nothing.
 use mathlib.Core.Path.{sym, _∙_}
 use native.Mathlib.Omega.{arith}
-use Rattle.codec.proofs.Readings.{owned-size, unowned-size}
+use Rattle.codec_spec.proofs.Readings.{owned-size, unowned-size}
 use borrow.Author.Needs.{needs}
 use Rattle.codec.proofs.judging.base_in.Statement.{statement}
 use Rattle.codec.proofs.judging.base_in.Tie as tie

@@ -1,7 +1,7 @@
 -- `codec::judging::head_in` meets its contract: the kind is the one that its owner and its records tell. Assumes nothing.
 use mathlib.Core.Path.{sym}
 use lib.ListN.{take, drop}
-use Rattle.records.proofs.Proper.{kind-agrees}
+use Rattle.records_spec.proofs.Proper.{kind-agrees}
 use Rattle.codec.proofs.judging.head_in.Statement.{statement}
 use Rattle.codec.proofs.judging.head_in.Tie as tie
 

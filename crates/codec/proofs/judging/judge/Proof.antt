@@ -1,10 +1,10 @@
 -- `codec::judging::judge` meets its contract: byte 0 names the kind by which the bytes are judged. Assumes nothing.
 use mathlib.Core.Path.{sym, ap, _∙_}
 use native.Mathlib.Omega.{arith}
-use Rattle.records.specs.declared.head.KindByte.{KindByte}
-use Rattle.codec.specs.Reading.{readByte}
-use Rattle.codec.specs.Calls.{judgement}
-use Rattle.codec.proofs.Readings.{read-nothing, read-by-byte}
+use Rattle.records_spec.specs.declared.head.KindByte.{KindByte}
+use Rattle.codec_spec.specs.Reading.{readByte}
+use Rattle.codec_spec.specs.Calls.{judgement}
+use Rattle.codec_spec.proofs.Readings.{read-nothing, read-by-byte}
 use borrow.Author.Needs.{needs}
 use Rattle.codec.proofs.judging.judge.Statement.{statement}
 use Rattle.codec.proofs.judging.judge.Tie as tie

@@ -3,11 +3,11 @@
 use mathlib.Core.Path.{sym, ap, _∙_}
 use Prim.Native.Nat.{ℕ}
 use native.Mathlib.Omega.{arith}
-use Rattle.records.specs.Flags.{headFor}
-use Rattle.codec.specs.Reading.{baseIn, ownerIn}
-use Rattle.codec.specs.Calls.{judgement}
-use Rattle.codec.specs.declared.judging.Verdict.the-variants.{Present}
-use Rattle.codec.proofs.Readings.{multi-short, agrees-multi, scan-faulty, scan-records, scan-read}
+use Rattle.records_spec.specs.Flags.{headFor}
+use Rattle.codec_spec.specs.Reading.{baseIn, ownerIn}
+use Rattle.codec_spec.specs.Calls.{judgement}
+use Rattle.codec_spec.specs.declared.judging.Verdict.the-variants.{Present}
+use Rattle.codec_spec.proofs.Readings.{multi-short, agrees-multi, scan-faulty, scan-records, scan-read}
 use borrow.Author.Needs.{needs}
 use Rattle.codec.proofs.judging.judge_multi.Statement.{statement}
 use Rattle.codec.proofs.judging.judge_multi.Tie as tie

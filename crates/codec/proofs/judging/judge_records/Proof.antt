@@ -7,12 +7,12 @@ use native.Mathlib.Omega.{arith}
 use borrow.Author.Needs.{needs}
 use mathlib.Core.Option.{Option}
 use lib.ListN.{length}
-use Rattle.codec.specs.Reading.{Parsed, Fault}
-use Rattle.codec.specs.Calls.{scanOf}
-use Rattle.codec.proofs.Parsing.{rest, rest-end}
-use Rattle.codec.proofs.Turns.{scan-none, scan-some}
-use Rattle.codec.proofs.Taking.{taken-epochs, taken-counts}
-use Rattle.codec.proofs.Stacking.{taken-long}
+use Rattle.codec_spec.specs.Reading.{Parsed, Fault}
+use Rattle.codec_spec.specs.Calls.{scanOf}
+use Rattle.codec_spec.proofs.Parsing.{rest, rest-end}
+use Rattle.codec_spec.proofs.Turns.{scan-none, scan-some}
+use Rattle.codec_spec.proofs.Taking.{taken-epochs, taken-counts}
+use Rattle.codec_spec.proofs.Stacking.{taken-long}
 use Rattle.codec.proofs.judging.judge_records.Statement.{statement}
 use Rattle.codec.proofs.judging.judge_records.Tie as tie
 

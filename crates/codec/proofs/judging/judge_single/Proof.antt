@@ -1,8 +1,8 @@
 -- `codec::judging::judge_single` meets its contract: the size decides. Assumes nothing.
 use mathlib.Core.Path.{sym, ap, _∙_}
 use native.Mathlib.Omega.{arith}
-use Rattle.codec.specs.Calls.{judgement}
-use Rattle.codec.proofs.Readings.{single-right, single-wrong, agrees-single}
+use Rattle.codec_spec.specs.Calls.{judgement}
+use Rattle.codec_spec.proofs.Readings.{single-right, single-wrong, agrees-single}
 use borrow.Author.Needs.{needs}
 use Rattle.codec.proofs.judging.judge_single.Statement.{statement}
 use Rattle.codec.proofs.judging.judge_single.Tie as tie

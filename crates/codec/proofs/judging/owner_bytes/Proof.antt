@@ -6,7 +6,7 @@ use native.Mathlib.Omega.{arith}
 use borrow.Author.Needs.{needs}
 use lib.ListN.{length, getD, take, drop, length-set, length-take, length-drop}
 use lib.Seq.{getD-drop, getD-take}
-use Rattle.codec.proofs.Copying.{Copied, copy-start, copy-more, copy-done, copy-all}
+use Rattle.codec_spec.proofs.Copying.{Copied, copy-start, copy-more, copy-done, copy-all}
 use Rattle.codec.proofs.judging.owner_bytes.Statement.{statement}
 use Rattle.codec.proofs.judging.owner_bytes.Tie as tie
 

@@ -1,7 +1,7 @@
 -- `codec::judging::owner_in` meets its contract: whether the kind is owned says whether there is one. Assumes nothing.
 use mathlib.Core.Path.{sym, _∙_}
 use native.Mathlib.Omega.{arith}
-use Rattle.codec.proofs.Readings.{owned-size}
+use Rattle.codec_spec.proofs.Readings.{owned-size}
 use borrow.Author.Needs.{needs}
 use Rattle.codec.proofs.judging.owner_in.Statement.{statement}
 use Rattle.codec.proofs.judging.owner_in.Tie as tie

@@ -1,8 +1,8 @@
 -- `codec::judging::present` meets its contract: the head is the one that was made. Assumes nothing.
 use mathlib.Core.Path.{ap}
-use Rattle.records.specs.declared.head.Head.{Head}
-use Rattle.codec.specs.declared.judging.Verdict.the-variants.{Present}
-use Rattle.codec.specs.declared.judging.Judgement.{Judgement}
+use Rattle.records_spec.specs.declared.head.Head.{Head}
+use Rattle.codec_spec.specs.declared.judging.Verdict.the-variants.{Present}
+use Rattle.codec_spec.specs.declared.judging.Judgement.{Judgement}
 use borrow.Author.Needs.{needs}
 use Rattle.codec.proofs.judging.present.Statement.{statement}
 use Rattle.codec.proofs.judging.present.Tie as tie

@@ -1,12 +1,12 @@
 -- `codec::reading::deserialize` meets its contract: byte 0 names the kind by which the bytes are read. Assumes nothing.
 use mathlib.Core.Path.{sym, ap, _∙_}
 use native.Mathlib.Omega.{arith}
-use Rattle.records.specs.Answers.{after}
-use Rattle.records.specs.declared.head.KindByte.{KindByte}
-use Rattle.codec.specs.Reading.{Read, readByte, read}
-use Rattle.codec.specs.Calls.{answer}
-use Rattle.codec.proofs.Readings.{read-nothing, read-by-byte}
-use Rattle.codec.proofs.Settling.{left-absent, left-refused}
+use Rattle.records_spec.specs.Answers.{after}
+use Rattle.records_spec.specs.declared.head.KindByte.{KindByte}
+use Rattle.codec_spec.specs.Reading.{Read, readByte, read}
+use Rattle.codec_spec.specs.Calls.{answer}
+use Rattle.codec_spec.proofs.Readings.{read-nothing, read-by-byte}
+use Rattle.codec_spec.proofs.Settling.{left-absent, left-refused}
 use borrow.Author.Needs.{needs}
 use Rattle.codec.proofs.reading.deserialize.Statement.{statement}
 use Rattle.codec.proofs.reading.deserialize.Tie as tie

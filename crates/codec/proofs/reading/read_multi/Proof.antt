@@ -3,10 +3,10 @@
 use native.Mathlib.Omega.{arith}
 use borrow.Author.Needs.{needs}
 use lib.ListN.{length}
-use Rattle.codec.specs.Reading.{readAs}
-use Rattle.codec.proofs.Readings.{multi-short, agrees-multi}
-use Rattle.codec.proofs.Settling.{left-refused}
-use Rattle.codec.proofs.Placing.{multi-faulty, multi-none, multi-some}
+use Rattle.codec_spec.specs.Reading.{readAs}
+use Rattle.codec_spec.proofs.Readings.{multi-short, agrees-multi}
+use Rattle.codec_spec.proofs.Settling.{left-refused}
+use Rattle.codec_spec.proofs.Placing.{multi-faulty, multi-none, multi-some}
 use Rattle.codec.proofs.reading.read_multi.Statement.{statement}
 use Rattle.codec.proofs.reading.read_multi.Tie as tie
 

@@ -4,14 +4,14 @@ use mathlib.Core.List.{[]}
 use native.Mathlib.Omega.{arith}
 use borrow.Author.Needs.{needs}
 use lib.ListN.{length}
-use Rattle.records.specs.Flags.{flags}
-use Rattle.records.specs.Answers.{after}
-use Rattle.records.proofs.Tables.{filling-start, filling-done}
-use Rattle.records.proofs.Answers.{placed-left}
-use Rattle.codec.specs.Reading.{Read, baseIn, ownerIn, readAs}
-use Rattle.codec.specs.Calls.{answer}
-use Rattle.codec.proofs.Readings.{single-right, single-wrong, agrees-single}
-use Rattle.codec.proofs.Settling.{left-refused}
+use Rattle.records_spec.specs.Flags.{flags}
+use Rattle.records_spec.specs.Answers.{after}
+use Rattle.records_spec.proofs.Tables.{filling-start, filling-done}
+use Rattle.records_spec.proofs.Answers.{placed-left}
+use Rattle.codec_spec.specs.Reading.{Read, baseIn, ownerIn, readAs}
+use Rattle.codec_spec.specs.Calls.{answer}
+use Rattle.codec_spec.proofs.Readings.{single-right, single-wrong, agrees-single}
+use Rattle.codec_spec.proofs.Settling.{left-refused}
 use Rattle.codec.proofs.reading.read_single.Statement.{statement}
 use Rattle.codec.proofs.reading.read_single.Tie as tie
 

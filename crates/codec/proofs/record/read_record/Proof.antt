@@ -4,11 +4,11 @@ use mathlib.Core.Path.{_≡_, sym, ap, _∙_}
 use Prim.Native.Nat.{ℕ, _+_}
 use native.Mathlib.Omega.{arith}
 use lib.ListN.{drop, length-drop}
-use Rattle.fields.specs.Varint.{found}
-use Rattle.fields.proofs.Told.{told-read, read-incomplete, read-strange}
-use Rattle.codec.specs.Blocks.{gotOf}
-use Rattle.codec.specs.declared.record.Got.the-variants.{Good}
-use Rattle.codec.proofs.Parsing.{next-short, next-at, withCount-low, withCount-above}
+use Rattle.fields_spec.specs.Varint.{found}
+use Rattle.fields_spec.proofs.Told.{told-read, read-incomplete, read-strange}
+use Rattle.codec_spec.specs.Blocks.{gotOf}
+use Rattle.codec_spec.specs.declared.record.Got.the-variants.{Good}
+use Rattle.codec_spec.proofs.Parsing.{next-short, next-at, withCount-low, withCount-above}
 use borrow.Author.Needs.{needs}
 use Rattle.codec.proofs.record.read_record.Statement.{statement}
 use Rattle.codec.proofs.record.read_record.Tie as tie

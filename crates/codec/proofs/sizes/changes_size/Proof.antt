@@ -3,7 +3,7 @@ use mathlib.Core.Path.{sym, ap}
 use Prim.Native.Nat.{_+_, _*_, _≤_}
 use native.Mathlib.Nat.{mul-le-mul}
 use native.Mathlib.Omega.{arith}
-use Rattle.codec.specs.Sizes.{changesSize}
+use Rattle.codec_spec.specs.Sizes.{changesSize}
 use borrow.Author.Needs.{needs}
 use Rattle.codec.proofs.sizes.changes_size.Statement.{statement}
 use Rattle.codec.proofs.sizes.changes_size.Tie as tie

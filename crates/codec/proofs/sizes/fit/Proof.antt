@@ -4,8 +4,8 @@ use Prim.Native.Nat.{ℕ, _+_, _-_}
 use native.Mathlib.Omega.{arith}
 use lib.Dec.{leb}
 use borrow.Author.Tests.{le-leb, lt-leb}
-use Rattle.codec.specs.Sizes.{countsSize}
-use Rattle.codec.proofs.Sizing.{counts-most, leb-left}
+use Rattle.codec_spec.specs.Sizes.{countsSize}
+use Rattle.codec_spec.proofs.Sizing.{counts-most, leb-left}
 use borrow.Author.Needs.{needs}
 use Rattle.codec.proofs.sizes.fit.Statement.{statement}
 use Rattle.codec.proofs.sizes.fit.Tie as tie

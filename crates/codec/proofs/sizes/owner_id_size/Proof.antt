@@ -2,7 +2,7 @@
 use mathlib.Core.Path.{_≡_, sym, _∙_}
 use mathlib.Core.Bool.{true, false}
 use native.Mathlib.Omega.{arith}
-use Rattle.records.specs.Flags.{owned}
+use Rattle.records_spec.specs.Flags.{owned}
 use borrow.Author.Needs.{needs}
 use Rattle.codec.proofs.sizes.owner_id_size.Statement.{statement}
 use Rattle.codec.proofs.sizes.owner_id_size.Tie as tie

@@ -4,7 +4,7 @@ use Prim.Native.Nat.{_-_}
 use native.Mathlib.Omega.{arith}
 use borrow.Author.Needs.{needs}
 use lib.ListN.{length}
-use Rattle.codec.proofs.Sizing.{Summing, summing-start, summing-step, summing-done}
+use Rattle.codec_spec.proofs.Sizing.{Summing, summing-start, summing-step, summing-done}
 use Rattle.codec.proofs.sizes.records_size.Statement.{statement}
 use Rattle.codec.proofs.sizes.records_size.Tie as tie
 

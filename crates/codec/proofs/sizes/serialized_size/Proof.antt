@@ -1,14 +1,14 @@
 -- `codec::sizes::serialized_size` meets its contract: the sizes of the parts are the size of the whole. Assumes nothing.
-use Rattle.records.specs.Flags.{flagsOf}
-use Rattle.codec.specs.Bytes.{bytesOf}
+use Rattle.records_spec.specs.Flags.{flagsOf}
+use Rattle.codec_spec.specs.Bytes.{bytesOf}
 use mathlib.Core.Path.{_≡_, sym, ap, _∙_}
 use native.Mathlib.Omega.{arith}
 use Prim.Native.Nat.{_+_}
 use lib.ListN.{length}
-use Rattle.records.specs.Answers.{ok}
-use Rattle.records.proofs.Proper.{IsProper, proper-inv}
-use Rattle.codec.proofs.Sizing.{held-counts, length-flags}
-use Rattle.codec.proofs.Writings.{size-proper, size-improper}
+use Rattle.records_spec.specs.Answers.{ok}
+use Rattle.records_spec.proofs.Proper.{IsProper, proper-inv}
+use Rattle.codec_spec.proofs.Sizing.{held-counts, length-flags}
+use Rattle.codec_spec.proofs.Writings.{size-proper, size-improper}
 use borrow.Author.Needs.{needs}
 use Rattle.codec.proofs.sizes.serialized_size.Statement.{statement}
 use Rattle.codec.proofs.sizes.serialized_size.Tie as tie

@@ -5,10 +5,10 @@ use Prim.Native.Nat.{ℕ, _+_}
 use native.Mathlib.Omega.{arith}
 use borrow.Author.Needs.{needs}
 use lib.ListN.{length}
-use Rattle.records.specs.Answers.{roomFor}
-use Rattle.records.proofs.Answers.{room-both}
-use Rattle.codec.proofs.Parsing.{rest, rest-long}
-use Rattle.codec.proofs.Stacking.{filled-short, filled-all, sound-some, judged-faulty, judged-sound}
+use Rattle.records_spec.specs.Answers.{roomFor}
+use Rattle.records_spec.proofs.Answers.{room-both}
+use Rattle.codec_spec.proofs.Parsing.{rest, rest-long}
+use Rattle.codec_spec.proofs.Stacking.{filled-short, filled-all, sound-some, judged-faulty, judged-sound}
 use Rattle.codec.proofs.two_passes.read_twice.Statement.{statement}
 use Rattle.codec.proofs.two_passes.read_twice.Tie as tie
 

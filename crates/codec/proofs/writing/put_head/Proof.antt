@@ -1,20 +1,20 @@
 -- `codec::writing::put_head` meets its contract: the kind's byte, the owner if there is one, and the base epoch, one after another.
 -- Assumes nothing.
-use Rattle.fields.specs.Big.{big}
-use Rattle.fields.specs.Writing.{Put}
-use Rattle.fields.proofs.Bigs.{length-big}
-use Rattle.fields.proofs.Parts.{put-long}
-use Rattle.codec.proofs.Sizing.{length-head}
-use Rattle.codec.proofs.Writings.{head-part}
+use Rattle.fields_spec.specs.Big.{big}
+use Rattle.fields_spec.specs.Writing.{Put}
+use Rattle.fields_spec.proofs.Bigs.{length-big}
+use Rattle.fields_spec.proofs.Parts.{put-long}
+use Rattle.codec_spec.proofs.Sizing.{length-head}
+use Rattle.codec_spec.proofs.Writings.{head-part}
 use mathlib.Core.Path.{_≡_, refl, sym, _∙_}
 use mathlib.Core.Bool.{true, false}
 use mathlib.Core.Option.{none, some}
 use Prim.Native.Nat.{_+_, _≤_}
 use native.Mathlib.Omega.{arith}
 use lib.ListN.{length, length-set}
-use Rattle.records.specs.Flags.{owned, ownerOf}
-use Rattle.codec.specs.Bytes.{headBytes}
-use Rattle.fields.proofs.Parts.{Parts, parts-put, parts-last, parts-room}
+use Rattle.records_spec.specs.Flags.{owned, ownerOf}
+use Rattle.codec_spec.specs.Bytes.{headBytes}
+use Rattle.fields_spec.proofs.Parts.{Parts, parts-put, parts-last, parts-room}
 use borrow.Author.Needs.{needs}
 use Rattle.codec.proofs.writing.put_head.Statement.{statement}
 use Rattle.codec.proofs.writing.put_head.Tie as tie
@@ -28,7 +28,7 @@ owned-part : (c : tie.After-put-owner) → let a = c .before .before .before .be
 owned-part c =
     let a = c .before .before .before .before .before .before .before .args in
     let e : owned (c .before .before .before .before .before .before .before .args .head .kind) ≡ true = sym (c .before .before .before .before .is-owned .ensures) ∙ c .before .before .before .if1 .taken in
-    rw e (parts-put (head-part (a .head .kind) (some (a .head .owner)) (a .head .base) (c .before .before .before .before .before .type-byte .result) (a .out .now) (c .before .before .before .before .before .type-byte .ensures)) refl (c .put-owner .ensures))
+    rw e (parts-put (head-part (a .head .kind) (some (a .head .owner)) (a .head .base) (c .before .before .before .before .before .kind-byte .result) (a .out .now) (c .before .before .before .before .before .kind-byte .ensures)) refl (c .put-owner .ensures))
 
 owned-put : (c : tie.After-slice-known3) → let a = c .before .before .before .before .before .before .before .before .before .before .before .before .before .args in
     Put (headBytes (a .head .kind) (ownerOf (a .head)) (a .head .base)) 0 (c .before .before .put-be16 .result) (a .out .now) (c .before .before .put-be16 .last .0)
@@ -39,7 +39,7 @@ unowned-put : (c : tie.After-slice-known4) → let a = c .before .before .before
 unowned-put c =
     let a = c .before .before .before .before .before .before .before .before .args in
     let e : owned (c .before .before .before .before .before .before .before .before .args .head .kind) ≡ false = sym (c .before .before .before .before .before .is-owned .ensures) ∙ c .before .before .before .before .if1 .left in
-    rw e (parts-last (head-part (a .head .kind) none (a .head .base) (c .before .before .before .before .before .before .type-byte .result) (a .out .now) (c .before .before .before .before .before .before .type-byte .ensures)) (c .before .before .put-be162 .ensures))
+    rw e (parts-last (head-part (a .head .kind) none (a .head .base) (c .before .before .before .before .before .before .kind-byte .result) (a .out .now) (c .before .before .before .before .before .before .kind-byte .ensures)) (c .before .before .put-be162 .ensures))
 
 put-owner-requires : tie.Need-put-owner-requires
 put-owner-requires c κs =

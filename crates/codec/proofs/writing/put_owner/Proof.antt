@@ -4,7 +4,7 @@ use Prim.Native.Nat.{_-_, _≤_}
 use native.Mathlib.Omega.{arith}
 use borrow.Author.Needs.{needs}
 use lib.ListN.{length}
-use Rattle.codec.proofs.Copying.{Copied, copy-start, copy-more, copy-done}
+use Rattle.codec_spec.proofs.Copying.{Copied, copy-start, copy-more, copy-done}
 use Rattle.codec.proofs.writing.put_owner.Statement.{statement}
 use Rattle.codec.proofs.writing.put_owner.Tie as tie
 

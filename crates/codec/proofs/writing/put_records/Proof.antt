@@ -1,16 +1,16 @@
 -- `codec::writing::put_records` meets its contract. The loop's invariant: of all records' bytes those from the k-th on are left to write.
 -- Assumes nothing.
-use Rattle.fields.proofs.Bigs.{length-big}
+use Rattle.fields_spec.proofs.Bigs.{length-big}
 use mathlib.Core.Path.{_≡_, refl, ap}
 use mathlib.Core.List.{List, _++_}
 use Prim.Native.Nat.{ℕ, _+_, _-_, _≤_}
 use native.Mathlib.Omega.{arith}
 use borrow.Author.Needs.{needs}
 use lib.ListN.{length, getD, length-append}
-use Rattle.fields.specs.Big.{big}
-use Rattle.fields.specs.Varint.{varint}
-use Rattle.fields.proofs.Parts.{Parts, parts-start, parts-put, parts-done, parts-room}
-use Rattle.codec.proofs.Writings.{bytesFrom, bytes-on, bytes-end, bytes-size}
+use Rattle.fields_spec.specs.Big.{big}
+use Rattle.fields_spec.specs.Varint.{varint}
+use Rattle.fields_spec.proofs.Parts.{Parts, parts-start, parts-put, parts-done, parts-room}
+use Rattle.codec_spec.proofs.Writings.{bytesFrom, bytes-on, bytes-end, bytes-size}
 use Rattle.codec.proofs.writing.put_records.Statement.{statement}
 use Rattle.codec.proofs.writing.put_records.Tie as tie
 

@@ -4,15 +4,15 @@ use Prim.Native.Nat.{_+_, _≤_}
 use native.Mathlib.Omega.{arith}
 use borrow.Author.Tests.{leb-true, leb-false}
 use lib.ListN.{length, take}
-use Rattle.fields.specs.Writing.{Put}
-use Rattle.fields.proofs.Parts.{parts-start, parts-put, parts-last, put-long}
-use Rattle.records.specs.Flags.{flagsOf, ownerOf}
-use Rattle.records.proofs.Proper.{IsProper, proper-inv}
-use Rattle.records.proofs.Answers.{writing-short}
-use Rattle.codec.specs.Bytes.{ownerBytes, bytesOf}
-use Rattle.codec.specs.Sizes.{countsSize}
-use Rattle.codec.proofs.Sizing.{length-head, held-epochs, held-counts, length-flags}
-use Rattle.codec.proofs.Writings.{serialized-proper, serialized-improper, bytes-proper, put-written}
+use Rattle.fields_spec.specs.Writing.{Put}
+use Rattle.fields_spec.proofs.Parts.{parts-start, parts-put, parts-last, put-long}
+use Rattle.records_spec.specs.Flags.{flagsOf, ownerOf}
+use Rattle.records_spec.proofs.Proper.{IsProper, proper-inv}
+use Rattle.records_spec.proofs.Answers.{writing-short}
+use Rattle.codec_spec.specs.Bytes.{ownerBytes, bytesOf}
+use Rattle.codec_spec.specs.Sizes.{countsSize}
+use Rattle.codec_spec.proofs.Sizing.{length-head, held-epochs, held-counts, length-flags}
+use Rattle.codec_spec.proofs.Writings.{serialized-proper, serialized-improper, bytes-proper, put-written}
 use borrow.Author.Needs.{needs}
 use Rattle.codec.proofs.writing.serialize.Statement.{statement}
 use Rattle.codec.proofs.writing.serialize.Tie as tie

@@ -1,7 +1,7 @@
 -- `fields::big::be16_at` meets its contract: two bytes said the highest first. Assumes nothing.
 use Prim.Native.Nat.{_+_}
 use native.Mathlib.Omega.{arith}
-use Rattle.fields.proofs.Bigs.{two-at}
+use Rattle.fields_spec.proofs.Bigs.{two-at}
 use borrow.Author.Needs.{needs}
 use Rattle.fields.proofs.big.be16_at.Statement.{statement}
 use Rattle.fields.proofs.big.be16_at.Tie as tie

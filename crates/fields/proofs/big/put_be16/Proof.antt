@@ -1,7 +1,7 @@
 -- `fields::big::put_be16` meets its contract: the two stores are the field's bytes, one after the other. Assumes nothing.
 use native.Mathlib.Omega.{arith}
 use lib.ListN.{length-set}
-use Rattle.fields.proofs.Bigs.{put-two}
+use Rattle.fields_spec.proofs.Bigs.{put-two}
 use borrow.Author.Needs.{needs}
 use Rattle.fields.proofs.big.put_be16.Statement.{statement}
 use Rattle.fields.proofs.big.put_be16.Tie as tie

@@ -1,7 +1,7 @@
 -- `fields::limits::len_by_limits` meets its contract: each limit passed is one byte more. Assumes nothing.
 use native.Mathlib.Omega.{arith}
 use borrow.Author.Needs.{needs}
-use Rattle.fields.proofs.Varints.{length-limits}
+use Rattle.fields_spec.proofs.Varints.{length-limits}
 use Rattle.fields.proofs.limits.len_by_limits.Statement.{statement}
 use Rattle.fields.proofs.limits.len_by_limits.Tie as tie
 

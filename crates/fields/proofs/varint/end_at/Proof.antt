@@ -4,9 +4,9 @@ use mathlib.Core.Path.{_≡_, sym, ap, _∙_}
 use Prim.Native.Nat.{suc, _+_, _≤_}
 use native.Mathlib.Omega.{arith}
 use lib.ListN.{take, drop}
-use Rattle.fields.specs.Varint.{largest, value, found, judgedAt}
-use Rattle.fields.specs.declared.varint.Judged.the-variants.{Ends}
-use Rattle.fields.proofs.Places.{passed-zero, passed-whole, passed-small, passed-long, fifth-fits, fifth-large}
+use Rattle.fields_spec.specs.Varint.{largest, value, found, judgedAt}
+use Rattle.fields_spec.specs.declared.varint.Judged.the-variants.{Ends}
+use Rattle.fields_spec.proofs.Places.{passed-zero, passed-whole, passed-small, passed-long, fifth-fits, fifth-large}
 use borrow.Author.Needs.{needs}
 use Rattle.fields.proofs.varint.end_at.Statement.{statement}
 use Rattle.fields.proofs.varint.end_at.Tie as tie

@@ -5,10 +5,10 @@ use mathlib.Core.List.{List}
 use Prim.Native.Nat.{ℕ, _+_, _/_, _%_, _≤_}
 use native.Mathlib.Omega.{arith}
 use lib.ListN.{set}
-use Rattle.fields.specs.Varint.{varint}
-use Rattle.fields.proofs.Varints.{length-pos}
-use Rattle.fields.proofs.Parts.{Parts, parts-start, parts-inside}
-use Rattle.fields.proofs.Putting.{putting-more, putting-last}
+use Rattle.fields_spec.specs.Varint.{varint}
+use Rattle.fields_spec.proofs.Varints.{length-pos}
+use Rattle.fields_spec.proofs.Parts.{Parts, parts-start, parts-inside}
+use Rattle.fields_spec.proofs.Putting.{putting-more, putting-last}
 use borrow.Author.Needs.{needs}
 use Rattle.fields.proofs.varint.put_varint.Statement.{statement}
 use Rattle.fields.proofs.varint.put_varint.Tie as tie

@@ -2,8 +2,8 @@
 -- Assumes nothing.
 use mathlib.Core.Path.{refl}
 use native.Mathlib.Omega.{arith}
-use Rattle.fields.proofs.Places.{value-on, fifth-fits}
-use Rattle.fields.proofs.Endings.{groups-below, read-zero, read-ended}
+use Rattle.fields_spec.proofs.Places.{value-on, fifth-fits}
+use Rattle.fields_spec.proofs.Endings.{groups-below, read-zero, read-ended}
 use borrow.Author.Needs.{needs}
 use Rattle.fields.proofs.varint.read_fifth.Statement.{statement}
 use Rattle.fields.proofs.varint.read_fifth.Tie as tie

@@ -1,9 +1,9 @@
 -- `fields::varint::read_judged` meets its contract: what judging found decides, and a whole varint is then read. Assumes nothing.
 use mathlib.Core.Path.{sym, ap, _∙_}
-use Rattle.fields.specs.Varint.{found, readAt, isWhole}
+use Rattle.fields_spec.specs.Varint.{found, readAt, isWhole}
 use lib.ListN.{drop}
-use Rattle.fields.specs.declared.varint.Reading.the-variants.{Incomplete, NotCanonical}
-use Rattle.fields.proofs.Told.{told-incomplete, told-strange, told-ends}
+use Rattle.fields_spec.specs.declared.varint.Reading.the-variants.{Incomplete, NotCanonical}
+use Rattle.fields_spec.proofs.Told.{told-incomplete, told-strange, told-ends}
 use borrow.Author.Needs.{needs}
 use Rattle.fields.proofs.varint.read_judged.Statement.{statement}
 use Rattle.fields.proofs.varint.read_judged.Tie as tie

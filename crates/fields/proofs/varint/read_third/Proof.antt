@@ -4,8 +4,8 @@ use mathlib.Core.Path.{sym, ap, ap₂, _∙_}
 use Prim.Native.Nat.{ℕ, _+_, _*_, _≤_, _<_}
 use native.Mathlib.Omega.{arith}
 use lib.ListN.{length, getD}
-use Rattle.fields.specs.declared.varint.Reading.the-variants.{Whole}
-use Rattle.fields.proofs.Endings.{groups-below, both-true, four-say, fourth-passed, chosen-zero, chosen-read}
+use Rattle.fields_spec.specs.declared.varint.Reading.the-variants.{Whole}
+use Rattle.fields_spec.proofs.Endings.{groups-below, both-true, four-say, fourth-passed, chosen-zero, chosen-read}
 use borrow.Author.Needs.{needs}
 use Rattle.fields.proofs.varint.read_third.Statement.{statement}
 use Rattle.fields.proofs.varint.read_third.Tie as tie

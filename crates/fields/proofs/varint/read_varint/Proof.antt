@@ -4,10 +4,10 @@ use mathlib.Core.Path.{_≡_, refl, sym, ap, ap₂, _∙_}
 use Prim.Native.Nat.{ℕ, _+_, _*_, _%_}
 use native.Mathlib.Omega.{arith}
 use lib.ListN.{getD, take, drop}
-use Rattle.fields.specs.Varint.{value, readAt, Passed}
-use Rattle.fields.specs.declared.varint.Reading.the-variants.{Whole}
-use Rattle.fields.proofs.Places.{value-on, first-more, first-value, first-whole, passed-none, passed-more, passed-small}
-use Rattle.fields.proofs.Endings.{read-cut, read-zero, read-ended}
+use Rattle.fields_spec.specs.Varint.{value, readAt, Passed}
+use Rattle.fields_spec.specs.declared.varint.Reading.the-variants.{Whole}
+use Rattle.fields_spec.proofs.Places.{value-on, first-more, first-value, first-whole, passed-none, passed-more, passed-small}
+use Rattle.fields_spec.proofs.Endings.{read-cut, read-zero, read-ended}
 use borrow.Author.Needs.{needs}
 use Rattle.fields.proofs.varint.read_varint.Statement.{statement}
 use Rattle.fields.proofs.varint.read_varint.Tie as tie

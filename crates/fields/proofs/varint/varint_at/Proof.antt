@@ -3,9 +3,9 @@ use mathlib.Core.Path.{_≡_, refl, sym, ap, ap₂, _∙_}
 use Prim.Native.Nat.{ℕ, _+_, _*_, _%_, _<_}
 use native.Mathlib.Omega.{arith}
 use lib.ListN.{length, getD, take, drop}
-use Rattle.fields.specs.Varint.{value, Passed, readAt}
-use Rattle.fields.specs.declared.varint.Reading.the-variants.{Whole}
-use Rattle.fields.proofs.Places.{value-on, first-inside, first-more, first-value, first-whole, passed-more, whole-inside, passed-read}
+use Rattle.fields_spec.specs.Varint.{value, Passed, readAt}
+use Rattle.fields_spec.specs.declared.varint.Reading.the-variants.{Whole}
+use Rattle.fields_spec.proofs.Places.{value-on, first-inside, first-more, first-value, first-whole, passed-more, whole-inside, passed-read}
 use borrow.Author.Needs.{needs}
 use Rattle.fields.proofs.varint.varint_at.Statement.{statement}
 use Rattle.fields.proofs.varint.varint_at.Tie as tie

@@ -10,9 +10,9 @@ use lib.Dec.{T, eqb, eqb→eq}
 use lib.ListN.{length, getD}
 use lib.Count.{leadingZeros, leading-le, leading-length}
 use borrow.Author.Needs.{needs}
-use Rattle.fields.specs.Varint.{varint, groups}
-use Rattle.fields.proofs.Varints.{length-between}
-use Rattle.fields.proofs.Table.{at, both, both-left, both-right}
+use Rattle.fields_spec.specs.Varint.{varint, groups}
+use Rattle.fields_spec.proofs.Varints.{length-between}
+use Rattle.fields_spec.proofs.Table.{at, both, both-left, both-right}
 use Rattle.fields.proofs.varint.varint_len.Statement.{statement}
 use Rattle.fields.proofs.varint.varint_len.Tie as tie
 
@@ -25,7 +25,7 @@ right : ℕ → ℕ → Bool
 unfolding varint
 right k v = both (eqb v (length (varint (2 ^ k / 2)))) (eqb v (length (varint (2 ^ k - 1))))
 
-ruled : T (Rattle.fields.proofs.Table.every right 0 lengths)
+ruled : T (Rattle.fields_spec.proofs.Table.every right 0 lengths)
 unfolding lengths right varint groups
 ruled = tt
 

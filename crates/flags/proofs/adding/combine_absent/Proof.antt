@@ -1,8 +1,8 @@
 -- `flags::adding::combine_absent` meets its contract: theirs are proper, or not. Assumes nothing.
 use mathlib.Core.Path.{sym, _∙_}
 use borrow.Author.Needs.{needs}
-use Rattle.records.proofs.Answers.{refused-left}
-use Rattle.flags.proofs.Merging.{handed-proper, handed-bad}
+use Rattle.records_spec.proofs.Answers.{refused-left}
+use Rattle.flags_spec.proofs.Merging.{handed-proper, handed-bad}
 use Rattle.flags.proofs.adding.combine_absent.Statement.{statement}
 use Rattle.flags.proofs.adding.combine_absent.Tie as tie
 

@@ -1,8 +1,8 @@
 -- `flags::adding::combine_added_bytes` meets its contract: both sides are proper, or one is not. Assumes nothing.
 use mathlib.Core.Path.{sym, _∙_}
 use borrow.Author.Needs.{needs}
-use Rattle.records.proofs.Answers.{refused-left}
-use Rattle.flags.proofs.Merging.{combined-proper, combined-theirs-bad, combined-ours-bad}
+use Rattle.records_spec.proofs.Answers.{refused-left}
+use Rattle.flags_spec.proofs.Merging.{combined-proper, combined-theirs-bad, combined-ours-bad}
 use Rattle.flags.proofs.adding.combine_added_bytes.Statement.{statement}
 use Rattle.flags.proofs.adding.combine_added_bytes.Tie as tie
 

@@ -2,14 +2,14 @@
 use mathlib.Core.Path.{sym, ap, _∙_}
 use lib.Seq.{length-take-le}
 use borrow.Author.Needs.{needs}
-use Rattle.records.specs.Flags.{Flags, ownerOf, flagsOf}
-use Rattle.records.specs.Answers.{Answer, placing}
-use Rattle.records.proofs.Proper.{IsProper, proper-inv, proper-table, proper-above}
-use Rattle.records.proofs.Answers.{refused-placing}
-use Rattle.flags.specs.Owners.{combinedOwner}
-use Rattle.flags.specs.Merging.{added}
-use Rattle.flags.proofs.Choosing.{answered-owner, refused-owner}
-use Rattle.flags.proofs.Merging.{added-lower, added-disputed, added-owned}
+use Rattle.records_spec.specs.Flags.{Flags, ownerOf, flagsOf}
+use Rattle.records_spec.specs.Answers.{Answer, placing}
+use Rattle.records_spec.proofs.Proper.{IsProper, proper-inv, proper-table, proper-above}
+use Rattle.records_spec.proofs.Answers.{refused-placing}
+use Rattle.flags_spec.specs.Owners.{combinedOwner}
+use Rattle.flags_spec.specs.Merging.{added}
+use Rattle.flags_spec.proofs.Choosing.{answered-owner, refused-owner}
+use Rattle.flags_spec.proofs.Merging.{added-lower, added-disputed, added-owned}
 use Rattle.flags.proofs.adding.combine_proper.Statement.{statement}
 use Rattle.flags.proofs.adding.combine_proper.Tie as tie
 

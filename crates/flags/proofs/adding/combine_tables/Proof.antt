@@ -1,11 +1,11 @@
 -- `flags::adding::combine_tables` meets its contract: the bases are equal, or not. Assumes nothing.
 use mathlib.Core.Path.{sym, ap, _∙_}
 use borrow.Author.Needs.{needs}
-use Rattle.records.specs.Tables.{recordsOf, union}
-use Rattle.records.specs.Flags.{Flags, flags, ownerIf}
-use Rattle.records.specs.Answers.{Answer, placing}
-use Rattle.records.proofs.Unions.{above-table}
-use Rattle.flags.proofs.Merging.{raised-same, raised-higher}
+use Rattle.records_spec.specs.Tables.{recordsOf, union}
+use Rattle.records_spec.specs.Flags.{Flags, flags, ownerIf}
+use Rattle.records_spec.specs.Answers.{Answer, placing}
+use Rattle.records_spec.proofs.Unions.{above-table}
+use Rattle.flags_spec.proofs.Merging.{raised-same, raised-higher}
 use Rattle.flags.proofs.adding.combine_tables.Statement.{statement}
 use Rattle.flags.proofs.adding.combine_tables.Tie as tie
 

@@ -7,16 +7,16 @@ use mathlib.Core.List.{List, _∷_}
 use Prim.Native.Nat.{ℕ, _+_, _≤_, _<_}
 use native.Mathlib.Omega.{arith}
 use borrow.Author.Needs.{needs}
-use Rattle.fields.specs.Varint.{largest}
-use Rattle.records.specs.Tables.{At, _⦂_, recordsOf, epochsOf, ascending, held, union}
-use Rattle.records.specs.Flags.{flags, ownerIf}
-use Rattle.records.specs.Answers.{Answer, ok, after, placing}
-use Rattle.records.specs.Flags.{Flags}
-use Rattle.records.specs.declared.table.Spot.{Spot}
-use Rattle.records.proofs.Tables.{epochs-records}
-use Rattle.records.proofs.Answers.{refused-placing}
-use Rattle.flags.specs.Merging.{raised}
-use Rattle.flags.proofs.Merging.{raised-over, raised-made}
+use Rattle.fields_spec.specs.Varint.{largest}
+use Rattle.records_spec.specs.Tables.{At, _⦂_, recordsOf, epochsOf, ascending, held, union}
+use Rattle.records_spec.specs.Flags.{flags, ownerIf}
+use Rattle.records_spec.specs.Answers.{Answer, ok, after, placing}
+use Rattle.records_spec.specs.Flags.{Flags}
+use Rattle.records_spec.specs.declared.table.Spot.{Spot}
+use Rattle.records_spec.proofs.Tables.{epochs-records}
+use Rattle.records_spec.proofs.Answers.{refused-placing}
+use Rattle.flags_spec.specs.Merging.{raised}
+use Rattle.flags_spec.proofs.Merging.{raised-over, raised-made}
 use Rattle.flags.proofs.adding.combine_with_higher_base_epoch.Statement.{statement}
 use Rattle.flags.proofs.adding.combine_with_higher_base_epoch.Tie as tie
 

@@ -5,13 +5,13 @@ use mathlib.Core.Path.{_∙_}
 use mathlib.Core.Option.{Option}
 use mathlib.Core.List.{List}
 use borrow.Author.Needs.{needs}
-use Rattle.records.specs.Flags.{ownerOf}
-use Rattle.records.specs.declared.head.Head.{Head}
-use Rattle.codec.specs.Reading.{read}
-use Rattle.flags.specs.Owners.{choice}
-use Rattle.flags.specs.declared.owners.MergingOwnersStrategy.{MergingOwnersStrategy}
-use Rattle.flags.specs.declared.owners.Choice.{Choice}
-use Rattle.flags.proofs.Choosing.{judged-out, judged-none, judged-some}
+use Rattle.records_spec.specs.Flags.{ownerOf}
+use Rattle.records_spec.specs.declared.head.Head.{Head}
+use Rattle.codec_spec.specs.Reading.{read}
+use Rattle.flags_spec.specs.Owners.{choice}
+use Rattle.flags_spec.specs.declared.owners.MergingOwnersStrategy.{MergingOwnersStrategy}
+use Rattle.flags_spec.specs.declared.owners.Choice.{Choice}
+use Rattle.flags_spec.proofs.Choosing.{judged-out, judged-none, judged-some}
 use Rattle.flags.proofs.owners.choose_beside.Statement.{statement}
 use Rattle.flags.proofs.owners.choose_beside.Tie as tie
 

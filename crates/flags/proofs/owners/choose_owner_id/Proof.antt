@@ -5,11 +5,11 @@ use mathlib.Core.Path.{_∙_}
 use mathlib.Core.Option.{Option}
 use mathlib.Core.List.{List}
 use borrow.Author.Needs.{needs}
-use Rattle.codec.specs.Reading.{read}
-use Rattle.flags.specs.Owners.{choice, ownerRead, unlessRefused}
-use Rattle.flags.specs.declared.owners.MergingOwnersStrategy.{MergingOwnersStrategy}
-use Rattle.flags.specs.declared.owners.Choice.{Choice}
-use Rattle.flags.proofs.Choosing.{judged-out, judged-none, judged-some}
+use Rattle.codec_spec.specs.Reading.{read}
+use Rattle.flags_spec.specs.Owners.{choice, ownerRead, unlessRefused}
+use Rattle.flags_spec.specs.declared.owners.MergingOwnersStrategy.{MergingOwnersStrategy}
+use Rattle.flags_spec.specs.declared.owners.Choice.{Choice}
+use Rattle.flags_spec.proofs.Choosing.{judged-out, judged-none, judged-some}
 use Rattle.flags.proofs.owners.choose_owner_id.Statement.{statement}
 use Rattle.flags.proofs.owners.choose_owner_id.Tie as tie
 

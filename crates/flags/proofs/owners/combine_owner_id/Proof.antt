@@ -5,11 +5,11 @@ use mathlib.Core.Path.{_≡_, sym, ap, _∙_}
 use native.Mathlib.Omega.{arith}
 use lib.ListN.{length}
 use borrow.Author.Needs.{needs}
-use Rattle.flags.specs.Parts.{lent, handed}
-use Rattle.flags.specs.Calls.{ownerChoice, ownerHanded}
-use Rattle.flags.specs.declared.owners.Choice.{Choice}
-use Rattle.flags.specs.declared.owners.Choice.the-variants.{Ours, Theirs, Neither, Refused}
-use Rattle.flags.proofs.Choosing.{ours-owned, theirs-owned}
+use Rattle.flags_spec.specs.Parts.{lent, handed}
+use Rattle.flags_spec.specs.Calls.{ownerChoice, ownerHanded}
+use Rattle.flags_spec.specs.declared.owners.Choice.{Choice}
+use Rattle.flags_spec.specs.declared.owners.Choice.the-variants.{Ours, Theirs, Neither, Refused}
+use Rattle.flags_spec.proofs.Choosing.{ours-owned, theirs-owned}
 use Rattle.flags.proofs.owners.combine_owner_id.Statement.{statement}
 use Rattle.flags.proofs.owners.combine_owner_id.Tie as tie
 

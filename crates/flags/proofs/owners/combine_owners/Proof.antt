@@ -2,11 +2,11 @@
 use mathlib.Core.Path.{_≡_, sym, ap, _∙_}
 use mathlib.Core.Bool.{Bool, true, false}
 use borrow.Author.Needs.{needs}
-use Rattle.records.specs.Flags.{ownerOf}
-use Rattle.records.specs.declared.head.MaybeOwner.{MaybeOwner}
-use Rattle.flags.specs.Owners.{chosen, combinedOwner, chosenAs}
-use Rattle.flags.specs.declared.owners.Choice.{Choice}
-use Rattle.flags.specs.declared.owners.ChosenOwner.{ChosenOwner}
+use Rattle.records_spec.specs.Flags.{ownerOf}
+use Rattle.records_spec.specs.declared.head.MaybeOwner.{MaybeOwner}
+use Rattle.flags_spec.specs.Owners.{chosen, combinedOwner, chosenAs}
+use Rattle.flags_spec.specs.declared.owners.Choice.{Choice}
+use Rattle.flags_spec.specs.declared.owners.ChosenOwner.{ChosenOwner}
 use Rattle.flags.proofs.owners.combine_owners.Statement.{statement}
 use Rattle.flags.proofs.owners.combine_owners.Tie as tie
 

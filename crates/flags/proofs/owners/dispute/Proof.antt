@@ -1,7 +1,7 @@
 -- `flags::owners::dispute` meets its contract: each strategy has its arm. Assumes nothing.
 use mathlib.Core.Path.{sym, ap}
 use borrow.Author.Needs.{needs}
-use Rattle.flags.specs.Owners.{disputed}
+use Rattle.flags_spec.specs.Owners.{disputed}
 use Rattle.flags.proofs.owners.dispute.Statement.{statement}
 use Rattle.flags.proofs.owners.dispute.Tie as tie
 

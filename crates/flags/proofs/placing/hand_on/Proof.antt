@@ -7,14 +7,14 @@ use Prim.Native.Nat.{_≤_}
 use native.Mathlib.Omega.{arith}
 use borrow.Author.Needs.{needs}
 use lib.ListN.{length}
-use Rattle.records.specs.Tables.{At, Placed}
-use Rattle.records.specs.Flags.{ownerIf, ownerOf, headFor, flagsOf}
-use Rattle.records.specs.Answers.{roomFor}
-use Rattle.records.specs.declared.head.MaybeOwner.{MaybeOwner}
-use Rattle.records.proofs.Tables.{take-records}
-use Rattle.records.proofs.Owners.{owner-back}
-use Rattle.records.proofs.Proper.{IsProper, proper-inv, proper-long}
-use Rattle.records.proofs.Answers.{room-both, after-short, refused-left, placed-left}
+use Rattle.records_spec.specs.Tables.{At, Placed}
+use Rattle.records_spec.specs.Flags.{ownerIf, ownerOf, headFor, flagsOf}
+use Rattle.records_spec.specs.Answers.{roomFor}
+use Rattle.records_spec.specs.declared.head.MaybeOwner.{MaybeOwner}
+use Rattle.records_spec.proofs.Tables.{take-records}
+use Rattle.records_spec.proofs.Owners.{owner-back}
+use Rattle.records_spec.proofs.Proper.{IsProper, proper-inv, proper-long}
+use Rattle.records_spec.proofs.Answers.{room-both, after-short, refused-left, placed-left}
 use Rattle.flags.proofs.placing.hand_on.Statement.{statement}
 use Rattle.flags.proofs.placing.hand_on.Tie as tie
 
@@ -41,7 +41,7 @@ returns c =
     let n = proper-long (is-proper b) in
     let r = room b (sym (c .before .before .before .before .before .before .before .before .before .before .before .fit .ensures) ∙ c .before .before .before .before .before .before .before .before .before .before .if1 .taken) in
     let o = ap (λ (m : MaybeOwner). ownerIf (m .owned) (m .id)) (c .before .before .owner-id .ensures) ∙ sym (owner-back (ownerOf (a .flags))) in
-    let h = c .before .new .ensures ∙ ap (λ x. headFor (a .flags .base) x (a .flags .records)) o ∙ ap (headFor (a .flags .base) (ownerOf (a .flags))) (sym n) in
+    let h = c .before .new-head .ensures ∙ ap (λ x. headFor (a .flags .base) x (a .flags .records)) o ∙ ap (headFor (a .flags .base) (ownerOf (a .flags))) (sym n) in
     placed-left (c .present .result) _ _ f _ (a .flags .records) _ _ (c .present .ensures) h
     (subst (λ (rs : List At). Placed rs 0 (a .flags .records) (a .epochs .now) (a .counts .now) (c .before .before .before .before .before .before .before .copy-records .last .1 .1 .1 .0) (c .before .before .before .before .before .before .before .copy-records .last .1 .1 .1 .1 .0)) (take-records (a .flags .records) (a .from-epochs .now) (a .from-counts .now)) (c .before .before .before .before .before .before .before .copy-records .ensures))
     (omega (arith, n, r .0)) (omega (arith, n, r .1))

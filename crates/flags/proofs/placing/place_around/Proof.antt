@@ -8,12 +8,12 @@ use native.Mathlib.Nat.{zero-add}
 use native.Mathlib.Omega.{arith}
 use borrow.Author.Needs.{needs}
 use lib.ListN.{length, drop, length-set}
-use Rattle.records.specs.Tables.{At, _⦂_, recordsOf, union}
-use Rattle.records.specs.Flags.{Flags, flags, ownerIf, headFor}
-use Rattle.records.specs.Answers.{roomFor}
-use Rattle.records.proofs.Unions.{above-table}
-use Rattle.records.proofs.Answers.{room-both, after-short, refused-left, placed-left}
-use Rattle.flags.proofs.Joining.{spot-order, around-long, around-placed}
+use Rattle.records_spec.specs.Tables.{At, _⦂_, recordsOf, union}
+use Rattle.records_spec.specs.Flags.{Flags, flags, ownerIf, headFor}
+use Rattle.records_spec.specs.Answers.{roomFor}
+use Rattle.records_spec.proofs.Unions.{above-table}
+use Rattle.records_spec.proofs.Answers.{room-both, after-short, refused-left, placed-left}
+use Rattle.flags_spec.proofs.Joining.{spot-order, around-long, around-placed}
 use Rattle.flags.proofs.placing.place_around.Statement.{statement}
 use Rattle.flags.proofs.placing.place_around.Tie as tie
 
@@ -86,7 +86,7 @@ returns c =
     let b = c .before .before .before .before .before .before .before .before .before .before .before .before .before .before .before .before .before .before .before .before .before .before .before .before in
     let r = room b (sym (c .before .before .before .before .before .before .before .before .before .before .before .before .before .before .before .before .before .union-fits .ensures) ∙ c .before .before .before .before .before .before .before .before .before .before .before .before .before .before .before .before .if1 .taken) in
     let q = around-placed (b .pre .0) (b .pre .1 .1) (b .pre .1 .0) (b .args .count) (c .before .before .before .before .before .before .before .before .before .before .before .before .before .copy-records .ensures) (c .before .before .before .before .before .before .union-into .ensures) in
-    let h = c .before .new .ensures ∙ ap (headFor (b .args .base) (placed b .owner)) (q .behind ∙ zero-add (length (records b))) in
+    let h = c .before .new-head .ensures ∙ ap (headFor (b .args .base) (placed b .owner)) (q .behind ∙ zero-add (length (records b))) in
     placed-left (c .present .result) _ _ (placed b) _ _ _ _ (c .present .ensures) h q (omega (arith, long b, r .0)) (omega (arith, long b, r .1))
 
 returns-2 : tie.Need-returns-2

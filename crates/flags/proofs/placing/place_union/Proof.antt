@@ -7,10 +7,10 @@ use native.Mathlib.Nat.{zero-add}
 use native.Mathlib.Omega.{arith}
 use borrow.Author.Needs.{needs}
 use lib.ListN.{length}
-use Rattle.records.specs.Tables.{At, recordsOf, union}
-use Rattle.records.specs.Flags.{Flags, flags, ownerIf, headFor}
-use Rattle.records.specs.Answers.{roomFor}
-use Rattle.records.proofs.Answers.{room-both, after-short, refused-left, placed-left}
+use Rattle.records_spec.specs.Tables.{At, recordsOf, union}
+use Rattle.records_spec.specs.Flags.{Flags, flags, ownerIf, headFor}
+use Rattle.records_spec.specs.Answers.{roomFor}
+use Rattle.records_spec.proofs.Answers.{room-both, after-short, refused-left, placed-left}
 use Rattle.flags.proofs.placing.place_union.Statement.{statement}
 use Rattle.flags.proofs.placing.place_union.Tie as tie
 
@@ -40,7 +40,7 @@ returns c =
     let b = c .before .before .before .before .before .before .before .before .before .before .before .before .before .before .before .before .before in
     let q = c .before .before .before .before .before .before .union-into .ensures in
     let r = room b (sym (c .before .before .before .before .before .before .before .before .before .before .union-fits .ensures) ∙ c .before .before .before .before .before .before .before .before .before .if1 .taken) in
-    let h = c .before .new .ensures ∙ ap (headFor (b .args .base) (placed b .owner)) (q .behind ∙ zero-add (length (records b))) in
+    let h = c .before .new-head .ensures ∙ ap (headFor (b .args .base) (placed b .owner)) (q .behind ∙ zero-add (length (records b))) in
     placed-left (c .present .result) _ _ (placed b) _ _ _ _ (c .present .ensures) h q (r .0) (r .1)
 
 returns-2 : tie.Need-returns-2

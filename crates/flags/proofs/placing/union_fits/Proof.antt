@@ -4,10 +4,10 @@ use Prim.Native.Nat.{ℕ, _+_, _-_, _≤_}
 use lib.ListN.{length, drop}
 use native.Mathlib.Omega.{arith}
 use borrow.Author.Needs.{needs}
-use Rattle.records.specs.Tables.{recordsOf, union}
-use Rattle.records.specs.Answers.{roomFor}
-use Rattle.records.proofs.Answers.{room-less}
-use Rattle.flags.proofs.Joining.{union-most}
+use Rattle.records_spec.specs.Tables.{recordsOf, union}
+use Rattle.records_spec.specs.Answers.{roomFor}
+use Rattle.records_spec.proofs.Answers.{room-less}
+use Rattle.flags_spec.proofs.Joining.{union-most}
 use Rattle.flags.proofs.placing.union_fits.Statement.{statement}
 use Rattle.flags.proofs.placing.union_fits.Tie as tie
 

@@ -4,8 +4,8 @@ use Prim.Native.Nat.{_+_, _≤_}
 use mathlib.Core.Path.{_≡_}
 use native.Mathlib.Omega.{arith}
 use lib.ListN.{length}
-use Rattle.listing.specs.Text.{decimal}
-use Rattle.listing.proofs.Decimals.{length-last, length-more, length-below}
+use Rattle.listing_spec.specs.Text.{decimal}
+use Rattle.listing_spec.proofs.Decimals.{length-last, length-more, length-below}
 use Rattle.listing.proofs.digits.decimal_len.Statement.{statement}
 use Rattle.listing.proofs.digits.decimal_len.Tie as tie
 

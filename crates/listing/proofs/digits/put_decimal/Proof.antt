@@ -5,8 +5,8 @@ use mathlib.Core.Path.{_≡_}
 use native.Mathlib.Omega.{arith}
 use lib.ListN.{length, length-set}
 use borrow.Author.Needs.{needs}
-use Rattle.listing.specs.Text.{decimal}
-use Rattle.listing.proofs.Decimals.{Backing, backing-start, backing-more, backing-last, length-more, length-last}
+use Rattle.listing_spec.specs.Text.{decimal}
+use Rattle.listing_spec.proofs.Decimals.{Backing, backing-start, backing-more, backing-last, length-more, length-last}
 use Rattle.listing.proofs.digits.put_decimal.Statement.{statement}
 use Rattle.listing.proofs.digits.put_decimal.Tie as tie
 

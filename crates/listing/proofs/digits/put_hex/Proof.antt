@@ -4,9 +4,9 @@ use Prim.Native.Nat.{_+_, _-_, _≤_}
 use native.Mathlib.Omega.{arith}
 use lib.ListN.{length, drop, length-set}
 use borrow.Author.Needs.{needs}
-use Rattle.fields.proofs.Parts.{Parts, parts-start, parts-done, parts-room}
-use Rattle.listing.specs.Text.{hex}
-use Rattle.listing.proofs.Hexes.{hex-end, hex-two, hex-put}
+use Rattle.fields_spec.proofs.Parts.{Parts, parts-start, parts-done, parts-room}
+use Rattle.listing_spec.specs.Text.{hex}
+use Rattle.listing_spec.proofs.Hexes.{hex-end, hex-two, hex-put}
 use Rattle.listing.proofs.digits.put_hex.Statement.{statement}
 use Rattle.listing.proofs.digits.put_hex.Tie as tie
 

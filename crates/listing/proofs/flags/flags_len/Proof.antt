@@ -3,8 +3,8 @@ use mathlib.Core.Path.{ap, _∙_}
 use native.Mathlib.Omega.{arith}
 use lib.ListN.{length}
 use borrow.Author.Needs.{needs}
-use Rattle.listing.specs.Text.{line}
-use Rattle.listing.proofs.Lengths.{length-head}
+use Rattle.listing_spec.specs.Text.{line}
+use Rattle.listing_spec.proofs.Lengths.{length-head}
 use Rattle.listing.proofs.flags.flags_len.Statement.{statement}
 use Rattle.listing.proofs.flags.flags_len.Tie as tie
 

@@ -3,8 +3,8 @@ use mathlib.Core.Path.{sym, ap, _∙_}
 use native.Mathlib.Omega.{arith}
 use lib.ListN.{length}
 use borrow.Author.Needs.{needs}
-use Rattle.listing.specs.Text.{line}
-use Rattle.listing.proofs.Lengths.{held-epochs, held-counts}
+use Rattle.listing_spec.specs.Text.{line}
+use Rattle.listing_spec.proofs.Lengths.{held-epochs, held-counts}
 use Rattle.listing.proofs.flags.put_answer.Statement.{statement}
 use Rattle.listing.proofs.flags.put_answer.Tie as tie
 

@@ -3,9 +3,9 @@ use mathlib.Core.Path.{refl, ap}
 use native.Mathlib.Omega.{arith}
 use lib.ListN.{length}
 use borrow.Author.Needs.{needs}
-use Rattle.listing.specs.Text.{line}
-use Rattle.listing.proofs.Lengths.{length-head}
-use Rattle.fields.proofs.Parts.{parts-start, parts-put, parts-last}
+use Rattle.listing_spec.specs.Text.{line}
+use Rattle.listing_spec.proofs.Lengths.{length-head}
+use Rattle.fields_spec.proofs.Parts.{parts-start, parts-put, parts-last}
 use Rattle.listing.proofs.flags.put_flags.Statement.{statement}
 use Rattle.listing.proofs.flags.put_flags.Tie as tie
 

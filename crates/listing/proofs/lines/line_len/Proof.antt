@@ -1,7 +1,7 @@
 -- `listing::lines::line_len` meets its contract: the word, the digits and the line's end. Assumes nothing.
 use native.Mathlib.Omega.{arith}
 use borrow.Author.Needs.{needs}
-use Rattle.listing.proofs.Lengths.{length-line}
+use Rattle.listing_spec.proofs.Lengths.{length-line}
 use Rattle.listing.proofs.lines.line_len.Statement.{statement}
 use Rattle.listing.proofs.lines.line_len.Tie as tie
 

@@ -2,7 +2,7 @@
 use mathlib.Core.Path.{sym, _∙_}
 use native.Mathlib.Omega.{arith}
 use borrow.Author.Needs.{needs}
-use Rattle.listing.proofs.Hexes.{length-hex, length-owner}
+use Rattle.listing_spec.proofs.Hexes.{length-hex, length-owner}
 use Rattle.listing.proofs.lines.owner_len.Statement.{statement}
 use Rattle.listing.proofs.lines.owner_len.Tie as tie
 

@@ -2,8 +2,8 @@
 use mathlib.Core.Path.{refl, sym, _∙_}
 use native.Mathlib.Omega.{arith}
 use borrow.Author.Needs.{needs}
-use Rattle.listing.proofs.Hexes.{length-owner}
-use Rattle.fields.proofs.Parts.{parts-start, parts-put, parts-last, parts-done}
+use Rattle.listing_spec.proofs.Hexes.{length-owner}
+use Rattle.fields_spec.proofs.Parts.{parts-start, parts-put, parts-last, parts-done}
 use Rattle.listing.proofs.lines.put_owner.Statement.{statement}
 use Rattle.listing.proofs.lines.put_owner.Tie as tie
 

@@ -2,8 +2,8 @@
 use mathlib.Core.Path.{refl}
 use native.Mathlib.Omega.{arith}
 use borrow.Author.Needs.{needs}
-use Rattle.fields.proofs.Parts.{parts-start, parts-put, parts-last}
-use Rattle.listing.proofs.Lengths.{length-record}
+use Rattle.fields_spec.proofs.Parts.{parts-start, parts-put, parts-last}
+use Rattle.listing_spec.proofs.Lengths.{length-record}
 use Rattle.listing.proofs.lines.put_record.Statement.{statement}
 use Rattle.listing.proofs.lines.put_record.Tie as tie
 

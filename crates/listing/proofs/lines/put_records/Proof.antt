@@ -4,10 +4,10 @@ use Prim.Native.Nat.{_-_}
 use native.Mathlib.Omega.{arith}
 use lib.ListN.{length}
 use borrow.Author.Needs.{needs}
-use Rattle.records.specs.Tables.{recordsOf}
-use Rattle.listing.specs.Text.{recordLines}
-use Rattle.fields.proofs.Parts.{Parts, parts-start, parts-put, parts-room, parts-done}
-use Rattle.listing.proofs.Lengths.{linesFrom, lines-on, length-on, lines-end}
+use Rattle.records_spec.specs.Tables.{recordsOf}
+use Rattle.listing_spec.specs.Text.{recordLines}
+use Rattle.fields_spec.proofs.Parts.{Parts, parts-start, parts-put, parts-room, parts-done}
+use Rattle.listing_spec.proofs.Lengths.{linesFrom, lines-on, length-on, lines-end}
 use Rattle.listing.proofs.lines.put_records.Statement.{statement}
 use Rattle.listing.proofs.lines.put_records.Tie as tie
 

@@ -5,8 +5,8 @@ use mathlib.Core.Path.{ap}
 use native.Mathlib.Omega.{arith}
 use lib.ListN.{length, drop, drop-of-length-le}
 use borrow.Author.Needs.{needs}
-use Rattle.records.proofs.Rising.{drop-next}
-use Rattle.fields.proofs.Parts.{Parts, parts-start, parts-byte, parts-done, parts-room}
+use Rattle.records_spec.proofs.Rising.{drop-next}
+use Rattle.fields_spec.proofs.Parts.{Parts, parts-start, parts-byte, parts-done, parts-room}
 use Rattle.listing.proofs.lines.put_text.Statement.{statement}
 use Rattle.listing.proofs.lines.put_text.Tie as tie
 

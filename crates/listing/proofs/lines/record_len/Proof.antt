@@ -1,7 +1,7 @@
 -- `listing::lines::record_len` meets its contract: a word, the epoch's digits and the count's part. Assumes nothing.
 use native.Mathlib.Omega.{arith}
 use borrow.Author.Needs.{needs}
-use Rattle.listing.proofs.Lengths.{length-record}
+use Rattle.listing_spec.proofs.Lengths.{length-record}
 use Rattle.listing.proofs.lines.record_len.Statement.{statement}
 use Rattle.listing.proofs.lines.record_len.Tie as tie
 

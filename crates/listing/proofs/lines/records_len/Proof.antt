@@ -5,9 +5,9 @@ use mathlib.Core.Path.{_≡_, ap}
 use native.Mathlib.Omega.{arith}
 use lib.ListN.{length}
 use borrow.Author.Needs.{needs}
-use Rattle.records.specs.Tables.{recordsOf}
-use Rattle.listing.specs.Text.{recordLines}
-use Rattle.listing.proofs.Lengths.{linesFrom, length-on, lines-end}
+use Rattle.records_spec.specs.Tables.{recordsOf}
+use Rattle.listing_spec.specs.Text.{recordLines}
+use Rattle.listing_spec.proofs.Lengths.{linesFrom, length-on, lines-end}
 use Rattle.listing.proofs.lines.records_len.Statement.{statement}
 use Rattle.listing.proofs.lines.records_len.Tie as tie
 

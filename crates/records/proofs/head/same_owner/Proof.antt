@@ -6,8 +6,8 @@ use native.Mathlib.Omega.{arith}
 use lib.Dec.{eqb}
 use lib.ListN.{length, drop, getD}
 use borrow.Author.Needs.{needs}
-use Rattle.records.specs.Flags.{same}
-use Rattle.records.proofs.Owners.{same-on, same-end}
+use Rattle.records_spec.specs.Flags.{same}
+use Rattle.records_spec.proofs.Owners.{same-on, same-end}
 use Rattle.records.proofs.head.same_owner.Statement.{statement}
 use Rattle.records.proofs.head.same_owner.Tie as tie
 

@@ -4,9 +4,9 @@ use Prim.Native.Nat.{_-_, _<_}
 use native.Mathlib.Omega.{arith}
 use lib.ListN.{length}
 use borrow.Author.Needs.{needs}
-use Rattle.records.specs.Tables.{recordsOf}
-use Rattle.records.specs.Runs.{run}
-use Rattle.records.proofs.Tables.{Filling, filling-start, filling-step, filling-room, filling-done, first-on, first-end}
+use Rattle.records_spec.specs.Tables.{recordsOf}
+use Rattle.records_spec.specs.Runs.{run}
+use Rattle.records_spec.proofs.Tables.{Filling, filling-start, filling-step, filling-room, filling-done, first-on, first-end}
 use Rattle.records.proofs.joining.copy_run.Statement.{statement}
 use Rattle.records.proofs.joining.copy_run.Tie as tie
 

@@ -2,7 +2,7 @@
 -- Assumes nothing.
 use native.Mathlib.Omega.{arith}
 use borrow.Author.Needs.{needs}
-use Rattle.records.proofs.Runs.{part-rises, lead-place, lead-all, lead-within}
+use Rattle.records_spec.proofs.Runs.{part-rises, lead-place, lead-all, lead-within}
 use Rattle.records.proofs.joining.lead_end.Statement.{statement}
 use Rattle.records.proofs.joining.lead_end.Tie as tie
 

@@ -6,8 +6,8 @@ use Prim.Native.Nat.{_≤_, _-_}
 use native.Mathlib.Omega.{arith}
 use lib.ListN.{length, drop}
 use borrow.Author.Needs.{needs}
-use Rattle.records.specs.Tables.{ascending}
-use Rattle.records.proofs.Rising.{asc-on, asc-end}
+use Rattle.records_spec.specs.Tables.{ascending}
+use Rattle.records_spec.proofs.Rising.{asc-on, asc-end}
 use Rattle.records.proofs.table.ascend.Statement.{statement}
 use Rattle.records.proofs.table.ascend.Tie as tie
 

@@ -1,7 +1,7 @@
 -- `records::table::copy_records` meets its contract: the first n records are a run. Assumes nothing.
 use native.Mathlib.Omega.{arith}
 use borrow.Author.Needs.{needs}
-use Rattle.records.proofs.Tables.{first-long}
+use Rattle.records_spec.proofs.Tables.{first-long}
 use Rattle.records.proofs.table.copy_records.Statement.{statement}
 use Rattle.records.proofs.table.copy_records.Tie as tie
 

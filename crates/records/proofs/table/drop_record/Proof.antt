@@ -5,7 +5,7 @@ use Prim.Native.Nat.{_+_, _-_, _≤_, _<_}
 use native.Mathlib.Numerals.{add-one}
 use native.Mathlib.Omega.{arith}
 use borrow.Author.Needs.{needs}
-use Rattle.records.proofs.Sliding.{MovedDown, down-start, down-step, down-done, dropped}
+use Rattle.records_spec.proofs.Sliding.{MovedDown, down-start, down-step, down-done, dropped}
 use Rattle.records.proofs.table.drop_record.Statement.{statement}
 use Rattle.records.proofs.table.drop_record.Tie as tie
 

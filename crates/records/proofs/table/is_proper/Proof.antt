@@ -4,7 +4,7 @@ use native.Mathlib.Omega.{arith}
 use lib.Seq.{length-take-le}
 use borrow.Author.Needs.{needs}
 use borrow.Author.Tests.{le-leb, lt-leb}
-use Rattle.records.specs.Flags.{proper}
+use Rattle.records_spec.specs.Flags.{proper}
 use Rattle.records.proofs.table.is_proper.Statement.{statement}
 use Rattle.records.proofs.table.is_proper.Tie as tie
 

@@ -1,7 +1,7 @@
 -- `records::table::look_up` meets its contract: what stands at the place that `find` gives is at the epoch, or none is. Assumes nothing.
 use borrow.Author.Needs.{needs}
 use native.Mathlib.Omega.{arith}
-use Rattle.records.proofs.Around.{spot-at, spot-off}
+use Rattle.records_spec.proofs.Around.{spot-at, spot-off}
 use Rattle.records.proofs.table.look_up.Statement.{statement}
 use Rattle.records.proofs.table.look_up.Tie as tie
 

@@ -4,8 +4,8 @@ use Prim.Native.Nat.{_<_}
 use native.Mathlib.Omega.{arith}
 use lib.ListN.{length}
 use borrow.Author.Needs.{needs}
-use Rattle.records.proofs.Rising.{asc-end}
-use Rattle.records.proofs.Unions.{some-ours, step-ours, step-theirs, step-selected}
+use Rattle.records_spec.proofs.Rising.{asc-end}
+use Rattle.records_spec.proofs.Unions.{some-ours, step-ours, step-theirs, step-selected}
 use Rattle.records.proofs.table.next_record.Statement.{statement}
 use Rattle.records.proofs.table.next_record.Tie as tie
 

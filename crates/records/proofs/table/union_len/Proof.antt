@@ -5,8 +5,8 @@ use Prim.Native.Nat.{_+_, _-_, _≤_}
 use native.Mathlib.Omega.{arith}
 use lib.ListN.{length, drop}
 use borrow.Author.Needs.{needs}
-use Rattle.records.specs.Tables.{At, recordsOf, union}
-use Rattle.records.proofs.Unions.{Walking, walking-start, walking-within, walking-step, walking-done}
+use Rattle.records_spec.specs.Tables.{At, recordsOf, union}
+use Rattle.records_spec.proofs.Unions.{Walking, walking-start, walking-within, walking-step, walking-done}
 use Rattle.records.proofs.table.union_len.Statement.{statement}
 use Rattle.records.proofs.table.union_len.Tie as tie
 

@@ -5,12 +5,12 @@ use Prim.Native.Nat.{ℕ, _+_, _≤_}
 use lib.ListN.{length}
 use native.Mathlib.Omega.{arith}
 use borrow.Author.Needs.{needs}
-use Rattle.records.specs.Tables.{At, recordsOf, union}
-use Rattle.records.specs.Answers.{roomFor}
-use Rattle.records.proofs.Answers.{room-less}
-use Rattle.flags.proofs.Joining.{union-most}
-use Rattle.removal.specs.Removing.{minus}
-use Rattle.removal.proofs.Lessening.{minus-long}
+use Rattle.records_spec.specs.Tables.{At, recordsOf, union}
+use Rattle.records_spec.specs.Answers.{roomFor}
+use Rattle.records_spec.proofs.Answers.{room-less}
+use Rattle.flags_spec.proofs.Joining.{union-most}
+use Rattle.removal_spec.specs.Removing.{minus}
+use Rattle.removal_spec.proofs.Lessening.{minus-long}
 use Rattle.removal.proofs.remaining.remaining_fits.Statement.{statement}
 use Rattle.removal.proofs.remaining.remaining_fits.Tie as tie
 

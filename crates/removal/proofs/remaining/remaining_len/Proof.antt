@@ -6,10 +6,10 @@ use Prim.Native.Nat.{_+_, _-_, _≤_}
 use native.Mathlib.Omega.{arith}
 use lib.ListN.{length, drop}
 use borrow.Author.Needs.{needs}
-use Rattle.records.specs.Tables.{At, recordsOf, union}
-use Rattle.records.proofs.Unions.{Walking, walking-start, walking-within, walking-step, walking-done}
-use Rattle.removal.specs.Removing.{minus}
-use Rattle.removal.proofs.Lessening.{next-stays, next-gone, minus-done}
+use Rattle.records_spec.specs.Tables.{At, recordsOf, union}
+use Rattle.records_spec.proofs.Unions.{Walking, walking-start, walking-within, walking-step, walking-done}
+use Rattle.removal_spec.specs.Removing.{minus}
+use Rattle.removal_spec.proofs.Lessening.{next-stays, next-gone, minus-done}
 use Rattle.removal.proofs.remaining.remaining_len.Statement.{statement}
 use Rattle.removal.proofs.remaining.remaining_len.Tie as tie
 

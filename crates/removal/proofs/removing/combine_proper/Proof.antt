@@ -3,13 +3,13 @@ use mathlib.Core.Path.{sym, ap, _∙_}
 use Prim.Native.Nat.{_<_}
 use native.Mathlib.Omega.{arith}
 use borrow.Author.Needs.{needs}
-use Rattle.records.specs.Flags.{Flags, flagsOf}
-use Rattle.records.specs.Answers.{Answer, placing}
-use Rattle.records.proofs.Answers.{refused-placing}
-use Rattle.rows.specs.Rows.{tables}
-use Rattle.rows.specs.Removals.{Removal, removalOf}
-use Rattle.removal.specs.Removing.{removed}
-use Rattle.removal.proofs.Merging.{removed-lower, removed-beside, removed-above}
+use Rattle.records_spec.specs.Flags.{Flags, flagsOf}
+use Rattle.records_spec.specs.Answers.{Answer, placing}
+use Rattle.records_spec.proofs.Answers.{refused-placing}
+use Rattle.rows_spec.specs.Rows.{tables}
+use Rattle.rows_spec.specs.Removals.{Removal, removalOf}
+use Rattle.removal_spec.specs.Removing.{removed}
+use Rattle.removal_spec.proofs.Merging.{removed-lower, removed-beside, removed-above}
 use Rattle.removal.proofs.removing.combine_proper.Statement.{statement}
 use Rattle.removal.proofs.removing.combine_proper.Tie as tie
 

@@ -1,8 +1,8 @@
 -- `removal::removing::combine_removed_bytes` meets its contract: both sides and the removal are proper, or one is not. Assumes nothing.
 use mathlib.Core.Path.{sym, _∙_}
 use borrow.Author.Needs.{needs}
-use Rattle.records.proofs.Answers.{refused-left}
-use Rattle.removal.proofs.Merging.{combined-proper, combined-removal-bad, combined-theirs-bad, combined-ours-bad}
+use Rattle.records_spec.proofs.Answers.{refused-left}
+use Rattle.removal_spec.proofs.Merging.{combined-proper, combined-removal-bad, combined-theirs-bad, combined-ours-bad}
 use Rattle.removal.proofs.removing.combine_removed_bytes.Statement.{statement}
 use Rattle.removal.proofs.removing.combine_removed_bytes.Tie as tie
 

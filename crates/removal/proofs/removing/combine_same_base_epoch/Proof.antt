@@ -2,14 +2,14 @@
 use mathlib.Core.Path.{sym, ap, _∙_}
 use lib.Seq.{length-take-le}
 use borrow.Author.Needs.{needs}
-use Rattle.records.specs.Flags.{Flags, ownerOf, flagsOf}
-use Rattle.records.specs.Answers.{Answer, placing}
-use Rattle.records.proofs.Proper.{IsProper, proper-inv, proper-table}
-use Rattle.records.proofs.Answers.{refused-placing}
-use Rattle.flags.specs.Owners.{combinedOwner}
-use Rattle.flags.proofs.Choosing.{answered-owner, refused-owner}
-use Rattle.removal.specs.Removing.{removedBeside}
-use Rattle.removal.proofs.Merging.{beside-disputed, beside-owned}
+use Rattle.records_spec.specs.Flags.{Flags, ownerOf, flagsOf}
+use Rattle.records_spec.specs.Answers.{Answer, placing}
+use Rattle.records_spec.proofs.Proper.{IsProper, proper-inv, proper-table}
+use Rattle.records_spec.proofs.Answers.{refused-placing}
+use Rattle.flags_spec.specs.Owners.{combinedOwner}
+use Rattle.flags_spec.proofs.Choosing.{answered-owner, refused-owner}
+use Rattle.removal_spec.specs.Removing.{removedBeside}
+use Rattle.removal_spec.proofs.Merging.{beside-disputed, beside-owned}
 use Rattle.removal.proofs.removing.combine_same_base_epoch.Statement.{statement}
 use Rattle.removal.proofs.removing.combine_same_base_epoch.Tie as tie
 

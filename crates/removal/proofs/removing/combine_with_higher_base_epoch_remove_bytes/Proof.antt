@@ -7,19 +7,19 @@ use native.Mathlib.Omega.{arith}
 use lib.ListN.{length}
 use lib.Seq.{length-take-le}
 use borrow.Author.Needs.{needs}
-use Rattle.records.specs.Flags.{Flags, ownerIf, ownerOf, flagsOf}
-use Rattle.records.specs.Answers.{Answer, placing}
-use Rattle.records.specs.declared.head.MaybeOwner.{MaybeOwner}
-use Rattle.records.proofs.Owners.{owner-bytes}
-use Rattle.records.proofs.Proper.{IsProper, proper-inv, proper-table, proper-long}
-use Rattle.records.proofs.Answers.{refused-placing}
-use Rattle.flags.specs.Owners.{combinedOwner}
-use Rattle.flags.specs.Merging.{joined}
-use Rattle.flags.proofs.Choosing.{answered-owner, refused-owner}
-use Rattle.rows.specs.Rows.{tables}
-use Rattle.rows.specs.Removals.{Removal, removalOf}
-use Rattle.removal.specs.Removing.{taken, removedAbove}
-use Rattle.removal.proofs.Merging.{above-single, above-disputed, above-owned}
+use Rattle.records_spec.specs.Flags.{Flags, ownerIf, ownerOf, flagsOf}
+use Rattle.records_spec.specs.Answers.{Answer, placing}
+use Rattle.records_spec.specs.declared.head.MaybeOwner.{MaybeOwner}
+use Rattle.records_spec.proofs.Owners.{owner-bytes}
+use Rattle.records_spec.proofs.Proper.{IsProper, proper-inv, proper-table, proper-long}
+use Rattle.records_spec.proofs.Answers.{refused-placing}
+use Rattle.flags_spec.specs.Owners.{combinedOwner}
+use Rattle.flags_spec.specs.Merging.{joined}
+use Rattle.flags_spec.proofs.Choosing.{answered-owner, refused-owner}
+use Rattle.rows_spec.specs.Rows.{tables}
+use Rattle.rows_spec.specs.Removals.{Removal, removalOf}
+use Rattle.removal_spec.specs.Removing.{taken, removedAbove}
+use Rattle.removal_spec.proofs.Merging.{above-single, above-disputed, above-owned}
 use Rattle.removal.proofs.removing.combine_with_higher_base_epoch_remove_bytes.Statement.{statement}
 use Rattle.removal.proofs.removing.combine_with_higher_base_epoch_remove_bytes.Tie as tie
 

@@ -2,8 +2,8 @@
 -- Assumes nothing.
 use mathlib.Core.Path.{sym, _∙_}
 use borrow.Author.Needs.{needs}
-use Rattle.records.proofs.Answers.{refused-left}
-use Rattle.removal.proofs.Merging.{optional-present, optional-absent, optional-bad}
+use Rattle.records_spec.proofs.Answers.{refused-left}
+use Rattle.removal_spec.proofs.Merging.{optional-present, optional-absent, optional-bad}
 use Rattle.removal.proofs.removing.optional_combine_removed_bytes.Statement.{statement}
 use Rattle.removal.proofs.removing.optional_combine_removed_bytes.Tie as tie
 

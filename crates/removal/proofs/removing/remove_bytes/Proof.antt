@@ -1,14 +1,14 @@
 -- `removal::removing::remove_bytes` meets its contract: of a removal only rows are read. Assumes nothing.
 use mathlib.Core.Path.{sym, ap, _∙_}
 use borrow.Author.Needs.{needs}
-use Rattle.records.specs.Tables.{recordsOf, union}
-use Rattle.records.specs.Flags.{Flags, flags, ownerIf}
-use Rattle.records.specs.Answers.{After, placing}
-use Rattle.rows.specs.Rows.{Tables, tables}
-use Rattle.rows.specs.Removals.{removalOf}
-use Rattle.rows.specs.declared.removed.Removed.{Removed}
-use Rattle.rows.proofs.Removals.{proper-sectioned}
-use Rattle.removal.specs.Removing.{taken}
+use Rattle.records_spec.specs.Tables.{recordsOf, union}
+use Rattle.records_spec.specs.Flags.{Flags, flags, ownerIf}
+use Rattle.records_spec.specs.Answers.{After, placing}
+use Rattle.rows_spec.specs.Rows.{Tables, tables}
+use Rattle.rows_spec.specs.Removals.{removalOf}
+use Rattle.rows_spec.specs.declared.removed.Removed.{Removed}
+use Rattle.rows_spec.proofs.Removals.{proper-sectioned}
+use Rattle.removal_spec.specs.Removing.{taken}
 use Rattle.removal.proofs.removing.remove_bytes.Statement.{statement}
 use Rattle.removal.proofs.removing.remove_bytes.Tie as tie
 

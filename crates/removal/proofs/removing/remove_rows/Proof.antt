@@ -6,16 +6,16 @@ use mathlib.Core.List.{List}
 use lib.ListN.{take}
 use lib.Seq.{length-take-le}
 use borrow.Author.Needs.{needs}
-use Rattle.records.specs.Tables.{recordsOf, union}
-use Rattle.records.specs.Flags.{Flags, flags, ownerIf}
-use Rattle.records.specs.Answers.{Answer, placing}
-use Rattle.records.proofs.Answers.{refused-placing}
-use Rattle.rows.specs.Rows.{Row, Tables, tables, rowsIn}
-use Rattle.rows.specs.Removals.{sectioned}
-use Rattle.rows.proofs.Parts.{parts-in}
-use Rattle.removal.specs.Removing.{onlyUnder, taken}
-use Rattle.removal.proofs.Under.{under-table}
-use Rattle.removal.proofs.Merging.{taken-others, taken-under}
+use Rattle.records_spec.specs.Tables.{recordsOf, union}
+use Rattle.records_spec.specs.Flags.{Flags, flags, ownerIf}
+use Rattle.records_spec.specs.Answers.{Answer, placing}
+use Rattle.records_spec.proofs.Answers.{refused-placing}
+use Rattle.rows_spec.specs.Rows.{Row, Tables, tables, rowsIn}
+use Rattle.rows_spec.specs.Removals.{sectioned}
+use Rattle.rows_spec.proofs.Parts.{parts-in}
+use Rattle.removal_spec.specs.Removing.{onlyUnder, taken}
+use Rattle.removal_spec.proofs.Under.{under-table}
+use Rattle.removal_spec.proofs.Merging.{taken-others, taken-under}
 use Rattle.removal.proofs.removing.remove_rows.Statement.{statement}
 use Rattle.removal.proofs.removing.remove_rows.Tie as tie
 

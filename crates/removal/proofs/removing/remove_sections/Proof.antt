@@ -2,13 +2,13 @@
 use mathlib.Core.Path.{sym, ap, _∙_}
 use mathlib.Core.List.{List}
 use borrow.Author.Needs.{needs}
-use Rattle.records.specs.Tables.{At, recordsOf, union}
-use Rattle.records.specs.Flags.{Flags, flags, ownerIf}
-use Rattle.records.specs.Answers.{Answer, placing}
-use Rattle.records.proofs.Answers.{refused-placing}
-use Rattle.removal.specs.Removing.{lessSections}
-use Rattle.removal.specs.Findings.{faulted}
-use Rattle.removal.proofs.Merging.{less-fault, less-fine}
+use Rattle.records_spec.specs.Tables.{At, recordsOf, union}
+use Rattle.records_spec.specs.Flags.{Flags, flags, ownerIf}
+use Rattle.records_spec.specs.Answers.{Answer, placing}
+use Rattle.records_spec.proofs.Answers.{refused-placing}
+use Rattle.removal_spec.specs.Removing.{lessSections}
+use Rattle.removal_spec.specs.Findings.{faulted}
+use Rattle.removal_spec.proofs.Merging.{less-fault, less-fine}
 use Rattle.removal.proofs.removing.remove_sections.Statement.{statement}
 use Rattle.removal.proofs.removing.remove_sections.Tie as tie
 

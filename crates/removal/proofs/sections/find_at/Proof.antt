@@ -1,6 +1,6 @@
 -- `removal::sections::find_at` meets its contract: a record stands where fewer are below the epoch than at most there. Assumes nothing.
 use borrow.Author.Needs.{needs}
-use Rattle.removal.proofs.Finding.{spot-found}
+use Rattle.removal_spec.proofs.Finding.{spot-found}
 use Rattle.removal.proofs.sections.find_at.Statement.{statement}
 use Rattle.removal.proofs.sections.find_at.Tie as tie
 

@@ -1,8 +1,8 @@
 -- `removal::sections::find_in_union` meets its contract: theirs stands, or ours is looked for. Assumes nothing.
 use mathlib.Core.List.{List}
 use borrow.Author.Needs.{needs}
-use Rattle.records.specs.Tables.{At, recordsOf}
-use Rattle.removal.proofs.Finding.{found-theirs, found-ours}
+use Rattle.records_spec.specs.Tables.{At, recordsOf}
+use Rattle.removal_spec.proofs.Finding.{found-theirs, found-ours}
 use Rattle.removal.proofs.sections.find_in_union.Statement.{statement}
 use Rattle.removal.proofs.sections.find_in_union.Tie as tie
 

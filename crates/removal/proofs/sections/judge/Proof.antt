@@ -5,12 +5,12 @@ use Prim.Native.Nat.{ℕ, _+_, _-_, _≤_}
 use native.Mathlib.Omega.{arith}
 use borrow.Author.Needs.{needs}
 use lib.ListN.{length, drop, getD, drop-of-length-le}
-use Rattle.records.specs.Tables.{At, _⦂_, recordsOf, union}
-use Rattle.records.proofs.Tables.{length-recordsOf}
-use Rattle.records.proofs.Unions.{record-on}
-use Rattle.removal.specs.Removing.{fault}
-use Rattle.removal.specs.Findings.{faulted}
-use Rattle.removal.proofs.Faults.{fault-none, fault-on, fault-at}
+use Rattle.records_spec.specs.Tables.{At, _⦂_, recordsOf, union}
+use Rattle.records_spec.proofs.Tables.{length-recordsOf}
+use Rattle.records_spec.proofs.Unions.{record-on}
+use Rattle.removal_spec.specs.Removing.{fault}
+use Rattle.removal_spec.specs.Findings.{faulted}
+use Rattle.removal_spec.proofs.Faults.{fault-none, fault-on, fault-at}
 use Rattle.removal.proofs.sections.judge.Statement.{statement}
 use Rattle.removal.proofs.sections.judge.Tie as tie
 

@@ -5,9 +5,9 @@ use mathlib.Core.List.{List}
 use Prim.Native.Nat.{_≤_, _<_}
 use native.Mathlib.Omega.{arith}
 use borrow.Author.Needs.{needs}
-use Rattle.records.specs.Tables.{At, recordsOf, held, union}
-use Rattle.removal.proofs.Finding.{found-has, found-held}
-use Rattle.removal.proofs.Faults.{fault-base, fault-lacks, fault-over, fault-within}
+use Rattle.records_spec.specs.Tables.{At, recordsOf, held, union}
+use Rattle.removal_spec.proofs.Finding.{found-has, found-held}
+use Rattle.removal_spec.proofs.Faults.{fault-base, fault-lacks, fault-over, fault-within}
 use Rattle.removal.proofs.sections.judge_section.Statement.{statement}
 use Rattle.removal.proofs.sections.judge_section.Tie as tie
 

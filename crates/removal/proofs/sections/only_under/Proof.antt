@@ -4,9 +4,9 @@ use Prim.Native.Nat.{_-_, _≤_}
 use native.Mathlib.Omega.{arith}
 use borrow.Author.Needs.{needs}
 use lib.ListN.{drop}
-use Rattle.rows.specs.Rows.{tables, rowsIn}
-use Rattle.removal.specs.Removing.{allUnder, onlyUnder}
-use Rattle.removal.proofs.Under.{all-same, all-other, all-end, only-none, only-some}
+use Rattle.rows_spec.specs.Rows.{tables, rowsIn}
+use Rattle.removal_spec.specs.Removing.{allUnder, onlyUnder}
+use Rattle.removal_spec.proofs.Under.{all-same, all-other, all-end, only-none, only-some}
 use Rattle.removal.proofs.sections.only_under.Statement.{statement}
 use Rattle.removal.proofs.sections.only_under.Tie as tie
 

@@ -5,10 +5,10 @@ use mathlib.Core.List.{List}
 use Prim.Native.Nat.{ℕ, _-_, _≤_}
 use native.Mathlib.Omega.{arith}
 use borrow.Author.Needs.{needs}
-use Rattle.records.specs.Tables.{At, recordsOf, held}
-use Rattle.splitting.specs.Sections.{minimum}
-use Rattle.removal.proofs.Finding.{found-has, found-held}
-use Rattle.removal.proofs.Lessening.{lessened-whole, lessened-gone, lessened-left}
+use Rattle.records_spec.specs.Tables.{At, recordsOf, held}
+use Rattle.splitting_spec.specs.Sections.{minimum}
+use Rattle.removal_spec.proofs.Finding.{found-has, found-held}
+use Rattle.removal_spec.proofs.Lessening.{lessened-whole, lessened-gone, lessened-left}
 use Rattle.removal.proofs.sections.remove_from.Statement.{statement}
 use Rattle.removal.proofs.sections.remove_from.Tie as tie
 

@@ -3,10 +3,10 @@ use mathlib.Core.Path.{sym, _∙_}
 use native.Mathlib.Omega.{arith}
 use lib.Dec.{eqb}
 use borrow.Author.Needs.{needs}
-use Rattle.repair.specs.declared.change.Change.the-variants.{KindChanged}
-use Rattle.repair.proofs.Told.{head-three}
-use Rattle.repair.proofs.Columns.{line-if-short}
-use Rattle.repair.proofs.AllLines.{multi-listed, single-listed}
+use Rattle.repair_spec.specs.declared.change.Change.the-variants.{KindChanged}
+use Rattle.repair_spec.proofs.Told.{head-three}
+use Rattle.repair_spec.proofs.Columns.{line-if-short}
+use Rattle.repair_spec.proofs.AllLines.{multi-listed, single-listed}
 use Rattle.repair.proofs.listing.list_changes.Statement.{statement}
 use Rattle.repair.proofs.listing.list_changes.Tie as tie
 

@@ -4,8 +4,8 @@ use native.Mathlib.Omega.{arith}
 use lib.Dec.{eqb}
 use borrow.Author.Tests.{eq-eqb, ne-eqb}
 use borrow.Author.Needs.{needs}
-use Rattle.repair.specs.Steps.{oldOf}
-use Rattle.repair.proofs.Fitting.{dropped-low, dropped-fits}
+use Rattle.repair_spec.specs.Steps.{oldOf}
+use Rattle.repair_spec.proofs.Fitting.{dropped-low, dropped-fits}
 use Rattle.repair.proofs.listing.list_fitting.Statement.{statement}
 use Rattle.repair.proofs.listing.list_fitting.Tie as tie
 

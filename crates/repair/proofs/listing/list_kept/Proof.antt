@@ -4,11 +4,11 @@ use native.Mathlib.Omega.{arith}
 use mathlib.Core.Bool.{Bool}
 use lib.Dec.{ltb}
 use borrow.Author.Needs.{needs}
-use Rattle.fields.proofs.Varints.{length-five}
-use Rattle.repair.specs.Steps.{oldOf}
-use Rattle.repair.specs.declared.change.Change.the-variants.{ReEncoded}
-use Rattle.repair.proofs.Columns.{line-if-short}
-use Rattle.repair.proofs.KeptLines.{kept-listed}
+use Rattle.fields_spec.proofs.Varints.{length-five}
+use Rattle.repair_spec.specs.Steps.{oldOf}
+use Rattle.repair_spec.specs.declared.change.Change.the-variants.{ReEncoded}
+use Rattle.repair_spec.proofs.Columns.{line-if-short}
+use Rattle.repair_spec.proofs.KeptLines.{kept-listed}
 use Rattle.repair.proofs.listing.list_kept.Statement.{statement}
 use Rattle.repair.proofs.listing.list_kept.Tie as tie
 

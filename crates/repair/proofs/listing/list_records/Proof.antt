@@ -8,13 +8,13 @@ use native.Mathlib.Omega.{arith}
 use lib.Dec.{ltb, eqb}
 use lib.ListN.{length, getD, drop}
 use borrow.Author.Needs.{needs}
-use Rattle.repair.specs.Olds.{oldAt}
-use Rattle.repair.specs.Changes.{dropped, recordLines}
-use Rattle.repair.specs.Steps.{oldOf, linesFrom}
-use Rattle.repair.proofs.Getting.{is-cut, Large, is-large, large-turn, Fitting, is-fitting, fitting-turn}
-use Rattle.repair.proofs.Columns.{Going, going-start, going-more, going-last, going-done}
-use Rattle.repair.proofs.KeptLines.{record-few}
-use Rattle.repair.proofs.Lines.{lines-end, lines-cut, lines-large, lines-fitting}
+use Rattle.repair_spec.specs.Olds.{oldAt}
+use Rattle.repair_spec.specs.Changes.{dropped, recordLines}
+use Rattle.repair_spec.specs.Steps.{oldOf, linesFrom}
+use Rattle.repair_spec.proofs.Getting.{is-cut, Large, is-large, large-turn, Fitting, is-fitting, fitting-turn}
+use Rattle.repair_spec.proofs.Columns.{Going, going-start, going-more, going-last, going-done}
+use Rattle.repair_spec.proofs.KeptLines.{record-few}
+use Rattle.repair_spec.proofs.Lines.{lines-end, lines-cut, lines-large, lines-fitting}
 use Rattle.repair.proofs.listing.list_records.Statement.{statement}
 use Rattle.repair.proofs.listing.list_records.Tie as tie
 

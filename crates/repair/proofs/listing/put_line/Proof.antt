@@ -1,6 +1,6 @@
 -- `repair::listing::put_line` meets its contract: both columns have the line at its place. Assumes nothing.
 use borrow.Author.Needs.{needs}
-use Rattle.repair.proofs.Columns.{listed-one}
+use Rattle.repair_spec.proofs.Columns.{listed-one}
 use Rattle.repair.proofs.listing.put_line.Statement.{statement}
 use Rattle.repair.proofs.listing.put_line.Tie as tie
 

@@ -1,6 +1,6 @@
 -- `repair::listing::put_line_if` meets its contract: a line, or none. Assumes nothing.
 use borrow.Author.Needs.{needs}
-use Rattle.repair.proofs.Columns.{listed-none}
+use Rattle.repair_spec.proofs.Columns.{listed-none}
 use Rattle.repair.proofs.listing.put_line_if.Statement.{statement}
 use Rattle.repair.proofs.listing.put_line_if.Tie as tie
 

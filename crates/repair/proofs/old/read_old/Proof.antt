@@ -4,11 +4,11 @@ use Prim.Native.Nat.{_+_}
 use native.Mathlib.Omega.{arith}
 use lib.ListN.{drop, length-drop}
 use borrow.Author.Needs.{needs}
-use Rattle.fields.specs.Varint.{found}
-use Rattle.fields.proofs.Told.{told-incomplete, told-strange, told-ends, told-read}
-use Rattle.repair.specs.Steps.{gotOf}
-use Rattle.repair.proofs.Reading.{old-short}
-use Rattle.repair.proofs.Getting.{at-incomplete, at-whole}
+use Rattle.fields_spec.specs.Varint.{found}
+use Rattle.fields_spec.proofs.Told.{told-incomplete, told-strange, told-ends, told-read}
+use Rattle.repair_spec.specs.Steps.{gotOf}
+use Rattle.repair_spec.proofs.Reading.{old-short}
+use Rattle.repair_spec.proofs.Getting.{at-incomplete, at-whole}
 use Rattle.repair.proofs.old.read_old.Statement.{statement}
 use Rattle.repair.proofs.old.read_old.Tie as tie
 

@@ -3,7 +3,7 @@ use Prim.Native.Nat.{_+_}
 use native.Mathlib.Omega.{arith}
 use lib.ListN.{length-drop}
 use borrow.Author.Needs.{needs}
-use Rattle.repair.proofs.Getting.{other-inside, padded-fits, padded-large}
+use Rattle.repair_spec.proofs.Getting.{other-inside, padded-fits, padded-large}
 use Rattle.repair.proofs.old.read_padded.Statement.{statement}
 use Rattle.repair.proofs.old.read_padded.Tie as tie
 

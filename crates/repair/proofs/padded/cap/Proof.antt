@@ -1,7 +1,7 @@
 -- `repair::padded::cap` meets its contract: a number that fits is kept, and another is the first too large. Assumes nothing.
 use mathlib.Core.Path.{sym}
 use native.Mathlib.Omega.{arith}
-use Rattle.repair.proofs.Padding.{capped-fits, capped-large}
+use Rattle.repair_spec.proofs.Padding.{capped-fits, capped-large}
 use Rattle.repair.proofs.padded.cap.Statement.{statement}
 use Rattle.repair.proofs.padded.cap.Tie as tie
 

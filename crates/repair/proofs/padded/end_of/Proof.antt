@@ -4,8 +4,8 @@ use Prim.Native.Nat.{_+_, _-_, _<_}
 use native.Mathlib.Omega.{arith}
 use lib.ListN.{length, drop, length-drop}
 use borrow.Author.Needs.{needs}
-use Rattle.fields.specs.Varint.{high}
-use Rattle.repair.proofs.Padding.{high-ends, high-goes, high-out}
+use Rattle.fields_spec.specs.Varint.{high}
+use Rattle.repair_spec.proofs.Padding.{high-ends, high-goes, high-out}
 use Rattle.repair.proofs.padded.end_of.Statement.{statement}
 use Rattle.repair.proofs.padded.end_of.Tie as tie
 

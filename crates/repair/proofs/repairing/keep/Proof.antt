@@ -4,9 +4,9 @@ use Prim.Native.Nat.{_-_}
 use native.Mathlib.Omega.{arith}
 use lib.ListN.{length, drop, drop-of-length-le}
 use borrow.Author.Needs.{needs}
-use Rattle.records.proofs.Rising.{drop-next}
-use Rattle.fields.proofs.Parts.{Parts, parts-start, parts-byte, parts-done}
-use Rattle.repair.proofs.Calling.{kept-long, kept-whole}
+use Rattle.records_spec.proofs.Rising.{drop-next}
+use Rattle.fields_spec.proofs.Parts.{Parts, parts-start, parts-byte, parts-done}
+use Rattle.repair_spec.proofs.Calling.{kept-long, kept-whole}
 use Rattle.repair.proofs.repairing.keep.Statement.{statement}
 use Rattle.repair.proofs.repairing.keep.Tie as tie
 

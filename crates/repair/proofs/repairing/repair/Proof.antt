@@ -1,12 +1,12 @@
 -- `repair::repairing::repair` meets its contract: what reading finds leads on. Assumes nothing.
 use mathlib.Core.Path.{_≡_, sym, ap, _∙_}
 use borrow.Author.Needs.{needs}
-use Rattle.fields.proofs.RoundTrip.{Bytes}
-use Rattle.codec.specs.Reading.{read}
-use Rattle.codec.specs.declared.judging.Judgement.{Judgement}
-use Rattle.codec.specs.declared.judging.Verdict.{Verdict}
-use Rattle.codec.proofs.Settling.{judged-absent, judged-present, judged-refused}
-use Rattle.repair.proofs.Calling.{refused-some, call-nothing, call-canonical}
+use Rattle.fields_spec.proofs.RoundTrip.{Bytes}
+use Rattle.codec_spec.specs.Reading.{read}
+use Rattle.codec_spec.specs.declared.judging.Judgement.{Judgement}
+use Rattle.codec_spec.specs.declared.judging.Verdict.{Verdict}
+use Rattle.codec_spec.proofs.Settling.{judged-absent, judged-present, judged-refused}
+use Rattle.repair_spec.proofs.Calling.{refused-some, call-nothing, call-canonical}
 use Rattle.repair.proofs.repairing.repair.Statement.{statement}
 use Rattle.repair.proofs.repairing.repair.Tie as tie
 

@@ -2,7 +2,7 @@
 use mathlib.Core.Path.{sym, _∙_}
 use native.Mathlib.Omega.{arith}
 use borrow.Author.Needs.{needs}
-use Rattle.repair.proofs.Calling.{call-short}
+use Rattle.repair_spec.proofs.Calling.{call-short}
 use Rattle.repair.proofs.repairing.repair_as.Statement.{statement}
 use Rattle.repair.proofs.repairing.repair_as.Tie as tie
 

@@ -1,7 +1,7 @@
 -- `repair::repairing::repair_faulty` meets its contract: byte 0 names the kind by which the bytes are repaired. Assumes nothing.
 use mathlib.Core.Path.{sym, _∙_}
 use borrow.Author.Needs.{needs}
-use Rattle.repair.proofs.Calling.{call-known, call-unknown}
+use Rattle.repair_spec.proofs.Calling.{call-known, call-unknown}
 use Rattle.repair.proofs.repairing.repair_faulty.Statement.{statement}
 use Rattle.repair.proofs.repairing.repair_faulty.Tie as tie
 

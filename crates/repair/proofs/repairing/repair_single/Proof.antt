@@ -1,8 +1,8 @@
 -- `repair::repairing::repair_single` meets its contract: nothing is left, so any tables will do. Assumes nothing.
 use mathlib.Core.Path.{ap}
 use borrow.Author.Needs.{needs}
-use Rattle.records.specs.declared.head.Head.{Head}
-use Rattle.repair.proofs.Readying.{single-agrees, single-standing, single-ready}
+use Rattle.records_spec.specs.declared.head.Head.{Head}
+use Rattle.repair_spec.proofs.Readying.{single-agrees, single-standing, single-ready}
 use Rattle.repair.proofs.repairing.repair_single.Statement.{statement}
 use Rattle.repair.proofs.repairing.repair_single.Tie as tie
 

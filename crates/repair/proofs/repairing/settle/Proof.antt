@@ -2,7 +2,7 @@
 use mathlib.Core.Path.{sym, _∙_}
 use native.Mathlib.Omega.{arith}
 use borrow.Author.Needs.{needs}
-use Rattle.repair.proofs.Finishing.{left-crowded, left-refused, left-done}
+use Rattle.repair_spec.proofs.Finishing.{left-crowded, left-refused, left-done}
 use Rattle.repair.proofs.repairing.settle.Statement.{statement}
 use Rattle.repair.proofs.repairing.settle.Tie as tie
 

@@ -1,6 +1,6 @@
 -- `rows::order::compare_epochs` meets its contract, by its two tests. Assumes nothing.
 use mathlib.Core.Path.{sym}
-use Rattle.rows.proofs.Comparing.{by-less, by-greater, by-next}
+use Rattle.rows_spec.proofs.Comparing.{by-less, by-greater, by-next}
 use Rattle.rows.proofs.order.compare_epochs.Statement.{statement}
 use Rattle.rows.proofs.order.compare_epochs.Tie as tie
 

@@ -4,8 +4,8 @@ use Prim.Native.Nat.{_+_, _-_, _≤_, _<_}
 use native.Mathlib.Omega.{arith}
 use borrow.Author.Needs.{needs}
 use lib.ListN.{length, drop, getD}
-use Rattle.rows.specs.Order.{by, order}
-use Rattle.rows.proofs.Comparing.{by-less, by-greater, by-next, order-on, order-longer, order-shorter, order-ended}
+use Rattle.rows_spec.specs.Order.{by, order}
+use Rattle.rows_spec.proofs.Comparing.{by-less, by-greater, by-next, order-on, order-longer, order-shorter, order-ended}
 use Rattle.rows.proofs.order.compare_ids.Statement.{statement}
 use Rattle.rows.proofs.order.compare_ids.Tie as tie
 

@@ -1,8 +1,8 @@
 -- `rows::order::compare_rows` meets its contract: identifiers have one length, so they decide before the epochs. Assumes nothing.
 use mathlib.Core.Path.{sym, _∙_}
 use borrow.Author.Needs.{needs}
-use Rattle.rows.specs.declared.order.Order.the-variants.{Less, Equal, Greater}
-use Rattle.rows.proofs.Comparing.{compared-parts}
+use Rattle.rows_spec.specs.declared.order.Order.the-variants.{Less, Equal, Greater}
+use Rattle.rows_spec.proofs.Comparing.{compared-parts}
 use Rattle.rows.proofs.order.compare_rows.Statement.{statement}
 use Rattle.rows.proofs.order.compare_rows.Tie as tie
 

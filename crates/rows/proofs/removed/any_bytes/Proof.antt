@@ -4,9 +4,9 @@ use Prim.Native.Nat.{_-_, _≤_}
 use native.Mathlib.Omega.{arith}
 use borrow.Author.Needs.{needs}
 use lib.ListN.{drop}
-use Rattle.rows.specs.Rows.{tables, rowsIn}
-use Rattle.rows.specs.Removals.{anyBytes}
-use Rattle.rows.proofs.Removals.{any-here, any-next, any-end}
+use Rattle.rows_spec.specs.Rows.{tables, rowsIn}
+use Rattle.rows_spec.specs.Removals.{anyBytes}
+use Rattle.rows_spec.proofs.Removals.{any-here, any-next, any-end}
 use Rattle.rows.proofs.removed.any_bytes.Statement.{statement}
 use Rattle.rows.proofs.removed.any_bytes.Tie as tie
 

@@ -2,11 +2,11 @@
 use mathlib.Core.Path.{sym, ap, _∙_}
 use mathlib.Core.Bool.{Bool}
 use borrow.Author.Needs.{needs}
-use Rattle.records.specs.Answers.{Answer, ok}
-use Rattle.rows.specs.Rows.{Tables, tables}
-use Rattle.rows.specs.Removals.{Removal, has}
-use Rattle.rows.specs.declared.removed.Removed.the-variants.{None, Basic, Sectioned}
-use Rattle.rows.proofs.Removals.{proper-sectioned, answered-bad, answered-proper}
+use Rattle.records_spec.specs.Answers.{Answer, ok}
+use Rattle.rows_spec.specs.Rows.{Tables, tables}
+use Rattle.rows_spec.specs.Removals.{Removal, has}
+use Rattle.rows_spec.specs.declared.removed.Removed.the-variants.{None, Basic, Sectioned}
+use Rattle.rows_spec.proofs.Removals.{proper-sectioned, answered-bad, answered-proper}
 use Rattle.rows.proofs.removed.has_removal.Statement.{statement}
 use Rattle.rows.proofs.removed.has_removal.Tie as tie
 

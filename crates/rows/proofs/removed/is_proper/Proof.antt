@@ -1,9 +1,9 @@
 -- `rows::removed::is_proper` meets its contract, by the state's cases. Assumes nothing.
 use mathlib.Core.Path.{sym, ap, _∙_}
 use borrow.Author.Needs.{needs}
-use Rattle.rows.specs.Rows.{tables}
-use Rattle.rows.specs.Removals.{proper}
-use Rattle.rows.specs.declared.removed.Removed.{Removed}
+use Rattle.rows_spec.specs.Rows.{tables}
+use Rattle.rows_spec.specs.Removals.{proper}
+use Rattle.rows_spec.specs.declared.removed.Removed.{Removed}
 use Rattle.rows.proofs.removed.is_proper.Statement.{statement}
 use Rattle.rows.proofs.removed.is_proper.Tie as tie
 

@@ -3,12 +3,12 @@ use mathlib.Core.Path.{sym, _∙_}
 use Prim.Native.Nat.{ℕ}
 use native.Mathlib.Omega.{arith}
 use borrow.Author.Needs.{needs}
-use Rattle.records.specs.Answers.{Answer}
-use Rattle.rows.specs.Rows.{Tables, tables}
-use Rattle.rows.specs.Removals.{Removal, total}
-use Rattle.rows.specs.Calls.{within}
-use Rattle.rows.specs.declared.removed.Removed.the-variants.{None, Basic, Sectioned}
-use Rattle.rows.proofs.Removals.{proper-sectioned, within-fits, answered-bad, answered-proper}
+use Rattle.records_spec.specs.Answers.{Answer}
+use Rattle.rows_spec.specs.Rows.{Tables, tables}
+use Rattle.rows_spec.specs.Removals.{Removal, total}
+use Rattle.rows_spec.specs.Calls.{within}
+use Rattle.rows_spec.specs.declared.removed.Removed.the-variants.{None, Basic, Sectioned}
+use Rattle.rows_spec.proofs.Removals.{proper-sectioned, within-fits, answered-bad, answered-proper}
 use Rattle.rows.proofs.removed.total_removed_bytes.Statement.{statement}
 use Rattle.rows.proofs.removed.total_removed_bytes.Tie as tie
 

@@ -4,11 +4,11 @@ use Prim.Native.Nat.{ℕ, _+_, _-_, _≤_}
 use native.Mathlib.Omega.{arith}
 use borrow.Author.Needs.{needs}
 use lib.ListN.{drop}
-use Rattle.fields.specs.Varint.{largest}
-use Rattle.records.specs.Answers.{ok}
-use Rattle.rows.specs.Rows.{tables, rowsIn}
-use Rattle.rows.specs.Removals.{totalRows}
-use Rattle.rows.proofs.Removals.{total-on, total-end, within-over, within-fits}
+use Rattle.fields_spec.specs.Varint.{largest}
+use Rattle.records_spec.specs.Answers.{ok}
+use Rattle.rows_spec.specs.Rows.{tables, rowsIn}
+use Rattle.rows_spec.specs.Removals.{totalRows}
+use Rattle.rows_spec.proofs.Removals.{total-on, total-end, within-over, within-fits}
 use Rattle.rows.proofs.removed.total_rows.Statement.{statement}
 use Rattle.rows.proofs.removed.total_rows.Tie as tie
 

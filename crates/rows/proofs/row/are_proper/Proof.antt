@@ -4,8 +4,8 @@ use Prim.Native.Nat.{_-_, _≤_}
 use native.Mathlib.Omega.{arith}
 use borrow.Author.Needs.{needs}
 use lib.ListN.{drop}
-use Rattle.rows.specs.Rows.{Tables, tables, rowsIn, ascends, properRows, Room}
-use Rattle.rows.proofs.Rows.{room-in, asc-less, asc-equal, asc-greater, asc-last, proper-room, proper-short}
+use Rattle.rows_spec.specs.Rows.{Tables, tables, rowsIn, ascends, properRows, Room}
+use Rattle.rows_spec.proofs.Rows.{room-in, asc-less, asc-equal, asc-greater, asc-last, proper-room, proper-short}
 use Rattle.rows.proofs.row.are_proper.Statement.{statement}
 use Rattle.rows.proofs.row.are_proper.Tie as tie
 

@@ -1,7 +1,7 @@
 -- `rows::row::fit` meets its contract, by the length of each table. Assumes nothing.
 use mathlib.Core.Path.{sym}
-use Rattle.rows.specs.Rows.{tables}
-use Rattle.rows.proofs.Rows.{short-ids, short-epochs, by-bytes}
+use Rattle.rows_spec.specs.Rows.{tables}
+use Rattle.rows_spec.proofs.Rows.{short-ids, short-epochs, by-bytes}
 use Rattle.rows.proofs.row.fit.Statement.{statement}
 use Rattle.rows.proofs.row.fit.Tie as tie
 

@@ -2,7 +2,7 @@
 use Prim.Native.Nat.{_<_}
 use native.Mathlib.Omega.{arith}
 use borrow.Author.Needs.{needs}
-use Rattle.splitting.proofs.Visiting.{Visiting, visiting-start, visiting-step, visiting-none, visiting-end}
+use Rattle.splitting_spec.proofs.Visiting.{Visiting, visiting-start, visiting-step, visiting-none, visiting-end}
 use Rattle.splitting.proofs.giving.visit.Statement.{statement}
 use Rattle.splitting.proofs.giving.visit.Tie as tie
 

@@ -1,7 +1,7 @@
 -- `splitting::split::is_allowed` meets its contract, by whether there are records. Assumes nothing.
 use mathlib.Core.Path.{sym, _∙_}
 use native.Mathlib.Omega.{arith}
-use Rattle.splitting.proofs.Counting.{allowed-none, allowed-some}
+use Rattle.splitting_spec.proofs.Counting.{allowed-none, allowed-some}
 use Rattle.splitting.proofs.split.is_allowed.Statement.{statement}
 use Rattle.splitting.proofs.split.is_allowed.Tie as tie
 

@@ -1,7 +1,7 @@
 -- `splitting::split::rows_at_base` meets its contract, by whether there are bytes. Assumes nothing.
 use mathlib.Core.Path.{sym}
 use native.Mathlib.Omega.{arith}
-use Rattle.splitting.proofs.Counting.{base-none, base-some}
+use Rattle.splitting_spec.proofs.Counting.{base-none, base-some}
 use Rattle.splitting.proofs.split.rows_at_base.Statement.{statement}
 use Rattle.splitting.proofs.split.rows_at_base.Tie as tie
 

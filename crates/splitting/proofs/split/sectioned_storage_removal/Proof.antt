@@ -5,10 +5,10 @@ use Prim.Native.Nat.{_-_, min}
 use native.Mathlib.Omega.{arith}
 use borrow.Author.Needs.{needs}
 use lib.ListN.{getD}
-use Rattle.rows.specs.Rows.{tables}
-use Rattle.rows.proofs.Backing.{backing-long}
-use Rattle.splitting.specs.Sections.{minimum}
-use Rattle.splitting.proofs.Placing.{nothing-placed, Placing, placing-start, placing-room, placing-step, placing-none, base-room, base-placed}
+use Rattle.rows_spec.specs.Rows.{tables}
+use Rattle.rows_spec.proofs.Backing.{backing-long}
+use Rattle.splitting_spec.specs.Sections.{minimum}
+use Rattle.splitting_spec.proofs.Placing.{nothing-placed, Placing, placing-start, placing-room, placing-step, placing-none, base-room, base-placed}
 use Rattle.splitting.proofs.split.sectioned_storage_removal.Statement.{statement}
 use Rattle.splitting.proofs.split.sectioned_storage_removal.Tie as tie
 

@@ -1,7 +1,7 @@
 -- `splitting::split::single_storage_removal` meets its contract: no bytes change nothing, others make one row. Assumes nothing.
 use native.Mathlib.Omega.{arith}
 use borrow.Author.Needs.{needs}
-use Rattle.splitting.proofs.Placing.{nothing-placed, single-placed, base-row}
+use Rattle.splitting_spec.proofs.Placing.{nothing-placed, single-placed, base-row}
 use Rattle.splitting.proofs.split.single_storage_removal.Statement.{statement}
 use Rattle.splitting.proofs.split.single_storage_removal.Tie as tie
 

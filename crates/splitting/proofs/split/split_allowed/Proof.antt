@@ -5,13 +5,13 @@ use Prim.Native.Nat.{_+_}
 use native.Mathlib.Omega.{arith}
 use borrow.Author.Needs.{needs}
 use lib.ListN.{length}
-use Rattle.records.specs.Tables.{At, recordsOf}
-use Rattle.records.proofs.Tables.{length-recordsOf}
-use Rattle.rows.specs.Rows.{Tables, tables}
-use Rattle.splitting.specs.Sections.{split}
-use Rattle.splitting.specs.declared.giving.Visited.{Visited}
-use Rattle.splitting.proofs.Counting.{sections-short, base-short}
-use Rattle.splitting.proofs.Calls.{rows-told, fits, key-short, value-short, both-placed}
+use Rattle.records_spec.specs.Tables.{At, recordsOf}
+use Rattle.records_spec.proofs.Tables.{length-recordsOf}
+use Rattle.rows_spec.specs.Rows.{Tables, tables}
+use Rattle.splitting_spec.specs.Sections.{split}
+use Rattle.splitting_spec.specs.declared.giving.Visited.{Visited}
+use Rattle.splitting_spec.proofs.Counting.{sections-short, base-short}
+use Rattle.splitting_spec.proofs.Calls.{rows-told, fits, key-short, value-short, both-placed}
 use Rattle.splitting.proofs.split.split_allowed.Statement.{statement}
 use Rattle.splitting.proofs.split.split_allowed.Tie as tie
 

@@ -4,13 +4,13 @@ use mathlib.Core.Path.{_≡_, sym, ap, _∙_}
 use mathlib.Core.Bool.{true}
 use lib.Seq.{length-take-le}
 use borrow.Author.Needs.{needs}
-use Rattle.records.specs.Flags.{ownerOf, flagsOf, proper}
-use Rattle.records.specs.declared.head.MaybeOwner.{MaybeOwner}
-use Rattle.records.proofs.Owners.{owner-bytes}
-use Rattle.records.proofs.Proper.{IsProper, proper-inv, proper-above, proper-long}
-use Rattle.rows.specs.Rows.{Tables, tables}
-use Rattle.splitting.specs.Sections.{allowed}
-use Rattle.splitting.proofs.Calls.{split-bad, split-large, split-fitting}
+use Rattle.records_spec.specs.Flags.{ownerOf, flagsOf, proper}
+use Rattle.records_spec.specs.declared.head.MaybeOwner.{MaybeOwner}
+use Rattle.records_spec.proofs.Owners.{owner-bytes}
+use Rattle.records_spec.proofs.Proper.{IsProper, proper-inv, proper-above, proper-long}
+use Rattle.rows_spec.specs.Rows.{Tables, tables}
+use Rattle.splitting_spec.specs.Sections.{allowed}
+use Rattle.splitting_spec.proofs.Calls.{split-bad, split-large, split-fitting}
 use Rattle.splitting.proofs.split.split_storage_removed_bytes.Statement.{statement}
 use Rattle.splitting.proofs.split.split_storage_removed_bytes.Tie as tie
 

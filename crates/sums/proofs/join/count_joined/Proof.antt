@@ -1,9 +1,9 @@
 -- `sums::join::count_joined` meets its contract: what was counted, and the join of what is left, make the join. Assumes nothing.
 use Prim.Native.Nat.{_+_}
 use native.Mathlib.Omega.{arith}
-use Rattle.rows.specs.Rows.{tables}
-use Rattle.rows.proofs.Rows.{proper-first}
-use Rattle.sums.proofs.Lasts.{Counting, counting-start, counting-step, counting-done}
+use Rattle.rows_spec.specs.Rows.{tables}
+use Rattle.rows_spec.proofs.Rows.{proper-first}
+use Rattle.sums_spec.proofs.Lasts.{Counting, counting-start, counting-step, counting-done}
 use Rattle.sums.proofs.join.count_joined.Statement.{statement}
 use Rattle.sums.proofs.join.count_joined.Tie as tie
 

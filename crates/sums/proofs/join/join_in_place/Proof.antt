@@ -1,9 +1,9 @@
 -- `sums::join::join_in_place` meets its contract: from place k on the tables are as they end, and before it as they began. Assumes nothing.
 use Prim.Native.Nat.{_+_}
 use native.Mathlib.Omega.{arith}
-use Rattle.rows.specs.Rows.{tables}
-use Rattle.rows.proofs.Backing.{backing-long}
-use Rattle.sums.proofs.Lasts.{Walking, walking-start, walking-ours, walking-theirs, walking-room, walking-step, walking-done}
+use Rattle.rows_spec.specs.Rows.{tables}
+use Rattle.rows_spec.proofs.Backing.{backing-long}
+use Rattle.sums_spec.proofs.Lasts.{Walking, walking-start, walking-ours, walking-theirs, walking-room, walking-step, walking-done}
 use Rattle.sums.proofs.join.join_in_place.Statement.{statement}
 use Rattle.sums.proofs.join.join_in_place.Tie as tie
 

@@ -2,7 +2,7 @@
 use mathlib.Core.Path.{sym, _∙_}
 use native.Mathlib.Omega.{arith}
 use borrow.Author.Needs.{needs}
-use Rattle.sums.proofs.Lasts.{step-none, step-theirs, step-both, step-ours}
+use Rattle.sums_spec.proofs.Lasts.{step-none, step-theirs, step-both, step-ours}
 use Rattle.sums.proofs.join.last_row.Statement.{statement}
 use Rattle.sums.proofs.join.last_row.Tie as tie
 

@@ -1,8 +1,8 @@
 -- `sums::sum::add_assign` meets its contract, by whether both operands are proper. Assumes nothing.
 use mathlib.Core.Path.{sym, _∙_}
 use borrow.Author.Needs.{needs}
-use Rattle.rows.specs.Rows.{Tables, tables}
-use Rattle.sums.proofs.Answering.{summed-proper, summed-left-bad, summed-right-bad}
+use Rattle.rows_spec.specs.Rows.{Tables, tables}
+use Rattle.sums_spec.proofs.Answering.{summed-proper, summed-left-bad, summed-right-bad}
 use Rattle.sums.proofs.sum.add_assign.Statement.{statement}
 use Rattle.sums.proofs.sum.add_assign.Tie as tie
 

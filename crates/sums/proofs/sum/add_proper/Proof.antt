@@ -1,12 +1,12 @@
 -- `sums::sum::add_proper` meets its contract, by the left state's cases. Assumes nothing.
 use mathlib.Core.Path.{sym, ap, _∙_}
 use borrow.Author.Needs.{needs}
-use Rattle.rows.specs.Rows.{Tables, tables}
-use Rattle.rows.specs.Removals.{removalOf}
-use Rattle.rows.specs.declared.removed.Removed.{Removed}
-use Rattle.rows.proofs.Removals.{proper-sectioned}
-use Rattle.sums.specs.Sums.{sum}
-use Rattle.sums.specs.Calls.{After, placing}
+use Rattle.rows_spec.specs.Rows.{Tables, tables}
+use Rattle.rows_spec.specs.Removals.{removalOf}
+use Rattle.rows_spec.specs.declared.removed.Removed.{Removed}
+use Rattle.rows_spec.proofs.Removals.{proper-sectioned}
+use Rattle.sums_spec.specs.Sums.{sum}
+use Rattle.sums_spec.specs.Calls.{After, placing}
 use Rattle.sums.proofs.sum.add_proper.Statement.{statement}
 use Rattle.sums.proofs.sum.add_proper.Tie as tie
 

@@ -1,10 +1,10 @@
 -- `sums::sum::add_rows` meets its contract: the join is counted, and joined where it has room. Assumes nothing.
 use mathlib.Core.Path.{sym, _∙_}
 use borrow.Author.Needs.{needs}
-use Rattle.rows.specs.Rows.{Tables, tables, rowsIn}
-use Rattle.rows.proofs.Rows.{room-in}
-use Rattle.sums.specs.Joins.{joined}
-use Rattle.sums.proofs.Answering.{placing-fits, placing-short}
+use Rattle.rows_spec.specs.Rows.{Tables, tables, rowsIn}
+use Rattle.rows_spec.proofs.Rows.{room-in}
+use Rattle.sums_spec.specs.Joins.{joined}
+use Rattle.sums_spec.proofs.Answering.{placing-fits, placing-short}
 use Rattle.sums.proofs.sum.add_rows.Statement.{statement}
 use Rattle.sums.proofs.sum.add_rows.Tie as tie
 

@@ -3,13 +3,13 @@ use mathlib.Core.Path.{sym, ap, _∙_}
 use mathlib.Core.List.{List}
 use native.Mathlib.Omega.{arith}
 use borrow.Author.Needs.{needs}
-use Rattle.rows.specs.Rows.{Row, Tables, tables}
-use Rattle.rows.specs.Removals.{sectioned}
-use Rattle.rows.proofs.Rows.{proper-none}
-use Rattle.rows.proofs.Columns.{part-rows, part-proper}
-use Rattle.sums.specs.Calls.{After, placing}
-use Rattle.sums.proofs.Joining.{joined-nothing}
-use Rattle.sums.proofs.Losing.{basic-later, basic-made, basic-lost}
+use Rattle.rows_spec.specs.Rows.{Row, Tables, tables}
+use Rattle.rows_spec.specs.Removals.{sectioned}
+use Rattle.rows_spec.proofs.Rows.{proper-none}
+use Rattle.rows_spec.proofs.Columns.{part-rows, part-proper}
+use Rattle.sums_spec.specs.Calls.{After, placing}
+use Rattle.sums_spec.proofs.Joining.{joined-nothing}
+use Rattle.sums_spec.proofs.Losing.{basic-later, basic-made, basic-lost}
 use Rattle.sums.proofs.sum.add_rows_to_basic_for_version.Statement.{statement}
 use Rattle.sums.proofs.sum.add_rows_to_basic_for_version.Tie as tie
 

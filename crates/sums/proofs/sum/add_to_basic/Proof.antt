@@ -2,14 +2,14 @@
 use mathlib.Core.Path.{sym, ap, _∙_}
 use Prim.Native.Nat.{ℕ}
 use borrow.Author.Needs.{needs}
-use Rattle.rows.specs.Rows.{Tables, tables}
-use Rattle.rows.specs.Removals.{basic, removalOf}
-use Rattle.rows.specs.declared.removed.Removed.{Removed}
-use Rattle.rows.specs.declared.removed.Removed.the-variants.{Basic}
-use Rattle.rows.proofs.Removals.{proper-sectioned}
-use Rattle.sums.specs.Sums.{sum}
-use Rattle.sums.specs.Calls.{After, placing}
-use Rattle.sums.proofs.Answering.{done, placing-basic}
+use Rattle.rows_spec.specs.Rows.{Tables, tables}
+use Rattle.rows_spec.specs.Removals.{basic, removalOf}
+use Rattle.rows_spec.specs.declared.removed.Removed.{Removed}
+use Rattle.rows_spec.specs.declared.removed.Removed.the-variants.{Basic}
+use Rattle.rows_spec.proofs.Removals.{proper-sectioned}
+use Rattle.sums_spec.specs.Sums.{sum}
+use Rattle.sums_spec.specs.Calls.{After, placing}
+use Rattle.sums_spec.proofs.Answering.{done, placing-basic}
 use Rattle.sums.proofs.sum.add_to_basic.Statement.{statement}
 use Rattle.sums.proofs.sum.add_to_basic.Tie as tie
 

@@ -2,15 +2,15 @@
 use mathlib.Core.Path.{sym, ap, _∙_}
 use mathlib.Core.List.{List}
 use borrow.Author.Needs.{needs}
-use Rattle.rows.specs.Rows.{Row, Tables, tables}
-use Rattle.rows.specs.Removals.{nothing, sectioned, removalOf}
-use Rattle.rows.specs.declared.removed.Removed.{Removed}
-use Rattle.rows.proofs.Rows.{proper-none}
-use Rattle.rows.proofs.Removals.{proper-sectioned}
-use Rattle.sums.specs.Sums.{sum}
-use Rattle.sums.specs.Calls.{After, placing}
-use Rattle.sums.proofs.Joining.{joined-nothing}
-use Rattle.sums.proofs.Answering.{placing-nothing, placing-basic}
+use Rattle.rows_spec.specs.Rows.{Row, Tables, tables}
+use Rattle.rows_spec.specs.Removals.{nothing, sectioned, removalOf}
+use Rattle.rows_spec.specs.declared.removed.Removed.{Removed}
+use Rattle.rows_spec.proofs.Rows.{proper-none}
+use Rattle.rows_spec.proofs.Removals.{proper-sectioned}
+use Rattle.sums_spec.specs.Sums.{sum}
+use Rattle.sums_spec.specs.Calls.{After, placing}
+use Rattle.sums_spec.proofs.Joining.{joined-nothing}
+use Rattle.sums_spec.proofs.Answering.{placing-nothing, placing-basic}
 use Rattle.sums.proofs.sum.add_to_none.Statement.{statement}
 use Rattle.sums.proofs.sum.add_to_none.Tie as tie
 

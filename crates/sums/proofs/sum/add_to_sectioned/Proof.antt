@@ -1,13 +1,13 @@
 -- `sums::sum::add_to_sectioned` meets its contract, by the right state's cases. Assumes nothing.
 use mathlib.Core.Path.{sym, ap, _∙_}
 use borrow.Author.Needs.{needs}
-use Rattle.rows.specs.Rows.{Tables, tables, rowsIn}
-use Rattle.rows.specs.Removals.{sectioned, removalOf}
-use Rattle.rows.specs.declared.removed.Removed.{Removed}
-use Rattle.rows.proofs.Removals.{proper-sectioned}
-use Rattle.sums.specs.Sums.{sum}
-use Rattle.sums.specs.Calls.{After, placing}
-use Rattle.sums.proofs.Answering.{placing-stays}
+use Rattle.rows_spec.specs.Rows.{Tables, tables, rowsIn}
+use Rattle.rows_spec.specs.Removals.{sectioned, removalOf}
+use Rattle.rows_spec.specs.declared.removed.Removed.{Removed}
+use Rattle.rows_spec.proofs.Removals.{proper-sectioned}
+use Rattle.sums_spec.specs.Sums.{sum}
+use Rattle.sums_spec.specs.Calls.{After, placing}
+use Rattle.sums_spec.proofs.Answering.{placing-stays}
 use Rattle.sums.proofs.sum.add_to_sectioned.Statement.{statement}
 use Rattle.sums.proofs.sum.add_to_sectioned.Tie as tie
 

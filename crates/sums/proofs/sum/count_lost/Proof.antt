@@ -3,9 +3,9 @@ use mathlib.Core.Path.{sym, _∙_}
 use Prim.Native.Nat.{_-_, _≤_}
 use native.Mathlib.Omega.{arith}
 use borrow.Author.Needs.{needs}
-use Rattle.rows.specs.Rows.{tables, rowsIn}
-use Rattle.rows.proofs.Comparing.{zeros-least}
-use Rattle.sums.proofs.Losing.{Losing, losing-start, losing-more, losing-stop, losing-end}
+use Rattle.rows_spec.specs.Rows.{tables, rowsIn}
+use Rattle.rows_spec.proofs.Comparing.{zeros-least}
+use Rattle.sums_spec.proofs.Losing.{Losing, losing-start, losing-more, losing-stop, losing-end}
 use Rattle.sums.proofs.sum.count_lost.Statement.{statement}
 use Rattle.sums.proofs.sum.count_lost.Tie as tie
 

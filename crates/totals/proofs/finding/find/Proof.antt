@@ -3,10 +3,10 @@
 use mathlib.Core.Path.{sym, _∙_}
 use Prim.Native.Nat.{_+_, _/_, _≤_, _<_}
 use native.Mathlib.Omega.{arith}
-use Rattle.rows.specs.Rows.{row, tables}
-use Rattle.records.proofs.Halving.{Between, between-start, halved, middle-in, fewer-left, between-up, between-down, done-behind, done-here, done-end}
-use Rattle.totals.specs.Steps.{placeIn, between}
-use Rattle.totals.proofs.Places.{found-within, found-past, found-upto}
+use Rattle.rows_spec.specs.Rows.{row, tables}
+use Rattle.records_spec.proofs.Halving.{Between, between-start, halved, middle-in, fewer-left, between-up, between-down, done-behind, done-here, done-end}
+use Rattle.totals_spec.specs.Steps.{placeIn, between}
+use Rattle.totals_spec.proofs.Places.{found-within, found-past, found-upto}
 use Rattle.totals.proofs.finding.find.Statement.{statement}
 use Rattle.totals.proofs.finding.find.Tie as tie
 

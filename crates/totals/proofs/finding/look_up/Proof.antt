@@ -2,7 +2,7 @@
 use mathlib.Core.Path.{sym, _∙_}
 use native.Mathlib.Omega.{arith}
 use borrow.Author.Needs.{needs}
-use Rattle.totals.proofs.Places.{spot-less, spot-equal, spot-greater, spot-end}
+use Rattle.totals_spec.proofs.Places.{spot-less, spot-equal, spot-greater, spot-end}
 use Rattle.totals.proofs.finding.look_up.Statement.{statement}
 use Rattle.totals.proofs.finding.look_up.Tie as tie
 

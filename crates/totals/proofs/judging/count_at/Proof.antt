@@ -2,8 +2,8 @@
 use mathlib.Core.Path.{ap, sym, _∙_}
 use mathlib.Core.Bool.{true, false}
 use borrow.Author.Needs.{needs}
-use Rattle.records.specs.declared.table.Spot.{Spot}
-use Rattle.totals.proofs.UnderOwner.{total-of}
+use Rattle.records_spec.specs.declared.table.Spot.{Spot}
+use Rattle.totals_spec.proofs.UnderOwner.{total-of}
 use Rattle.totals.proofs.judging.count_at.Statement.{statement}
 use Rattle.totals.proofs.judging.count_at.Tie as tie
 

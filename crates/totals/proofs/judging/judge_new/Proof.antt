@@ -5,15 +5,15 @@ use Prim.Native.Nat.{_+_, _-_, _≤_}
 use native.Mathlib.Omega.{arith}
 use borrow.Author.Needs.{needs}
 use lib.ListN.{length, drop, getD}
-use Rattle.rows.specs.Rows.{Row, row, tables, rowsIn}
-use Rattle.rows.proofs.Comparing.{self-same}
-use Rattle.totals.specs.Table.{totalAt}
-use Rattle.totals.specs.Steps.{under}
-use Rattle.totals.specs.declared.finding.Spot.{Spot}
-use Rattle.totals.proofs.Totals.{total-same}
-use Rattle.totals.proofs.Counts.{covered-total}
-use Rattle.totals.proofs.UnderOwner.{under-on, under-end, under-ascends}
-use Rattle.totals.proofs.Judgements.{NewsJudged, news-start, news-over, news-step, news-end}
+use Rattle.rows_spec.specs.Rows.{Row, row, tables, rowsIn}
+use Rattle.rows_spec.proofs.Comparing.{self-same}
+use Rattle.totals_spec.specs.Table.{totalAt}
+use Rattle.totals_spec.specs.Steps.{under}
+use Rattle.totals_spec.specs.declared.finding.Spot.{Spot}
+use Rattle.totals_spec.proofs.Totals.{total-same}
+use Rattle.totals_spec.proofs.Counts.{covered-total}
+use Rattle.totals_spec.proofs.UnderOwner.{under-on, under-end, under-ascends}
+use Rattle.totals_spec.proofs.Judgements.{NewsJudged, news-start, news-over, news-step, news-end}
 use Rattle.totals.proofs.judging.judge_new.Statement.{statement}
 use Rattle.totals.proofs.judging.judge_new.Tie as tie
 

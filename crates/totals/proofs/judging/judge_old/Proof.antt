@@ -5,14 +5,14 @@ use native.Mathlib.Omega.{arith}
 use borrow.Author.Needs.{needs}
 use mathlib.Core.List.{List}
 use lib.ListN.{length, drop, getD}
-use Rattle.rows.specs.Rows.{Row, row, tables, rowsIn}
-use Rattle.rows.proofs.Comparing.{self-same}
-use Rattle.totals.specs.Table.{totalAt}
-use Rattle.totals.specs.Steps.{under}
-use Rattle.totals.specs.declared.finding.Spot.{Spot}
-use Rattle.totals.proofs.Totals.{total-same}
-use Rattle.totals.proofs.UnderOwner.{under-on, under-end}
-use Rattle.totals.proofs.Judgements.{OldsJudged, olds-start, olds-short, olds-step, olds-end}
+use Rattle.rows_spec.specs.Rows.{Row, row, tables, rowsIn}
+use Rattle.rows_spec.proofs.Comparing.{self-same}
+use Rattle.totals_spec.specs.Table.{totalAt}
+use Rattle.totals_spec.specs.Steps.{under}
+use Rattle.totals_spec.specs.declared.finding.Spot.{Spot}
+use Rattle.totals_spec.proofs.Totals.{total-same}
+use Rattle.totals_spec.proofs.UnderOwner.{under-on, under-end}
+use Rattle.totals_spec.proofs.Judgements.{OldsJudged, olds-start, olds-short, olds-step, olds-end}
 use Rattle.totals.proofs.judging.judge_old.Statement.{statement}
 use Rattle.totals.proofs.judging.judge_old.Tie as tie
 

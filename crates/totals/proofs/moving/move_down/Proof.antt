@@ -5,8 +5,8 @@ use mathlib.Core.List.{[]}
 use Prim.Native.Nat.{_-_, _≤_, _<_}
 use lib.ListN.{length}
 use native.Mathlib.Omega.{arith}
-use Rattle.records.proofs.Sliding.{MovedDown, down-start, down-step, down-done, stays}
-use Rattle.rows.proofs.Columns.{three}
+use Rattle.records_spec.proofs.Sliding.{MovedDown, down-start, down-step, down-done, stays}
+use Rattle.rows_spec.proofs.Columns.{three}
 use Rattle.totals.proofs.moving.move_down.Statement.{statement}
 use Rattle.totals.proofs.moving.move_down.Tie as tie
 

@@ -5,8 +5,8 @@ use mathlib.Core.List.{[]}
 use Prim.Native.Nat.{_+_, _-_, _≤_}
 use native.Mathlib.Omega.{arith}
 use lib.ListN.{length}
-use Rattle.records.proofs.Sliding.{MovedUp, up-start, up-long, up-step, up-done, stays}
-use Rattle.rows.proofs.Columns.{three}
+use Rattle.records_spec.proofs.Sliding.{MovedUp, up-start, up-long, up-step, up-done, stays}
+use Rattle.rows_spec.proofs.Columns.{three}
 use Rattle.totals.proofs.moving.move_up.Statement.{statement}
 use Rattle.totals.proofs.moving.move_up.Tie as tie
 

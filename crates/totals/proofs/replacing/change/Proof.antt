@@ -1,9 +1,9 @@
 -- `totals::replacing::change` meets its contract: refused as it was judged, or written. Assumes nothing.
 use mathlib.Core.Path.{sym, ap, _∙_}
 use borrow.Author.Needs.{needs}
-use Rattle.rows.specs.Rows.{Tables, tables}
-use Rattle.totals.specs.Steps.{judged}
-use Rattle.totals.proofs.Written.{refused-change}
+use Rattle.rows_spec.specs.Rows.{Tables, tables}
+use Rattle.totals_spec.specs.Steps.{judged}
+use Rattle.totals_spec.proofs.Written.{refused-change}
 use Rattle.totals.proofs.replacing.change.Statement.{statement}
 use Rattle.totals.proofs.replacing.change.Tie as tie
 

@@ -4,12 +4,12 @@ use mathlib.Core.List.{List}
 use Prim.Native.Nat.{ℕ, _+_, _-_, _≤_}
 use native.Mathlib.Omega.{arith}
 use borrow.Author.Needs.{needs}
-use Rattle.records.specs.Answers.{ok}
-use Rattle.rows.specs.Rows.{Row, tables, rowsIn}
-use Rattle.rows.proofs.Rows.{length-rows}
-use Rattle.totals.specs.Steps.{under, judged, judgedOld, judgedNew}
-use Rattle.totals.proofs.UnderOwner.{under-ascends, under-long}
-use Rattle.totals.proofs.Verdicts.{verdict-14, verdict-6, verdict-rows, verdict-covered, old-never, new-never, gone-most, made-within}
+use Rattle.records_spec.specs.Answers.{ok}
+use Rattle.rows_spec.specs.Rows.{Row, tables, rowsIn}
+use Rattle.rows_spec.proofs.Rows.{length-rows}
+use Rattle.totals_spec.specs.Steps.{under, judged, judgedOld, judgedNew}
+use Rattle.totals_spec.proofs.UnderOwner.{under-ascends, under-long}
+use Rattle.totals_spec.proofs.Verdicts.{verdict-14, verdict-6, verdict-rows, verdict-covered, old-never, new-never, gone-most, made-within}
 use Rattle.totals.proofs.replacing.judge.Statement.{statement}
 use Rattle.totals.proofs.replacing.judge.Tie as tie
 

@@ -3,9 +3,9 @@ use mathlib.Core.Path.{_≡_, ap, _∙_}
 use mathlib.Core.List.{List}
 use Prim.Native.Nat.{ℕ}
 use borrow.Author.Needs.{needs}
-use Rattle.records.specs.Flags.{idOf, ownerOf}
-use Rattle.records.specs.declared.head.MaybeOwner.{MaybeOwner}
-use Rattle.records.proofs.Owners.{owner-bytes}
+use Rattle.records_spec.specs.Flags.{idOf, ownerOf}
+use Rattle.records_spec.specs.declared.head.MaybeOwner.{MaybeOwner}
+use Rattle.records_spec.proofs.Owners.{owner-bytes}
 use Rattle.totals.proofs.replacing.names_of.Statement.{statement}
 use Rattle.totals.proofs.replacing.names_of.Tie as tie
 

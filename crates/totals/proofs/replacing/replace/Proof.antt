@@ -3,10 +3,10 @@ use mathlib.Core.Path.{_≡_, sym, _∙_}
 use mathlib.Core.Bool.{Bool, true}
 use mathlib.Core.Option.{Option}
 use borrow.Author.Needs.{needs}
-use Rattle.records.specs.Flags.{Flags}
-use Rattle.rows.specs.Rows.{Tables, tables}
-use Rattle.totals.specs.Calls.{properTable, given, properGiven}
-use Rattle.totals.proofs.GivenFlags.{given-names, given-table, given-even, table-standing, replacing-proper, table-bad, old-bad, new-bad}
+use Rattle.records_spec.specs.Flags.{Flags}
+use Rattle.rows_spec.specs.Rows.{Tables, tables}
+use Rattle.totals_spec.specs.Calls.{properTable, given, properGiven}
+use Rattle.totals_spec.proofs.GivenFlags.{given-names, given-table, given-even, table-standing, replacing-proper, table-bad, old-bad, new-bad}
 use Rattle.totals.proofs.replacing.replace.Statement.{statement}
 use Rattle.totals.proofs.replacing.replace.Tie as tie
 

@@ -3,8 +3,8 @@ use mathlib.Core.Path.{_≡_, refl, sym, _∙_}
 use Prim.Native.Nat.{_-_, _≤_}
 use native.Mathlib.Omega.{arith}
 use lib.ListN.{drop}
-use Rattle.rows.specs.Rows.{tables, rowsIn, ascends}
-use Rattle.rows.proofs.Rows.{asc-at, asc-last}
+use Rattle.rows_spec.specs.Rows.{tables, rowsIn, ascends}
+use Rattle.rows_spec.proofs.Rows.{asc-at, asc-last}
 use Rattle.totals.proofs.table.ascend.Statement.{statement}
 use Rattle.totals.proofs.table.ascend.Tie as tie
 

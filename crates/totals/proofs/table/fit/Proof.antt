@@ -2,8 +2,8 @@
 use mathlib.Core.Path.{sym, _∙_}
 use borrow.Author.Needs.{needs}
 use borrow.Author.Tests.{le-leb}
-use Rattle.rows.specs.Rows.{tables}
-use Rattle.rows.proofs.Rows.{short-ids}
+use Rattle.rows_spec.specs.Rows.{tables}
+use Rattle.rows_spec.proofs.Rows.{short-ids}
 use Rattle.totals.proofs.table.fit.Statement.{statement}
 use Rattle.totals.proofs.table.fit.Tie as tie
 

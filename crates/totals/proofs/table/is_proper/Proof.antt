@@ -1,9 +1,9 @@
 -- `totals::table::is_proper` meets its contract, by its three tests. Assumes nothing.
 use mathlib.Core.Path.{sym, _∙_}
 use borrow.Author.Needs.{needs}
-use Rattle.rows.specs.Rows.{Tables, tables}
-use Rattle.rows.proofs.Rows.{room-in}
-use Rattle.totals.proofs.Tabled.{table-room, table-short}
+use Rattle.rows_spec.specs.Rows.{Tables, tables}
+use Rattle.rows_spec.proofs.Rows.{room-in}
+use Rattle.totals_spec.proofs.Tabled.{table-room, table-short}
 use Rattle.totals.proofs.table.is_proper.Statement.{statement}
 use Rattle.totals.proofs.table.is_proper.Tie as tie
 

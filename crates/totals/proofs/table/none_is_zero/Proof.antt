@@ -4,9 +4,9 @@ use mathlib.Core.Bool.{_&&_, and-assoc, and-true}
 use Prim.Native.Nat.{_-_, _≤_}
 use native.Mathlib.Omega.{arith}
 use lib.ListN.{drop}
-use Rattle.rows.specs.Rows.{tables, rowsIn}
-use Rattle.totals.specs.Table.{above}
-use Rattle.totals.proofs.Tabled.{above-next, above-end}
+use Rattle.rows_spec.specs.Rows.{tables, rowsIn}
+use Rattle.totals_spec.specs.Table.{above}
+use Rattle.totals_spec.proofs.Tabled.{above-next, above-end}
 use Rattle.totals.proofs.table.none_is_zero.Statement.{statement}
 use Rattle.totals.proofs.table.none_is_zero.Tie as tie
 

@@ -1,5 +1,5 @@
 -- `totals::words::is_below_or` meets its contract, by its tests. Assumes nothing.
-use Rattle.totals.proofs.ByWords.{or-told}
+use Rattle.totals_spec.proofs.ByWords.{or-told}
 use Rattle.totals.proofs.words.is_below_or.Statement.{statement}
 use Rattle.totals.proofs.words.is_below_or.Tie as tie
 

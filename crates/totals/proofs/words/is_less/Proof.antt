@@ -2,7 +2,7 @@
 use mathlib.Core.Path.{refl, _∙_}
 use lib.Dec.{ltb}
 use borrow.Author.Needs.{needs}
-use Rattle.totals.proofs.ByWords.{wordAt, or-same, less-first, more-first, less-rest}
+use Rattle.totals_spec.proofs.ByWords.{wordAt, or-same, less-first, more-first, less-rest}
 use Rattle.totals.proofs.words.is_less.Statement.{statement}
 use Rattle.totals.proofs.words.is_less.Tie as tie
 

@@ -1,7 +1,7 @@
 -- `totals::words::word` meets its contract: four pairs of bytes, the highest first. Assumes nothing.
 use borrow.Author.Needs.{needs}
 use native.Mathlib.Omega.{arith}
-use Rattle.totals.proofs.ByWords.{word-at}
+use Rattle.totals_spec.proofs.ByWords.{word-at}
 use Rattle.totals.proofs.words.word.Statement.{statement}
 use Rattle.totals.proofs.words.word.Tie as tie
 

@@ -2,9 +2,9 @@
 -- Assumes nothing.
 use Prim.Native.Nat.{_-_}
 use native.Mathlib.Omega.{arith}
-use Rattle.rows.specs.Rows.{tables}
-use Rattle.rows.proofs.Backing.{backing-long}
-use Rattle.totals.proofs.AddingRows.{Adding, adding-start, adding-stands, adding-done, adding-pass, place-left, adding-fits, adding-move, adding-room, adding-step}
+use Rattle.rows_spec.specs.Rows.{tables}
+use Rattle.rows_spec.proofs.Backing.{backing-long}
+use Rattle.totals_spec.proofs.AddingRows.{Adding, adding-start, adding-stands, adding-done, adding-pass, place-left, adding-fits, adding-move, adding-room, adding-step}
 use Rattle.totals.proofs.writing.add_rows.Statement.{statement}
 use Rattle.totals.proofs.writing.add_rows.Tie as tie
 

@@ -4,9 +4,9 @@ use Prim.Native.Nat.{_-_, _≤_, _<_}
 use native.Mathlib.Omega.{arith}
 use borrow.Author.Needs.{needs}
 use lib.ListN.{length, getD}
-use Rattle.rows.specs.Rows.{tables}
-use Rattle.rows.proofs.Rows.{room-less}
-use Rattle.totals.proofs.Taking.{Taking, taking-start, taking-room, taking-even, taking-standing, taking-count, taking-done, taking-skip, taking-found, taking-gone, taking-space, taking-put}
+use Rattle.rows_spec.specs.Rows.{tables}
+use Rattle.rows_spec.proofs.Rows.{room-less}
+use Rattle.totals_spec.proofs.Taking.{Taking, taking-start, taking-room, taking-even, taking-standing, taking-count, taking-done, taking-skip, taking-found, taking-gone, taking-space, taking-put}
 use Rattle.totals.proofs.writing.take_rows.Statement.{statement}
 use Rattle.totals.proofs.writing.take_rows.Tie as tie
 

@@ -1,7 +1,7 @@
 -- `totals_index::judging::comes_behind` meets its contract: where there is a last row, `is_less` says how it stands.
 -- Assumes nothing.
 use borrow.Author.Needs.{needs}
-use Rattle.totals_index.proofs.Fitting.{when-true}
+use Rattle.totals_index_spec.proofs.Fitting.{when-true}
 use Rattle.totals_index.proofs.judging.comes_behind.Statement.{statement}
 use Rattle.totals_index.proofs.judging.comes_behind.Tie as tie
 

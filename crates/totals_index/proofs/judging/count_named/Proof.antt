@@ -1,7 +1,7 @@
 -- `totals_index::judging::count_named` meets its contract: what is named stands in the first places of its tables, where `count_at` looks it up.
 -- Assumes nothing.
 use borrow.Author.Needs.{needs}
-use Rattle.totals_index.proofs.Fitting.{first-long}
+use Rattle.totals_index_spec.proofs.Fitting.{first-long}
 use Rattle.totals_index.proofs.judging.count_named.Statement.{statement}
 use Rattle.totals_index.proofs.judging.count_named.Tie as tie
 

@@ -5,8 +5,8 @@ use mathlib.Core.Logic.{⊎-elim}
 use Prim.Native.Nat.{_+_, _-_, _≤_}
 use native.Mathlib.Omega.{arith}
 use lib.ListN.{length, drop}
-use Rattle.totals_index.specs.Judging.{positives}
-use Rattle.totals_index.proofs.Tallies.{positives-counted, positives-passed, positives-end}
+use Rattle.totals_index_spec.specs.Judging.{positives}
+use Rattle.totals_index_spec.proofs.Tallies.{positives-counted, positives-passed, positives-end}
 use Rattle.totals_index.proofs.judging.count_positives.Statement.{statement}
 use Rattle.totals_index.proofs.judging.count_positives.Tie as tie
 

@@ -2,7 +2,7 @@
 -- Assumes nothing.
 use native.Mathlib.Omega.{arith}
 use borrow.Author.Needs.{needs}
-use Rattle.totals_index.proofs.OneRow.{found-next}
+use Rattle.totals_index_spec.proofs.OneRow.{found-next}
 use Rattle.totals_index.proofs.judging.judge_row.Statement.{statement}
 use Rattle.totals_index.proofs.judging.judge_row.Tie as tie
 

@@ -43,18 +43,18 @@ use denote.Triple.Spec.{Meets, tripleOf}
 use denote.Triple.Table.{entered, cited}
 use denote.Triple.Walked.{says, needs, Stays, stay-dropped, walkOf, goes-dropped, Walks, ends-at, walked, walk-meets}
 use denote.Exit.{yes}
-use Rattle.totals_index.specs.Judging.{rowOf, rowsNamed, next, Asked}
-use Rattle.totals_index.specs.declared.judging.Judging.{Judging}
-use Rattle.totals_index.specs.declared.structs.Total.{Total}
-use Rattle.totals_index.proofs.judging.Judging as J
-use Rattle.totals_index.proofs.judging.Judging.Laws as J′
-use Rattle.totals_index.proofs.structs.Total as T
-use Rattle.totals_index.proofs.structs.Total.Laws as T′
-use Rattle.totals_index.proofs.Columns.{no-total}
-use Rattle.totals_index.proofs.Place.{fits-48, next-fits, one-more}
-use Rattle.totals_index.proofs.Counting.{counts}
-use Rattle.totals_index.proofs.Folding.{seenAt, seen-asked, seen-judged}
-use Rattle.totals_index.proofs.Walks.{holds, fails, total-typed, JudgingTyped, judging-val, judging-vals, judging-typed}
+use Rattle.totals_index_spec.specs.Judging.{rowOf, rowsNamed, next, Asked}
+use Rattle.totals_index_spec.specs.declared.judging.Judging.{Judging}
+use Rattle.totals_index_spec.specs.declared.structs.Total.{Total}
+use Rattle.totals_index_spec.proofs.judging.Judging as J
+use Rattle.totals_index_spec.proofs.judging.Judging.Laws as J′
+use Rattle.totals_index_spec.proofs.structs.Total as T
+use Rattle.totals_index_spec.proofs.structs.Total.Laws as T′
+use Rattle.totals_index_spec.proofs.Columns.{no-total}
+use Rattle.totals_index_spec.proofs.Place.{fits-48, next-fits, one-more}
+use Rattle.totals_index_spec.proofs.Counting.{counts}
+use Rattle.totals_index_spec.proofs.Folding.{seenAt, seen-asked, seen-judged}
+use Rattle.totals_index_spec.proofs.Walks.{holds, fails, total-typed, JudgingTyped, judging-val, judging-vals, judging-typed}
 use Rattle.totals_index.proofs.judging.judge_row as judges
 use Rattle.totals_index.proofs.judging.judge_row.Symbol as judges-def
 use Rattle.totals_index.proofs.judging.judge_row.Symbol.{name as #judges}

@@ -4,8 +4,8 @@ use mathlib.Core.Path.{sym, _∙_}
 use mathlib.Core.Logic.{inl, inr, ⊎-elim}
 use native.Mathlib.Omega.{arith}
 use borrow.Author.Needs.{needs}
-use Rattle.totals.proofs.GivenFlags.{given-even}
-use Rattle.totals_index.proofs.Starting.{started-good, started-bad}
+use Rattle.totals_spec.proofs.GivenFlags.{given-even}
+use Rattle.totals_index_spec.proofs.Starting.{started-good, started-bad}
 use Rattle.totals_index.proofs.judging.start.Statement.{statement}
 use Rattle.totals_index.proofs.judging.start.Tie as tie
 

@@ -46,29 +46,29 @@ use denote.Triple.Spec.{Meets, tripleOf}
 use denote.Triple.Table.{entered, cited}
 use denote.Triple.Walked.{says, Stays, gave-slice, stay-dropped, walkOf, goes-gave-slice, goes-dropped, Walks, ends-at, walked, walk-meets}
 use denote.Exit.{yes}
-use Rattle.records.specs.Flags.{Flags}
-use Rattle.records.specs.declared.head.Head.{Head}
-use Rattle.records.proofs.head.Head as HT
-use Rattle.records.proofs.head.Head.Laws as HT′
-use Rattle.rows.specs.Rows.{Tables, tables, rowsIn}
-use Rattle.totals.specs.Calls.{given, properGiven}
-use Rattle.totals.specs.Steps.{countedRows}
-use Rattle.totals.specs.declared.replacing.Replaced.{Replaced}
-use Rattle.totals.proofs.replacing.Replaced as R
-use Rattle.totals.proofs.replacing.Replaced.Laws as R′
-use Rattle.totals_index.specs.Structs.{columns}
-use Rattle.totals_index.specs.Calls.{shown, verdict, replacingStructs}
-use Rattle.totals_index.specs.Judging.{started, rowsNamed, judged, verdictOf, Asked, Small}
-use Rattle.totals_index.specs.declared.judging.Judging.{Judging}
-use Rattle.totals_index.specs.declared.structs.Total.{Total}
-use Rattle.totals_index.proofs.judging.Judging as J
-use Rattle.totals_index.proofs.judging.Judging.Laws as J′
-use Rattle.totals_index.proofs.structs.Total as T
-use Rattle.totals_index.proofs.structs.Total.Laws as T′
-use Rattle.totals_index.proofs.Columns.{no-total}
-use Rattle.totals_index.proofs.Lends.{All, shr-out, shr-in}
-use Rattle.totals_index.proofs.Walks.{Id, total-fits, IsJudging, judging-val, judging-vals, judging-typed, all-tell}
-use Rattle.totals_index.proofs.Judged.{judged-ready, same-rows, judged-verdict}
+use Rattle.records_spec.specs.Flags.{Flags}
+use Rattle.records_spec.specs.declared.head.Head.{Head}
+use Rattle.records_spec.proofs.head.Head as HT
+use Rattle.records_spec.proofs.head.Head.Laws as HT′
+use Rattle.rows_spec.specs.Rows.{Tables, tables, rowsIn}
+use Rattle.totals_spec.specs.Calls.{given, properGiven}
+use Rattle.totals_spec.specs.Steps.{countedRows}
+use Rattle.totals_spec.specs.declared.replacing.Replaced.{Replaced}
+use Rattle.totals_spec.proofs.replacing.Replaced as R
+use Rattle.totals_spec.proofs.replacing.Replaced.Laws as R′
+use Rattle.totals_index_spec.specs.Structs.{columns}
+use Rattle.totals_index_spec.specs.Calls.{shown, verdict, replacingStructs}
+use Rattle.totals_index_spec.specs.Judging.{started, rowsNamed, judged, verdictOf, Asked, Small}
+use Rattle.totals_index_spec.specs.declared.judging.Judging.{Judging}
+use Rattle.totals_index_spec.specs.declared.structs.Total.{Total}
+use Rattle.totals_index_spec.proofs.judging.Judging as J
+use Rattle.totals_index_spec.proofs.judging.Judging.Laws as J′
+use Rattle.totals_index_spec.proofs.structs.Total as T
+use Rattle.totals_index_spec.proofs.structs.Total.Laws as T′
+use Rattle.totals_index_spec.proofs.Columns.{no-total}
+use Rattle.totals_index_spec.proofs.Lends.{All, shr-out, shr-in}
+use Rattle.totals_index_spec.proofs.Walks.{Id, total-fits, IsJudging, judging-val, judging-vals, judging-typed, all-tell}
+use Rattle.totals_index_spec.proofs.Judged.{judged-ready, same-rows, judged-verdict}
 use Rattle.totals_index.proofs.judging.start as starts
 use Rattle.totals_index.proofs.judging.start.Symbol as starts-def
 use Rattle.totals_index.proofs.judging.start.Symbol.{name as #starts}

@@ -47,29 +47,29 @@ use denote.Triple.Spec.{Meets, tripleOf}
 use denote.Triple.Table.{entered, cited}
 use denote.Triple.Walked.{says, needs, Stays, stay-slice, stay-dropped, walkOf, goes-slice, goes-dropped, Walks, ends-at, walked, walk-meets}
 use denote.Exit.{yes}
-use Rattle.records.specs.Tables.{over}
-use Rattle.records.specs.Flags.{Flags}
-use Rattle.records.specs.declared.head.Head.{Head}
-use Rattle.records.proofs.head.Head as HT
-use Rattle.records.proofs.head.Head.Laws as HT′
-use Rattle.rows.specs.Rows.{Tables, tables, rowsIn, overRows, Room as RoomFor}
-use Rattle.totals.specs.Calls.{told, shown, given, properGiven}
-use Rattle.totals.specs.Steps.{countedRows}
-use Rattle.totals.specs.declared.replacing.Replaced.{Replaced}
-use Rattle.totals.proofs.replacing.Replaced as R
-use Rattle.totals.proofs.replacing.Replaced.Laws as R′
-use Rattle.totals_index.specs.Structs.{columns, structs}
-use Rattle.totals_index.specs.Calls.{shown as left, verdict, replacingStructs}
-use Rattle.totals_index.specs.Judging.{verdictOf}
-use Rattle.totals_index.specs.Steps.{rowsTold, replacingIn}
-use Rattle.totals_index.specs.declared.judging.Judging.{Judging}
-use Rattle.totals_index.specs.declared.structs.Total.{Total}
-use Rattle.totals_index.proofs.judging.Judging as J
-use Rattle.totals_index.proofs.judging.Judging.Laws as J′
-use Rattle.totals_index.proofs.structs.Total as T
-use Rattle.totals_index.proofs.Lends.{All, mut-out, mut-in, shr-out, shr-in}
-use Rattle.totals_index.proofs.Walks.{Id, IsJudging, JudgingTyped, judging-val, judging-vals, judging-typed}
-use Rattle.totals_index.proofs.Indexing.{taken, can-take, Put, can-put}
+use Rattle.records_spec.specs.Tables.{over}
+use Rattle.records_spec.specs.Flags.{Flags}
+use Rattle.records_spec.specs.declared.head.Head.{Head}
+use Rattle.records_spec.proofs.head.Head as HT
+use Rattle.records_spec.proofs.head.Head.Laws as HT′
+use Rattle.rows_spec.specs.Rows.{Tables, tables, rowsIn, overRows, Room as RoomFor}
+use Rattle.totals_spec.specs.Calls.{told, shown, given, properGiven}
+use Rattle.totals_spec.specs.Steps.{countedRows}
+use Rattle.totals_spec.specs.declared.replacing.Replaced.{Replaced}
+use Rattle.totals_spec.proofs.replacing.Replaced as R
+use Rattle.totals_spec.proofs.replacing.Replaced.Laws as R′
+use Rattle.totals_index_spec.specs.Structs.{columns, structs}
+use Rattle.totals_index_spec.specs.Calls.{shown as left, verdict, replacingStructs}
+use Rattle.totals_index_spec.specs.Judging.{verdictOf}
+use Rattle.totals_index_spec.specs.Steps.{rowsTold, replacingIn}
+use Rattle.totals_index_spec.specs.declared.judging.Judging.{Judging}
+use Rattle.totals_index_spec.specs.declared.structs.Total.{Total}
+use Rattle.totals_index_spec.proofs.judging.Judging as J
+use Rattle.totals_index_spec.proofs.judging.Judging.Laws as J′
+use Rattle.totals_index_spec.proofs.structs.Total as T
+use Rattle.totals_index_spec.proofs.Lends.{All, mut-out, mut-in, shr-out, shr-in}
+use Rattle.totals_index_spec.proofs.Walks.{Id, IsJudging, JudgingTyped, judging-val, judging-vals, judging-typed}
+use Rattle.totals_index_spec.proofs.Indexing.{taken, can-take, Put, can-put}
 use Rattle.totals_index.proofs.work.rows_to_take as counts
 use Rattle.totals_index.proofs.work.rows_to_take.Symbol as counts-def
 use Rattle.totals_index.proofs.work.rows_to_take.Symbol.{name as #counts}

@@ -43,16 +43,16 @@ use denote.Triple.Spec.{Meets, tripleOf}
 use denote.Triple.Table.{entered}
 use denote.Triple.Walked.{says, needs, Stays, stay-slice, stay-dropped, walkOf, goes-slice, goes-dropped, Walks, ends-at, walked, walk-meets}
 use denote.Exit.{yes}
-use Rattle.rows.specs.Rows.{Room as RoomFor, tables, rowsIn}
-use Rattle.totals_index.specs.Structs.{structs}
-use Rattle.totals_index.specs.declared.structs.Total.{Total}
-use Rattle.totals_index.proofs.structs.Total as T
-use Rattle.totals_index.proofs.structs.Total.Laws as T′
-use Rattle.totals_index.proofs.Filling.{filled, length-filled, in-filled}
-use Rattle.totals_index.proofs.Columns.{no-total, structAt, struct-next, all-put}
-use Rattle.totals_index.proofs.Place.{fits-2, fits-8, fits-32, fits-48, next-fits, one-more}
-use Rattle.totals_index.proofs.Counting.{counts}
-use Rattle.totals_index.proofs.Walks.{holds, fails, Id, id-vals, id-tells, id-copy, id-typed, made-is, made-typed}
+use Rattle.rows_spec.specs.Rows.{Room as RoomFor, tables, rowsIn}
+use Rattle.totals_index_spec.specs.Structs.{structs}
+use Rattle.totals_index_spec.specs.declared.structs.Total.{Total}
+use Rattle.totals_index_spec.proofs.structs.Total as T
+use Rattle.totals_index_spec.proofs.structs.Total.Laws as T′
+use Rattle.totals_index_spec.proofs.Filling.{filled, length-filled, in-filled}
+use Rattle.totals_index_spec.proofs.Columns.{no-total, structAt, struct-next, all-put}
+use Rattle.totals_index_spec.proofs.Place.{fits-2, fits-8, fits-32, fits-48, next-fits, one-more}
+use Rattle.totals_index_spec.proofs.Counting.{counts}
+use Rattle.totals_index_spec.proofs.Walks.{holds, fails, Id, id-vals, id-tells, id-copy, id-typed, made-is, made-typed}
 use Rattle.totals_index.proofs.structs.put_together.Key.{name as #put-together}
 use Rattle.totals_index.proofs.structs.put_together as put-together
 use Rattle.totals_index.proofs.structs.put_together.Statement as stated

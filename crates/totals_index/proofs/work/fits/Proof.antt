@@ -2,7 +2,7 @@
 -- Assumes nothing.
 use native.Mathlib.Omega.{arith}
 use borrow.Author.Needs.{needs}
-use Rattle.totals_index.proofs.Fitting.{fitted-room, too-many, not-accepted}
+use Rattle.totals_index_spec.proofs.Fitting.{fitted-room, too-many, not-accepted}
 use Rattle.totals_index.proofs.work.fits.Statement.{statement}
 use Rattle.totals_index.proofs.work.fits.Tie as tie
 

@@ -2,7 +2,7 @@
 -- Assumes nothing.
 use mathlib.Core.Path.{_∙_}
 use borrow.Author.Needs.{needs}
-use Rattle.totals_index.proofs.Fitting.{by-others, no-owners}
+use Rattle.totals_index_spec.proofs.Fitting.{by-others, no-owners}
 use Rattle.totals_index.proofs.work.has_room.Statement.{statement}
 use Rattle.totals_index.proofs.work.has_room.Tie as tie
 

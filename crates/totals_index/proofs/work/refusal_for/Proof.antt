@@ -1,8 +1,8 @@
 -- `totals_index::work::refusal_for` meets its contract, by the three tests.
 -- Assumes nothing.
 use mathlib.Core.Path.{ap}
-use Rattle.records.specs.Answers.{refused}
-use Rattle.totals_index.proofs.Fitting.{refusal-10, refusal-6, refusal-14}
+use Rattle.records_spec.specs.Answers.{refused}
+use Rattle.totals_index_spec.proofs.Fitting.{refusal-10, refusal-6, refusal-14}
 use Rattle.totals_index.proofs.work.refusal_for.Statement.{statement}
 use Rattle.totals_index.proofs.work.refusal_for.Tie as tie
 

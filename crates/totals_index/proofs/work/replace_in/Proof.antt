@@ -2,7 +2,7 @@
 -- Assumes nothing.
 use mathlib.Core.Path.{sym, _∙_}
 use borrow.Author.Needs.{needs}
-use Rattle.totals_index.proofs.Fitting.{when-true, when-false, told-kept}
+use Rattle.totals_index_spec.proofs.Fitting.{when-true, when-false, told-kept}
 use Rattle.totals_index.proofs.work.replace_in.Statement.{statement}
 use Rattle.totals_index.proofs.work.replace_in.Tie as tie
 

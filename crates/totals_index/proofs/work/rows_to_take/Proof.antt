@@ -2,7 +2,7 @@
 -- Assumes nothing.
 use mathlib.Core.Path.{refl, sym, _∙_}
 use borrow.Author.Needs.{needs}
-use Rattle.totals_index.proofs.Fitting.{when-true, when-false}
+use Rattle.totals_index_spec.proofs.Fitting.{when-true, when-false}
 use Rattle.totals_index.proofs.work.rows_to_take.Statement.{statement}
 use Rattle.totals_index.proofs.work.rows_to_take.Tie as tie
 

@@ -1,0 +1,72 @@
+-- What bytes stand for, and what a refused answer is, case by case and by computation.
+-- Assumes nothing.
+use Prim.Native.Nat.{ℕ}
+use mathlib.Core.Path.{_≡_, refl}
+use mathlib.Core.Bool.{true, false}
+use mathlib.Core.List.{List}
+use Rattle.records_spec.specs.Flags.{kindOfByte, zeros}
+use Rattle.records_spec.specs.Answers.{refused, kept}
+use Rattle.records_spec.specs.declared.head.Kind.the-variants.{SingleEpoch, MultiEpoch, SingleEpochOwned, MultiEpochOwned}
+use Rattle.flags_spec.specs.declared.owners.MergingOwnersStrategy.the-variants.{RaiseIssue, UseOurs, UseTheirs}
+use Rattle.rows_spec.specs.Rows.{Tables}
+use Rattle.rows_spec.specs.declared.removed.Removed.the-variants.{None, Basic, Sectioned}
+use Rattle.sums_spec.specs.Calls.{kept as keptSum}
+use Rattle.splitting_spec.specs.Calls.{kept as keptSplit}
+use Rattle.totals_spec.specs.Calls.{kept as keptTotals}
+use Rattle.totals_index_spec.specs.declared.structs.Total.{Total}
+use Rattle.repair_spec.specs.Calls.{kept as keptRepair}
+use Rattle.capi_spec.specs.Given.{isTrue, isKind, kindFound, isStrategy, strategyGiven, isRemoval, removedGiven}
+use Rattle.totals_index_spec.specs.Calls.{kept as keptStructs}
+use Rattle.capi_spec.specs.Told.{flagsLeft, flagsTold, countTold, truthTold, bytesLeft, bytesTold, sumLeft, sumTold, splitLeft, splitTold, totalsLeft, totalsTold, structsLeft, structsTold, repairLeft, repairTold}
+
+-- 0 to 3 are the four kinds, and no other byte is one
+pub kinds :
+    (kindFound (kindOfByte 0) ≡ SingleEpoch) × (kindFound (kindOfByte 1) ≡ MultiEpoch) × (kindFound (kindOfByte 2) ≡ SingleEpochOwned)
+    × (kindFound (kindOfByte 3) ≡ MultiEpochOwned) × (isKind 3 ≡ true) × (isKind 4 ≡ false) × (isKind 255 ≡ false)
+kinds = (refl, refl, refl, refl, refl, refl, refl)
+
+-- 0 raise, 1 ours, 2 theirs, and no other
+pub strategies :
+    (strategyGiven 0 ≡ RaiseIssue) × (strategyGiven 1 ≡ UseOurs) × (strategyGiven 2 ≡ UseTheirs) × (isStrategy 2 ≡ true) × (isStrategy 3 ≡ false)
+strategies = (refl, refl, refl, refl, refl)
+
+-- 0 none, 1 basic, 2 sectioned, and no other; what a kind does not have is not read
+pub removals :
+    (n m : ℕ) → (removedGiven (record { kind = 0; bytes = n; rows = m }) ≡ None) × (removedGiven (record { kind = 1; bytes = n; rows = m }) ≡ Basic n)
+    × (removedGiven (record { kind = 2; bytes = n; rows = m }) ≡ Sectioned m) × (isRemoval 2 ≡ true) × (isRemoval 3 ≡ false)
+removals n m = (refl, refl, refl, refl, refl)
+
+-- 0 is no, and 1, 2 and 255 are yes
+pub truths : (isTrue 0 ≡ false) × (isTrue 1 ≡ true) × (isTrue 2 ≡ true) × (isTrue 255 ≡ true)
+truths = (refl, refl, refl, refl)
+
+-- a refused answer is its number and zeros, and nothing lent has changed
+module _ (n : ℕ) where
+  pub flags-refused :
+      (es cs : List ℕ)
+      → flagsTold (kept n es cs) ≡ flagsLeft (record { refusal = n; present = 0; head = record { kind = 0; base = 0; owner = zeros; records = 0 } }) es cs
+  flags-refused es cs = refl
+
+  pub count-refused : (countTold (refused n) ≡ record { refusal = n; count = 0 }) × (truthTold (refused n) ≡ record { refusal = n; count = 0 })
+  count-refused = (refl, refl)
+
+  pub bytes-refused : (out : List ℕ) → bytesTold (record { answer = refused n; out = out }) ≡ bytesLeft (record { refusal = n; count = 0 }) out
+  bytes-refused out = refl
+
+  pub sum-refused : (t : Tables) → sumTold (keptSum n t) ≡ sumLeft (record { refusal = n; removal = record { kind = 0; bytes = 0; rows = 0 } }) t
+  sum-refused t = refl
+
+  pub split-refused :
+      (kt vt : Tables)
+      → splitTold (keptSplit n kt vt)
+      ≡ splitLeft (record { refusal = n; key = record { kind = 0; bytes = 0; rows = 0 }; value = record { kind = 0; bytes = 0; rows = 0 }; visited = 0 }) kt vt
+  split-refused kt vt = refl
+
+  pub totals-refused : (t : Tables) → totalsTold (keptTotals n t) ≡ totalsLeft (record { refusal = n; count = 0 }) t
+  totals-refused t = refl
+
+  pub structs-refused : (ts : List Total) (w : Tables) → structsTold (keptStructs n ts w) ≡ structsLeft (record { refusal = n; count = 0 }) ts w
+  structs-refused ts w = refl
+
+  pub repair-refused : (out os cs : List ℕ) → repairTold (keptRepair n out os cs) ≡ repairLeft (record { refusal = n; bytes = 0; lines = 0 }) out os cs
+  repair-refused out os cs = refl

@@ -1,0 +1,28 @@
+-- The text of some of the lines, and what putting it promises. Assumes nothing.
+use Prim.Native.Nat.{ℕ, _+_, _≤_, _<_}
+use mathlib.Core.List.{List}
+use lib.ListN.{length, take, drop}
+use Rattle.fields_spec.specs.Writing.{Put}
+use Rattle.repair_spec.specs.Changes.{Line}
+use Rattle.change_lines_spec.specs.Text.{lineText, linesText, linesIn}
+use Rattle.change_lines_spec.specs.declared.Chunk.{Chunk}
+
+-- no line is longer
+abbrev pub longest : ℕ
+longest = 36
+
+-- the lines from the place i up to the place end
+abbrev pub between : ℕ → ℕ → List ℕ → List ℕ → List Line
+between i end os cs = drop i (take end (linesIn os cs))
+
+-- a line's text stands at a place, and the place behind it is not far
+pub record OneLine (l : Line) (at next : ℕ) (old new : List ℕ) : Type 0 where
+  pub put : Put (lineText l) at next old new
+  pub short : next ≤ at + longest
+
+-- the text of the lines from a place up to another stands at the start; where any are left, that is one line at least
+pub record Chunked (os cs : List ℕ) (from : ℕ) (r : Chunk) (old new : List ℕ) : Type 0 where
+  pub put : Put (linesText (between from (r .next) os cs)) 0 (r .size) old new
+  pub goes-on : from < length os → from < r .next
+  pub inside : r .next ≤ length os
+  pub fits : r .size ≤ length new

@@ -1,0 +1,95 @@
+-- The round trip of the calls: what `serialize` wrote of proper flags is read back as these flags. Assumes nothing.
+use Prim.Native.Nat.{ℕ, zero, suc, _≤_, _<_}
+use native.Mathlib.Decide.{decLt}
+use native.Mathlib.Omega.{arith}
+use mathlib.Core.Path.{_≡_, refl, sym, ap, _∙_}
+use mathlib.Core.Bool.{Bool, true, false}
+use mathlib.Core.List.{List, [], _∷_}
+use lib.ListN.{length, getD, take}
+use Rattle.fields_spec.specs.Varint.{largest}
+use Rattle.fields_spec.proofs.RoundTrip.{Bytes}
+use Rattle.records_spec.specs.Tables.{recordsOf, ascending, over}
+use Rattle.records_spec.specs.Flags.{owned, ownerIf, flagsOf, proper}
+use Rattle.records_spec.specs.Answers.{Answer, ok, Written, writing}
+use Rattle.records_spec.specs.declared.head.Head.{Head}
+use Rattle.records_spec.proofs.Tables.{over-first}
+use Rattle.records_spec.proofs.Rising.{asc-head, asc-tail}
+use Rattle.records_spec.proofs.Proper.{proper-inv}
+use Rattle.records_spec.proofs.Answers.{refused-not-ok, writing-fits, writing-short}
+use Rattle.codec_spec.specs.Bytes.{bytesOf}
+use Rattle.codec_spec.specs.Reading.{someFlags, read}
+use Rattle.codec_spec.specs.Calls.{serialized, sizeOf}
+use Rattle.codec_spec.proofs.Writings.{serialized-proper, serialized-improper, size-proper}
+use Rattle.codec_spec.proofs.RoundTrip.{Canonical, Owned, unowned, owner}
+use Rattle.codec_spec.proofs.Canonical.{owns, Proper, read-back}
+
+-- what the types of a head and its tables say
+pub record InRange (h : Head) (es cs : List ℕ) : Type 0 where
+  pub base-fits : h .base < 65536
+  pub owner-long : length (h .owner) ≡ 32
+  pub owner-bytes : Bytes (h .owner)
+  pub epochs-fit : (i : ℕ) → getD es i 0 < 65536
+  pub counts-fit : (i : ℕ) → getD cs i 0 ≤ largest
+
+canonical : (n base : ℕ) (es cs : List ℕ) → ((i : ℕ) → getD es i 0 < 65536) → ((i : ℕ) → getD cs i 0 ≤ largest) → ascending base (take n es) ≡ true
+    → Canonical base (recordsOf (take n es) (take n cs))
+unfolding recordsOf
+canonical zero base es cs he hc a = tt
+canonical (suc n) base [] cs he hc a = tt
+canonical (suc n) base (e ∷ es) [] he hc a = tt
+canonical (suc n) base (e ∷ es) (c ∷ cs) he hc a =
+    (asc-head base e (take n es) a, he 0, hc 0, canonical n e es cs (λ i. he (suc i)) (λ i. hc (suc i)) (asc-tail base e (take n es) a))
+
+owner-fits : (b : Bool) (o : List ℕ) → length o ≡ 32 → Bytes o → Owned (owns (ownerIf b o)) (ownerIf b o)
+owner-fits true o n bs = owner o n bs
+owner-fits false o n bs = unowned
+
+-- a proper head and its tables stand for proper flags
+pub proper-flags : (h : Head) (es cs : List ℕ) → InRange h es cs → proper h es cs ≡ true → Proper (flagsOf h es cs)
+proper-flags h es cs r p =
+    record {
+      base-fits = r .base-fits;
+      owner-fits = owner-fits (owned (h .kind)) (h .owner) (r .owner-long) (r .owner-bytes);
+      records-fit = canonical (h .records) (h .base) es cs (r .epochs-fit) (r .counts-fit) (proper-inv h es cs p .ascends);
+    }
+
+-- a number of bytes that was answered is that of the bytes, and they had room
+record Fitted (xs out : List ℕ) (n : ℕ) : Type 0 where
+  pub count : n ≡ length xs
+  pub room : length xs ≤ length out
+
+fitted : (xs out : List ℕ) (n : ℕ) → writing xs out .answer ≡ ok n → Fitted xs out n
+fitted xs out n e =
+    elim (decLt (length out) (length xs)) [
+      | yes h ↦ absurd (refused-not-ok 10 n (sym (ap (λ (w : Written). w .answer) (writing-short xs out h)) ∙ e))
+      | no h ↦
+          let q : _≡_ {A = Answer ℕ} (ok (length xs)) (ok n) = sym (ap (λ (w : Written). w .answer) (writing-fits xs out (omega arith))) ∙ e in
+          let c : length xs ≡ n = cc in
+          record { count = sym c; room = omega arith }
+    ]
+
+-- flags that were written, n bytes of them
+module _ (h : Head) (es cs out : List ℕ) (n : ℕ) (e : serialized h es cs out .answer ≡ ok n) where
+  were-proper : proper h es cs ≡ true
+  were-proper = by (proper h es cs) refl
+    where
+      by : (b : Bool) → proper h es cs ≡ b → proper h es cs ≡ true
+      by true q = q
+      by false q = absurd (refused-not-ok 11 n (sym (ap (λ (w : Written). w .answer) (serialized-improper h es cs out q)) ∙ e))
+
+  were-fitted : Fitted (bytesOf (flagsOf h es cs)) out n
+  were-fitted = fitted (bytesOf (flagsOf h es cs)) out n (sym (ap (λ (w : Written). w .answer) (serialized-proper h es cs out were-proper)) ∙ e)
+
+  -- `serialized_size` IS THE LENGTH WRITTEN
+  pub size-written : sizeOf h es cs ≡ ok n
+  size-written = size-proper h es cs were-proper ∙ ap ok (sym (were-fitted .count))
+
+  -- WHAT WAS WRITTEN IS READ BACK
+  pub written-read : InRange h es cs → read (take n (serialized h es cs out .out)) ≡ someFlags (flagsOf h es cs)
+  written-read r =
+      let xs : List ℕ = bytesOf (flagsOf h es cs) in
+      let o : serialized h es cs out .out ≡ over xs out =
+      ap (λ (w : Written). w .out) (serialized-proper h es cs out were-proper ∙ writing-fits xs out (were-fitted .room)) in
+      ap (λ (l : List ℕ). read (take n l)) o
+      ∙ ap read (over-first xs out n (sym (were-fitted .count)))
+      ∙ read-back (flagsOf h es cs) (proper-flags h es cs r were-proper)

@@ -1,0 +1,9 @@
+// TODO head
+use records_spec::Refusal;
+
+// What reading a block finds: the first fault and its place; or how many records there are, the place behind them, and the epoch of the
+// last.
+pub enum Block {
+    Faulty(Refusal, usize),
+    Read { n: usize, next: usize, last: u16 },
+}

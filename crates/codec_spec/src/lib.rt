@@ -1,0 +1,13 @@
+// Flag bytes: what reading and writing answer and leave, and sizes.
+// No function: types, definitions, examples and laws, which the contracts of `codec` cite. See specs/ and proofs/.
+mod blocks;
+mod judging;
+mod record;
+mod sizes;
+
+pub use blocks::Block;
+pub use judging::Judgement;
+pub use judging::Scan;
+pub use judging::Verdict;
+pub use record::Got;
+pub use sizes::Changes;

@@ -1,0 +1,7 @@
+// TODO head
+
+// How many changes there are about, and the size of each, if given.
+pub enum Changes {
+    NotGiven,
+    Given(u16, u8),
+}

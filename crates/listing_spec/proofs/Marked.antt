@@ -1,0 +1,20 @@
+-- The marked texts of document 01: P5 as it stands there, and what is printed of P1, P3, P6 and P9, by computation.
+-- Assumes nothing.
+use mathlib.Core.Path.{_≡_, refl}
+use mathlib.Core.List.{[], _∷_}
+use Rattle.codec_spec.specs.Reading.{next, parse, readAs, read}
+use Rattle.fields_spec.specs.Big.{saidAfter}
+use Rattle.fields_spec.specs.Varint.{found, high, value, varint, groups}
+use Rattle.listing_spec.specs.Text.{ascii, digits, decimal, recordLines}
+use Rattle.listing_spec.specs.Listed.{listed}
+
+pub record MarkedTexts : Type 0 where
+  pub p1 : listed [] ≡ ascii "none\n"
+  pub p3 : listed (0x00 ∷ 0x05 ∷ []) ≡ ascii "refused 2\n"
+  pub p5 : listed (0x01 ∷ 0x00 ∷ 0x05 ∷ 0x00 ∷ 0x07 ∷ 0xAC ∷ 0x02 ∷ []) ≡ ascii "kind 1\nbase 5\nepoch 7 bytes 300\nrecords 1\n"
+  pub p6 : listed (0x01 ∷ 0x00 ∷ 0x05 ∷ 0x00 ∷ 0x05 ∷ 0x01 ∷ []) ≡ ascii "refused 3\n"
+  pub p9 : listed (0x04 ∷ []) ≡ ascii "refused 1\n"
+
+pub marked-texts : MarkedTexts
+unfolding listed read readAs parse next found high value varint groups saidAfter decimal digits recordLines
+marked-texts = record { p1 = refl; p3 = refl; p5 = refl; p6 = refl; p9 = refl }

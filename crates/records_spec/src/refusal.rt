@@ -1,0 +1,16 @@
+// TODO head
+
+// Document 01's refusals, in the order of their numbers.
+pub enum Refusal {
+    UnknownType,
+    WrongSize,
+    NonCanonical,
+    DifferentBaseEpoch,
+    DifferentOwners,
+    Overflow,
+    NoStorageAtEpoch,
+    RemovalTooLarge,
+    TotalTooLarge,
+    NoRoom,
+    BadTable,
+}

@@ -1,0 +1,8 @@
+// TODO head
+use records_spec::Refusal;
+
+// How many bytes were written and how many lines listed, or a refusal.
+pub enum Outcome {
+    Done { bytes: usize, lines: usize },
+    Refused(Refusal),
+}

@@ -1,0 +1,10 @@
+// Rows of a sectioned removal in three tables, their order, and the removal state.
+// No function: types, definitions, examples and laws, which the contracts of `rows` cite. See specs/ and proofs/.
+mod order;
+mod removed;
+
+pub use order::Order;
+pub use removed::HasRemoval;
+pub use removed::Removed;
+pub use removed::StorageRemovedBytes;
+pub use removed::Total;

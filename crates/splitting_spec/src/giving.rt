@@ -1,0 +1,7 @@
+// TODO head
+
+// How many records were visited, and what they left for the base.
+pub struct Visited {
+    pub records: usize,
+    pub left: u32,
+}

@@ -1,0 +1,7 @@
+// TODO head
+
+// A place, and the total of the row that stands there; 0 where it is another owner's or epoch's, or none.
+pub struct Spot {
+    pub place: usize,
+    pub total: u64,
+}

@@ -1,0 +1,8 @@
+// TODO head
+
+// A number of rows, or why the change is refused.
+pub enum Judged {
+    Mismatch,
+    TooLarge,
+    Number(usize),
+}
