@@ -3,3 +3,4 @@ pub mod Telling
 pub mod Marked
 pub mod Walking
 pub mod Only
+pub mod Examples
