@@ -111,17 +111,17 @@ adds-optional = (refl, refl)
 
 pub removes :
     (flagsTold (combinedRemovedC (head 1 5 1) (7 ∷ []) (300 ∷ []) (head 0 9 0) [] [] (removal 2 0 1) (one zeros 7 100) 0 (0 ∷ []) (0 ∷ []))
-      ≡ flagsLeft (answers (head 1 5 1)) (7 ∷ []) (200 ∷ []))
+    ≡ flagsLeft (answers (head 1 5 1)) (7 ∷ []) (200 ∷ []))
     × (flagsTold (combinedRemovedC (head 1 5 1) (7 ∷ []) (300 ∷ []) (head 0 5 0) [] [] (removal 3 0 1) (one zeros 7 100) 0 (0 ∷ []) (0 ∷ []))
-      ≡ flagsLeft (refusesFlags 11) (0 ∷ []) (0 ∷ []))
+    ≡ flagsLeft (refusesFlags 11) (0 ∷ []) (0 ∷ []))
 unfolding combinedRemoved removed allUnder fault minus recordsOf epochsOf countsOf ascending put union has held same proper after order ascends idsOf partsOf rowsUnder rowsOf properRows
 removes = (refl, refl)
 
 pub removes-optional :
     (flagsTold (optionalCombinedRemovedC 0 (head 9 5 0) [] [] (head 0 6 0) [] [] (removal 2 0 1) (one zeros 7 100) 0 (0 ∷ []) (0 ∷ []))
-      ≡ flagsLeft (answers (head 0 6 0)) (0 ∷ []) (0 ∷ []))
+    ≡ flagsLeft (answers (head 0 6 0)) (0 ∷ []) (0 ∷ []))
     × (flagsTold (optionalCombinedRemovedC 1 (head 9 5 0) [] [] (head 0 6 0) [] [] (removal 2 0 1) (one zeros 7 100) 0 (0 ∷ []) (0 ∷ []))
-      ≡ flagsLeft (refusesFlags 11) (0 ∷ []) (0 ∷ []))
+    ≡ flagsLeft (refusesFlags 11) (0 ∷ []) (0 ∷ []))
 unfolding combinedRemoved handedOn removed allUnder fault minus recordsOf epochsOf countsOf ascending put union has held same proper after order ascends idsOf partsOf rowsUnder rowsOf properRows
 removes-optional = (refl, refl)
 
@@ -129,9 +129,9 @@ removes-optional = (refl, refl)
 
 pub splits :
     (splitTold (splitRemovedC (head 1 5 1) (7 ∷ []) (300 ∷ []) 4 10 (one [] 0 0) (one [] 0 0))
-      ≡ splitLeft (record { refusal = 0; key = removal 2 0 1; value = removal 2 0 1; visited = 1 }) (one zeros 5 4) (one zeros 7 10))
+    ≡ splitLeft (record { refusal = 0; key = removal 2 0 1; value = removal 2 0 1; visited = 1 }) (one zeros 5 4) (one zeros 7 10))
     × (splitTold (splitRemovedC (head 4 5 1) (7 ∷ []) (300 ∷ []) 4 10 (one [] 0 0) (one [] 0 0))
-      ≡ splitLeft (record { refusal = 11; key = removal 0 0 0; value = removal 0 0 0; visited = 0 }) (one [] 0 0) (one [] 0 0))
+    ≡ splitLeft (record { refusal = 11; key = removal 0 0 0; value = removal 0 0 0; visited = 0 }) (one [] 0 0) (one [] 0 0))
 unfolding splitRemoved placingSplit split sections section spare recordsOf epochsOf countsOf ascending put union has held same proper after order ascends idsOf partsOf rowsUnder rowsOf properRows
 splits = (refl, refl)
 
@@ -140,7 +140,7 @@ pub sums :
     let t = tables ([] ∷ [] ∷ []) (0 ∷ 0 ∷ []) (0 ∷ 0 ∷ []) in
     (sumTold (summedC 0 (removal 1 5 0) t (removal 2 0 1) (one zeros 7 100)) ≡ sumLeft (record { refusal = 0; removal = removal 2 0 0 }) t)
     × (sumTold (summedC 1 (removal 1 5 0) t (removal 2 0 1) (one zeros 7 100))
-      ≡ sumLeft (record { refusal = 0; removal = removal 2 0 2 }) (tables (zeros ∷ zeros ∷ []) (7 ∷ 65535 ∷ []) (100 ∷ 5 ∷ [])))
+    ≡ sumLeft (record { refusal = 0; removal = removal 2 0 2 }) (tables (zeros ∷ zeros ∷ []) (7 ∷ 65535 ∷ []) (100 ∷ 5 ∷ [])))
     × (sumTold (summedC 1 (removal 3 5 0) t (removal 2 0 1) (one zeros 7 100)) ≡ sumLeft (record { refusal = 11; removal = removal 0 0 0 }) t)
 unfolding summed placingSum addRow anyOfZeros withoutZeros basicPlus recordsOf epochsOf countsOf ascending put union has held same proper after order ascends idsOf partsOf rowsUnder rowsOf properRows
 sums = (refl, refl, refl)
@@ -168,7 +168,7 @@ replaces = (refl, refl)
 pub replaces-structs :
     let ts : List Total = record { owner = []; epoch = 0; total = 0 } ∷ [] in
     (structsTold (structsReplacedC 0 ts (one [] 0 0) 0 (head 9 0 0) [] [] 1 (theirs 3 5 1) (7 ∷ []) (300 ∷ []))
-      ≡ structsLeft (counts 1) (record { owner = sevens; epoch = 7; total = 300 } ∷ []) (one sevens 7 300))
+    ≡ structsLeft (counts 1) (record { owner = sevens; epoch = 7; total = 300 } ∷ []) (one sevens 7 300))
     × (structsTold (structsReplacedC 0 ts (one [] 0 0) 1 (head 9 0 0) [] [] 1 (theirs 3 5 1) (7 ∷ []) (300 ∷ [])) ≡ structsLeft (refuses 11) ts (one [] 0 0))
 unfolding replacingStructs verdict placingStructs ownersOf epochsIn totalsOf structs replacing placingTotals properTable covered fits above totalAt putTotal addCounts takeCounts recordsOf epochsOf countsOf ascending put union has held same proper after order ascends idsOf partsOf rowsUnder rowsOf properRows
 replaces-structs = (refl, refl)

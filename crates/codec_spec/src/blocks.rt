@@ -1,4 +1,4 @@
-// TODO head
+// What reading a block of records finds.
 use records_spec::Refusal;
 
 // What reading a block finds: the first fault and its place; or how many records there are, the place behind them, and the epoch of the

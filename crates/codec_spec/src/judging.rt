@@ -1,4 +1,4 @@
-// TODO head
+// What the first pass of reading finds.
 use records_spec::Head;
 use records_spec::Refusal;
 

@@ -1,4 +1,4 @@
-// TODO head
+// What reading one record finds.
 use records_spec::Refusal;
 
 // What reading a record finds: why it is refused, or its epoch, its count and the place behind it.

@@ -1,4 +1,4 @@
-// TODO head
+// What the size of flags to be made is asked for.
 
 // How many changes there are about, and the size of each, if given.
 pub enum Changes {

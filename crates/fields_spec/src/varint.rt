@@ -1,4 +1,4 @@
-// TODO head
+// What judging and reading a varint find.
 
 // Where the varint at a place ends, or why it is refused, with the place.
 pub enum Judged {

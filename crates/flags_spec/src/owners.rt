@@ -1,4 +1,4 @@
-// TODO head
+// Strategies and choices of the owner rule.
 use records_spec::MaybeOwner;
 use records_spec::Refusal;
 

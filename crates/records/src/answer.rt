@@ -1,4 +1,4 @@
-// What calls answer. An enum cannot hold a head, whose owner is an array, so the head stands beside the outcome.
+// The answers of calls that answer flags, and room.
 ghost use mathlib.Core.Path.{_≡_};
 ghost use Rattle.records_spec.specs.Flags.{noHead};
 ghost use Rattle.records_spec.specs.Answers.{roomFor};

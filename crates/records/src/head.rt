@@ -1,4 +1,4 @@
-// The head of flags, by value, and the calls on it alone.
+// The calls on the head of flags alone.
 ghost use mathlib.Core.Path.{_≡_};
 ghost use mathlib.Core.Option.{none};
 ghost use Rattle.records_spec.specs.Flags.{owned, multi, typeByte, kindOfByte, ownerIf, same, ownerOf, maybeOwner, headFor, withOwner};

@@ -1,4 +1,4 @@
-// Why a call is refused.
+// The numbers of refusals.
 ghost use mathlib.Core.Path.{_≡_};
 ghost use Rattle.records_spec.specs.Refusals.{number};
 use records_spec::Refusal;

@@ -1,4 +1,4 @@
-// TODO head
+// What calls answer. An enum cannot hold a head, whose owner is an array, so the head stands beside the outcome.
 use crate::head::Head;
 use crate::refusal::Refusal;
 

@@ -1,4 +1,4 @@
-// TODO head
+// The head of flags, by value.
 
 // Who paid.
 pub type OwnerId = [u8; 32];

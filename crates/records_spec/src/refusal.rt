@@ -1,4 +1,4 @@
-// TODO head
+// Why a call is refused.
 
 // Document 01's refusals, in the order of their numbers.
 pub enum Refusal {

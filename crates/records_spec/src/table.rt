@@ -1,4 +1,4 @@
-// TODO head
+// What looking at the two tables of records finds.
 
 // What stands around an epoch: how many records are below it, how many are at most there, and the count there, or 0.
 pub struct Spot {

@@ -1,4 +1,4 @@
-// TODO head
+// What looking for the sections of a removal finds.
 use records_spec::Refusal;
 
 // Whether a record stands at an epoch, and its count.

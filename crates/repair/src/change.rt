@@ -1,4 +1,4 @@
-// What repairing changes.
+// The numbers of changes.
 ghost use mathlib.Core.Path.{_≡_};
 ghost use Rattle.repair_spec.specs.Changes.{changeNumber};
 use repair_spec::Change;

@@ -1,4 +1,4 @@
-// TODO head
+// What repairing changes.
 
 // The changes, in the order of their numbers.
 pub enum Change {

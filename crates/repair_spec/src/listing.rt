@@ -1,4 +1,4 @@
-// TODO head
+// What listing the changes goes on with.
 
 // The place behind a record's lines, and the highest epoch kept with it.
 pub struct Behind {

@@ -1,4 +1,4 @@
-// TODO head
+// What reading an old record finds.
 
 // What reading an old record finds: none, since it is cut; one whose count is too large, and the place behind it; or one whose count
 // fits 32 bits.

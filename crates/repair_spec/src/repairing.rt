@@ -1,4 +1,4 @@
-// TODO head
+// What a repair answers.
 use records_spec::Refusal;
 
 // How many bytes were written and how many lines listed, or a refusal.

@@ -1,4 +1,4 @@
-// TODO head
+// How two rows stand to each other.
 
 // How one thing stands to another.
 pub enum Order {

@@ -1,4 +1,4 @@
-// TODO head
+// The removal state, and what the calls on it answer.
 use records_spec::Refusal;
 
 // None, one number, or a number of rows.

@@ -1,4 +1,4 @@
-// TODO head
+// What visiting the records finds.
 
 // How many records were visited, and what they left for the base.
 pub struct Visited {

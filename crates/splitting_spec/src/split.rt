@@ -1,4 +1,4 @@
-// TODO head
+// What a split answers.
 use records_spec::Refusal;
 use rows_spec::StorageRemovedBytes;
 

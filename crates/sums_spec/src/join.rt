@@ -1,4 +1,4 @@
-// TODO head
+// What joining rows from the back finds.
 
 // The last row of a join, and how many rows of both sides are before it.
 pub struct LastRow {

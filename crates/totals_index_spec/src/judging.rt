@@ -1,4 +1,4 @@
-// TODO head
+// What judging the table of structs goes on with.
 use totals_spec::Named;
 
 // What is known of a table after some of its rows: whether they are proper, the last of them, how many old counts no row holds yet, whether

@@ -1,4 +1,4 @@
-// TODO head
+// A row of totals as a struct.
 
 // A row of the table: who paid, in which epoch, and how many bytes in all.
 #[repr(C)]

@@ -1,4 +1,4 @@
-// TODO head
+// What looking for a pair of owner and epoch finds.
 
 // A place, and the total of the row that stands there; 0 where it is another owner's or epoch's, or none.
 pub struct Spot {

@@ -1,4 +1,4 @@
-// TODO head
+// What judging a change finds.
 
 // A number of rows, or why the change is refused.
 pub enum Judged {

@@ -1,4 +1,4 @@
-// TODO head
+// What a change of totals answers, and whose rows it is about.
 use records_spec::Refusal;
 
 // The new number of rows, or a refusal; 14 is told by a name of its own.
