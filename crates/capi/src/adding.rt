@@ -2,8 +2,6 @@
 ghost use mathlib.Core.Path.{_≡_};
 ghost use Rattle.capi_spec.specs.Told.{flagsLeft, flagsTold};
 ghost use Rattle.capi_spec.specs.Calls.{combinedAddedC, optionalCombinedAddedC};
-use crate::given;
-use crate::told;
 use capi_spec::CFlags;
 use capi_spec::CHead;
 use records_spec::Refusal;
@@ -24,21 +22,21 @@ pub extern "C" fn petasunok_combine_added_bytes(
 ) -> CFlags
     ensures { λ r. ⌜ flagsLeft r (now (epochs .exit)) (now (counts .exit)) ≡ flagsTold (combinedAddedC ours (now («ours_epochs» .entry)) (now («ours_counts» .entry)) theirs (now («theirs_epochs» .entry)) (now («theirs_counts» .entry)) amount strategy (now (epochs .entry)) (now (counts .entry))) ⌝ }
 {
-    if given::can_merge(true, ours, theirs, strategy) {
-        return told::flags(flags::combine_added_bytes(
-            given::head(ours),
+    if capi_given::can_merge(true, ours, theirs, strategy) {
+        return capi_told::flags(flags::combine_added_bytes(
+            capi_given::head(ours),
             ours_epochs,
             ours_counts,
-            given::head(theirs),
+            capi_given::head(theirs),
             theirs_epochs,
             theirs_counts,
             amount,
-            given::strategy(strategy),
+            capi_given::strategy(strategy),
             epochs,
             counts,
         ));
     }
-    told::flags(records::refused(Refusal::BadTable))
+    capi_told::flags(records::refused(Refusal::BadTable))
 }
 
 // The same where ours may be absent; then ours is not looked at.
@@ -58,20 +56,20 @@ pub extern "C" fn petasunok_optional_combine_added_bytes(
 ) -> CFlags
     ensures { λ r. ⌜ flagsLeft r (now (epochs .exit)) (now (counts .exit)) ≡ flagsTold (optionalCombinedAddedC present ours (now («ours_epochs» .entry)) (now («ours_counts» .entry)) theirs (now («theirs_epochs» .entry)) (now («theirs_counts» .entry)) amount strategy (now (epochs .entry)) (now (counts .entry))) ⌝ }
 {
-    if given::can_merge(given::is_true(present), ours, theirs, strategy) {
-        return told::flags(flags::optional_combine_added_bytes(
-            given::is_true(present),
-            given::head(ours),
+    if capi_given::can_merge(capi_given::is_true(present), ours, theirs, strategy) {
+        return capi_told::flags(flags::optional_combine_added_bytes(
+            capi_given::is_true(present),
+            capi_given::head(ours),
             ours_epochs,
             ours_counts,
-            given::head(theirs),
+            capi_given::head(theirs),
             theirs_epochs,
             theirs_counts,
             amount,
-            given::strategy(strategy),
+            capi_given::strategy(strategy),
             epochs,
             counts,
         ));
     }
-    told::flags(records::refused(Refusal::BadTable))
+    capi_told::flags(records::refused(Refusal::BadTable))
 }

@@ -4,8 +4,6 @@ ghost use Rattle.records_spec.specs.Flags.{ownerIf, headFor};
 ghost use Rattle.capi_spec.specs.Given.{isTrue};
 ghost use Rattle.capi_spec.specs.Told.{headTold, headAnswer, countTold, ownerIdTold};
 ghost use Rattle.capi_spec.specs.Calls.{withOwnerC, baseC, ownerIdC, typeByteC};
-use crate::given;
-use crate::told;
 use capi_spec::CCount;
 use capi_spec::CFlags;
 use capi_spec::CHead;
@@ -23,10 +21,10 @@ pub extern "C" fn petasunok_new_single_epoch(epoch: u16, owned: u8, owner: CId) 
 {
     let id = owner.bytes;
     let maybe_owner_id = MaybeOwner {
-        owned: given::is_true(owned),
+        owned: capi_given::is_true(owned),
         id,
     };
-    told::head(records::new_single_epoch(epoch, maybe_owner_id))
+    capi_told::head(records::new_single_epoch(epoch, maybe_owner_id))
 }
 
 // The head with another owner, where it is owned.
@@ -34,12 +32,12 @@ pub extern "C" fn petasunok_new_single_epoch(epoch: u16, owned: u8, owner: CId) 
 pub extern "C" fn petasunok_set_owner_id(head: CHead, owner: CId) -> CFlags
     ensures { λ r. ⌜ r ≡ headAnswer (withOwnerC head owner) ⌝ }
 {
-    if given::is_kind(head.kind) {
-        let found = given::head(head);
+    if capi_given::is_kind(head.kind) {
+        let found = capi_given::head(head);
         let id = owner.bytes;
-        return told::flags(records::present(records::set_owner_id(found, id)));
+        return capi_told::flags(records::present(records::set_owner_id(found, id)));
     }
-    told::flags(records::refused(Refusal::BadTable))
+    capi_told::flags(records::refused(Refusal::BadTable))
 }
 
 // The epoch of the bytes that no record counts.
@@ -47,11 +45,11 @@ pub extern "C" fn petasunok_set_owner_id(head: CHead, owner: CId) -> CFlags
 pub extern "C" fn petasunok_base_epoch(head: CHead) -> CCount
     ensures { λ r. ⌜ r ≡ countTold (baseC head) ⌝ }
 {
-    if given::is_kind(head.kind) {
-        let found = given::head(head);
-        return told::count(Counted::Count(records::base_epoch(found) as usize));
+    if capi_given::is_kind(head.kind) {
+        let found = capi_given::head(head);
+        return capi_told::count(Counted::Count(records::base_epoch(found) as usize));
     }
-    told::count(Counted::Refused(Refusal::BadTable))
+    capi_told::count(Counted::Refused(Refusal::BadTable))
 }
 
 // The owner or none.
@@ -59,11 +57,11 @@ pub extern "C" fn petasunok_base_epoch(head: CHead) -> CCount
 pub extern "C" fn petasunok_owner_id(head: CHead) -> CMaybeOwner
     ensures { λ r. ⌜ r ≡ ownerIdTold (ownerIdC head) ⌝ }
 {
-    if given::is_kind(head.kind) {
-        let found = given::head(head);
-        return told::owner_id(records::owner_id(found));
+    if capi_given::is_kind(head.kind) {
+        let found = capi_given::head(head);
+        return capi_told::owner_id(records::owner_id(found));
     }
-    told::no_owner_id(Refusal::BadTable)
+    capi_told::no_owner_id(Refusal::BadTable)
 }
 
 // Byte 0 of the flags.
@@ -71,9 +69,9 @@ pub extern "C" fn petasunok_owner_id(head: CHead) -> CMaybeOwner
 pub extern "C" fn petasunok_type_byte(head: CHead) -> CCount
     ensures { λ r. ⌜ r ≡ countTold (typeByteC head) ⌝ }
 {
-    if given::is_kind(head.kind) {
-        let found = given::head(head);
-        return told::count(Counted::Count(records::type_byte(found) as usize));
+    if capi_given::is_kind(head.kind) {
+        let found = capi_given::head(head);
+        return capi_told::count(Counted::Count(records::type_byte(found) as usize));
     }
-    told::count(Counted::Refused(Refusal::BadTable))
+    capi_told::count(Counted::Refused(Refusal::BadTable))
 }

@@ -1,6 +1,5 @@
 // Every public call under a name and in a form that C can call: a static library. A slice passes as a pointer and a length.
 mod adding;
-mod given;
 mod heads;
 mod owners;
 mod reading;
@@ -9,5 +8,4 @@ mod removing;
 mod repairing;
 mod replacing;
 mod structs;
-mod told;
 mod writing;

@@ -2,8 +2,6 @@
 ghost use mathlib.Core.Path.{_≡_};
 ghost use Rattle.capi_spec.specs.Told.{ownerTold};
 ghost use Rattle.capi_spec.specs.Calls.{ownerC};
-use crate::given;
-use crate::told;
 use capi_spec::COwner;
 use flags_spec::Choice;
 use records_spec::Refusal;
@@ -13,8 +11,12 @@ use records_spec::Refusal;
 pub extern "C" fn petasunok_combine_owner_id(ours: &[u8], theirs: &[u8], strategy: u8) -> COwner
     ensures { λ r. ⌜ r ≡ ownerTold (ownerC strategy (now (ours .entry)) (now (theirs .entry))) ⌝ }
 {
-    if given::is_strategy(strategy) {
-        return told::owner(flags::choose_owner_id(ours, theirs, given::strategy(strategy)));
+    if capi_given::is_strategy(strategy) {
+        return capi_told::owner(flags::choose_owner_id(
+            ours,
+            theirs,
+            capi_given::strategy(strategy),
+        ));
     }
-    told::owner(Choice::Refused(Refusal::BadTable))
+    capi_told::owner(Choice::Refused(Refusal::BadTable))
 }

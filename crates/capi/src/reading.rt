@@ -3,7 +3,6 @@ ghost use mathlib.Core.Path.{_≡_};
 ghost use Rattle.records_spec.specs.declared.head.Kind.the-variants.{SingleEpoch, MultiEpoch, SingleEpochOwned, MultiEpochOwned};
 ghost use Rattle.codec_spec.specs.Calls.{deserializedAs, deserialized};
 ghost use Rattle.capi_spec.specs.Told.{flagsLeft, flagsTold};
-use crate::told;
 use capi_spec::CFlags;
 
 // Reads flags of the kind that byte 0 names.
@@ -15,7 +14,7 @@ pub extern "C" fn petasunok_deserialize(
 ) -> CFlags
     ensures { λ r. ⌜ flagsLeft r (now (epochs .exit)) (now (counts .exit)) ≡ flagsTold (deserialized (now (src .entry)) (now (epochs .entry)) (now (counts .entry))) ⌝ }
 {
-    told::flags(codec::deserialize(src, epochs, counts))
+    capi_told::flags(codec::deserialize(src, epochs, counts))
 }
 
 // Reads flags of kind 0, whatever byte 0 says.
@@ -27,7 +26,7 @@ pub extern "C" fn petasunok_deserialize_single_epoch(
 ) -> CFlags
     ensures { λ r. ⌜ flagsLeft r (now (epochs .exit)) (now (counts .exit)) ≡ flagsTold (deserializedAs SingleEpoch (now (src .entry)) (now (epochs .entry)) (now (counts .entry))) ⌝ }
 {
-    told::flags(codec::deserialize_single_epoch(src, epochs, counts))
+    capi_told::flags(codec::deserialize_single_epoch(src, epochs, counts))
 }
 
 // Reads flags of kind 1, whatever byte 0 says.
@@ -39,7 +38,7 @@ pub extern "C" fn petasunok_deserialize_multi_epoch(
 ) -> CFlags
     ensures { λ r. ⌜ flagsLeft r (now (epochs .exit)) (now (counts .exit)) ≡ flagsTold (deserializedAs MultiEpoch (now (src .entry)) (now (epochs .entry)) (now (counts .entry))) ⌝ }
 {
-    told::flags(codec::deserialize_multi_epoch(src, epochs, counts))
+    capi_told::flags(codec::deserialize_multi_epoch(src, epochs, counts))
 }
 
 // Reads flags of kind 2, whatever byte 0 says.
@@ -51,7 +50,7 @@ pub extern "C" fn petasunok_deserialize_single_epoch_owned(
 ) -> CFlags
     ensures { λ r. ⌜ flagsLeft r (now (epochs .exit)) (now (counts .exit)) ≡ flagsTold (deserializedAs SingleEpochOwned (now (src .entry)) (now (epochs .entry)) (now (counts .entry))) ⌝ }
 {
-    told::flags(codec::deserialize_single_epoch_owned(src, epochs, counts))
+    capi_told::flags(codec::deserialize_single_epoch_owned(src, epochs, counts))
 }
 
 // Reads flags of kind 3, whatever byte 0 says.
@@ -63,5 +62,5 @@ pub extern "C" fn petasunok_deserialize_multi_epoch_owned(
 ) -> CFlags
     ensures { λ r. ⌜ flagsLeft r (now (epochs .exit)) (now (counts .exit)) ≡ flagsTold (deserializedAs MultiEpochOwned (now (src .entry)) (now (epochs .entry)) (now (counts .entry))) ⌝ }
 {
-    told::flags(codec::deserialize_multi_epoch_owned(src, epochs, counts))
+    capi_told::flags(codec::deserialize_multi_epoch_owned(src, epochs, counts))
 }

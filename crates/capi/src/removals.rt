@@ -3,8 +3,6 @@ ghost use mathlib.Core.Path.{_≡_};
 ghost use Rattle.rows_spec.specs.Rows.{tables};
 ghost use Rattle.capi_spec.specs.Told.{countTold, truthTold, sumLeft, sumTold, splitLeft, splitTold};
 ghost use Rattle.capi_spec.specs.Calls.{splitRemovedC, summedC, hasRemovalC, totalRemovedC};
-use crate::given;
-use crate::told;
 use capi_spec::CCount;
 use capi_spec::CHead;
 use capi_spec::CRemoval;
@@ -33,9 +31,9 @@ pub extern "C" fn petasunok_split_storage_removed_bytes(
 ) -> CSplit
     ensures { λ r. ⌜ splitLeft r (tables (now («key_ids» .exit)) (now («key_epochs» .exit)) (now («key_bytes» .exit))) (tables (now («value_ids» .exit)) (now («value_epochs» .exit)) (now («value_bytes» .exit))) ≡ splitTold (splitRemovedC flags (now («flags_epochs» .entry)) (now («flags_counts» .entry)) key value (tables (now («key_ids» .entry)) (now («key_epochs» .entry)) (now («key_bytes» .entry))) (tables (now («value_ids» .entry)) (now («value_epochs» .entry)) (now («value_bytes» .entry)))) ⌝ }
 {
-    if given::is_kind(flags.kind) {
-        return told::split(splitting::split_storage_removed_bytes(
-            given::head(flags),
+    if capi_given::is_kind(flags.kind) {
+        return capi_told::split(splitting::split_storage_removed_bytes(
+            capi_given::head(flags),
             flags_epochs,
             flags_counts,
             key,
@@ -48,7 +46,7 @@ pub extern "C" fn petasunok_split_storage_removed_bytes(
             value_bytes,
         ));
     }
-    told::split(Splitting::Refused(Refusal::BadTable))
+    capi_told::split(Splitting::Refused(Refusal::BadTable))
 }
 
 // Adds the right removal to the left one, in the left one's tables.
@@ -66,23 +64,23 @@ pub extern "C" fn petasunok_add_assign(
 ) -> CSum
     ensures { λ r. ⌜ sumLeft r (tables (now («lhs_ids» .exit)) (now («lhs_epochs» .exit)) (now («lhs_bytes» .exit))) ≡ sumTold (summedC version lhs (tables (now («lhs_ids» .entry)) (now («lhs_epochs» .entry)) (now («lhs_bytes» .entry))) rhs (tables (now («rhs_ids» .entry)) (now («rhs_epochs» .entry)) (now («rhs_bytes» .entry)))) ⌝ }
 {
-    if given::is_removal(lhs.kind) {
-        if given::is_removal(rhs.kind) {
-            return told::sum(sums::add_assign(
-                given::removal(lhs),
+    if capi_given::is_removal(lhs.kind) {
+        if capi_given::is_removal(rhs.kind) {
+            return capi_told::sum(sums::add_assign(
+                capi_given::removal(lhs),
                 lhs_ids,
                 lhs_epochs,
                 lhs_bytes,
-                given::removal(rhs),
+                capi_given::removal(rhs),
                 rhs_ids,
                 rhs_epochs,
                 rhs_bytes,
                 version,
             ));
         }
-        return told::sum(Summed::Refused(Refusal::BadTable));
+        return capi_told::sum(Summed::Refused(Refusal::BadTable));
     }
-    told::sum(Summed::Refused(Refusal::BadTable))
+    capi_told::sum(Summed::Refused(Refusal::BadTable))
 }
 
 // Whether anything was removed: 1 or 0.
@@ -95,15 +93,15 @@ pub extern "C" fn petasunok_has_removal(
 ) -> CCount
     ensures { λ r. ⌜ r ≡ truthTold (hasRemovalC removal (tables (now («removal_ids» .entry)) (now («removal_epochs» .entry)) (now («removal_bytes» .entry)))) ⌝ }
 {
-    if given::is_removal(removal.kind) {
-        return told::has(rows::has_removal(
-            given::removal(removal),
+    if capi_given::is_removal(removal.kind) {
+        return capi_told::has(rows::has_removal(
+            capi_given::removal(removal),
             removal_ids,
             removal_epochs,
             removal_bytes,
         ));
     }
-    told::has(HasRemoval::Refused(Refusal::BadTable))
+    capi_told::has(HasRemoval::Refused(Refusal::BadTable))
 }
 
 // All bytes of a removal.
@@ -116,13 +114,13 @@ pub extern "C" fn petasunok_total_removed_bytes(
 ) -> CCount
     ensures { λ r. ⌜ r ≡ countTold (totalRemovedC removal (tables (now («removal_ids» .entry)) (now («removal_epochs» .entry)) (now («removal_bytes» .entry)))) ⌝ }
 {
-    if given::is_removal(removal.kind) {
-        return told::total(rows::total_removed_bytes(
-            given::removal(removal),
+    if capi_given::is_removal(removal.kind) {
+        return capi_told::total(rows::total_removed_bytes(
+            capi_given::removal(removal),
             removal_ids,
             removal_epochs,
             removal_bytes,
         ));
     }
-    told::total(Total::Refused(Refusal::BadTable))
+    capi_told::total(Total::Refused(Refusal::BadTable))
 }

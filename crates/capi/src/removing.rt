@@ -3,8 +3,6 @@ ghost use mathlib.Core.Path.{_≡_};
 ghost use Rattle.rows_spec.specs.Rows.{tables};
 ghost use Rattle.capi_spec.specs.Told.{flagsLeft, flagsTold};
 ghost use Rattle.capi_spec.specs.Calls.{combinedRemovedC, optionalCombinedRemovedC};
-use crate::given;
-use crate::told;
 use capi_spec::CFlags;
 use capi_spec::CHead;
 use capi_spec::CRemoval;
@@ -29,27 +27,27 @@ pub extern "C" fn petasunok_combine_removed_bytes(
 ) -> CFlags
     ensures { λ r. ⌜ flagsLeft r (now (epochs .exit)) (now (counts .exit)) ≡ flagsTold (combinedRemovedC ours (now («ours_epochs» .entry)) (now («ours_counts» .entry)) theirs (now («theirs_epochs» .entry)) (now («theirs_counts» .entry)) removal (tables (now («removal_ids» .entry)) (now («removal_epochs» .entry)) (now («removal_bytes» .entry))) strategy (now (epochs .entry)) (now (counts .entry))) ⌝ }
 {
-    if given::can_merge(true, ours, theirs, strategy) {
-        if given::is_removal(removal.kind) {
-            return told::flags(removal::combine_removed_bytes(
-                given::head(ours),
+    if capi_given::can_merge(true, ours, theirs, strategy) {
+        if capi_given::is_removal(removal.kind) {
+            return capi_told::flags(removal::combine_removed_bytes(
+                capi_given::head(ours),
                 ours_epochs,
                 ours_counts,
-                given::head(theirs),
+                capi_given::head(theirs),
                 theirs_epochs,
                 theirs_counts,
-                given::removal(removal),
+                capi_given::removal(removal),
                 removal_ids,
                 removal_epochs,
                 removal_bytes,
-                given::strategy(strategy),
+                capi_given::strategy(strategy),
                 epochs,
                 counts,
             ));
         }
-        return told::flags(records::refused(Refusal::BadTable));
+        return capi_told::flags(records::refused(Refusal::BadTable));
     }
-    told::flags(records::refused(Refusal::BadTable))
+    capi_told::flags(records::refused(Refusal::BadTable))
 }
 
 // The same where ours may be absent; then ours is not looked at.
@@ -72,26 +70,26 @@ pub extern "C" fn petasunok_optional_combine_removed_bytes(
 ) -> CFlags
     ensures { λ r. ⌜ flagsLeft r (now (epochs .exit)) (now (counts .exit)) ≡ flagsTold (optionalCombinedRemovedC present ours (now («ours_epochs» .entry)) (now («ours_counts» .entry)) theirs (now («theirs_epochs» .entry)) (now («theirs_counts» .entry)) removal (tables (now («removal_ids» .entry)) (now («removal_epochs» .entry)) (now («removal_bytes» .entry))) strategy (now (epochs .entry)) (now (counts .entry))) ⌝ }
 {
-    if given::can_merge(given::is_true(present), ours, theirs, strategy) {
-        if given::is_removal(removal.kind) {
-            return told::flags(removal::optional_combine_removed_bytes(
-                given::is_true(present),
-                given::head(ours),
+    if capi_given::can_merge(capi_given::is_true(present), ours, theirs, strategy) {
+        if capi_given::is_removal(removal.kind) {
+            return capi_told::flags(removal::optional_combine_removed_bytes(
+                capi_given::is_true(present),
+                capi_given::head(ours),
                 ours_epochs,
                 ours_counts,
-                given::head(theirs),
+                capi_given::head(theirs),
                 theirs_epochs,
                 theirs_counts,
-                given::removal(removal),
+                capi_given::removal(removal),
                 removal_ids,
                 removal_epochs,
                 removal_bytes,
-                given::strategy(strategy),
+                capi_given::strategy(strategy),
                 epochs,
                 counts,
             ));
         }
-        return told::flags(records::refused(Refusal::BadTable));
+        return capi_told::flags(records::refused(Refusal::BadTable));
     }
-    told::flags(records::refused(Refusal::BadTable))
+    capi_told::flags(records::refused(Refusal::BadTable))
 }

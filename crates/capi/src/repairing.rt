@@ -2,7 +2,6 @@
 ghost use mathlib.Core.Path.{_≡_};
 ghost use Rattle.repair_spec.specs.Calls.{repairedInto};
 ghost use Rattle.capi_spec.specs.Told.{repairLeft, repairTold};
-use crate::told;
 use capi_spec::CRepaired;
 
 // Writes canonical bytes for old ones, and lists the changes with their offsets.
@@ -15,5 +14,5 @@ pub extern "C" fn petasunok_repair(
 ) -> CRepaired
     ensures { λ r. ⌜ repairLeft r (now (out .exit)) (now (offsets .exit)) (now (changes .exit)) ≡ repairTold (repairedInto (now (src .entry)) (now (out .entry)) (now (offsets .entry)) (now (changes .entry))) ⌝ }
 {
-    told::repaired(repair::repair(src, out, offsets, changes))
+    capi_told::repaired(repair::repair(src, out, offsets, changes))
 }

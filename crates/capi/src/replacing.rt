@@ -3,8 +3,6 @@ ghost use mathlib.Core.Path.{_≡_};
 ghost use Rattle.rows_spec.specs.Rows.{tables};
 ghost use Rattle.capi_spec.specs.Told.{totalsLeft, totalsTold};
 ghost use Rattle.capi_spec.specs.Calls.{totalsReplacedC};
-use crate::given;
-use crate::told;
 use capi_spec::CCount;
 use capi_spec::CHead;
 
@@ -26,21 +24,21 @@ pub extern "C" fn petasunok_totals_replace(
 ) -> CCount
     ensures { λ r. ⌜ totalsLeft r (tables (now (owners .exit)) (now (epochs .exit)) (now (totals .exit))) ≡ totalsTold (totalsReplacedC rows (tables (now (owners .entry)) (now (epochs .entry)) (now (totals .entry))) «old_present» old (now («old_epochs» .entry)) (now («old_counts» .entry)) «new_present» new (now («new_epochs» .entry)) (now («new_counts» .entry))) ⌝ }
 {
-    if given::can_replace(old_present, old, new_present, new) {
-        return told::replaced(totals::replace(
+    if capi_given::can_replace(old_present, old, new_present, new) {
+        return capi_told::replaced(totals::replace(
             rows,
             owners,
             epochs,
             totals,
-            given::is_true(old_present),
-            given::head(old),
+            capi_given::is_true(old_present),
+            capi_given::head(old),
             old_epochs,
             old_counts,
-            given::is_true(new_present),
-            given::head(new),
+            capi_given::is_true(new_present),
+            capi_given::head(new),
             new_epochs,
             new_counts,
         ));
     }
-    told::bad_table()
+    capi_told::bad_table()
 }

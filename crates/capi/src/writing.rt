@@ -4,8 +4,6 @@ ghost use Rattle.codec_spec.specs.Sizes.{approximate};
 ghost use Rattle.capi_spec.specs.Given.{isTrue, changesGiven};
 ghost use Rattle.capi_spec.specs.Told.{countTold, bytesLeft, bytesTold};
 ghost use Rattle.capi_spec.specs.Calls.{serializedC, sizeC};
-use crate::given;
-use crate::told;
 use capi_spec::CCount;
 use capi_spec::CHead;
 use records_spec::Counted;
@@ -21,10 +19,15 @@ pub extern "C" fn petasunok_serialize(
 ) -> CCount
     ensures { λ r. ⌜ bytesLeft r (now (out .exit)) ≡ bytesTold (serializedC flags (now («flags_epochs» .entry)) (now («flags_counts» .entry)) (now (out .entry))) ⌝ }
 {
-    if given::is_kind(flags.kind) {
-        return told::count(codec::serialize(given::head(flags), flags_epochs, flags_counts, out));
+    if capi_given::is_kind(flags.kind) {
+        return capi_told::count(codec::serialize(
+            capi_given::head(flags),
+            flags_epochs,
+            flags_counts,
+            out,
+        ));
     }
-    told::count(Counted::Refused(Refusal::BadTable))
+    capi_told::count(Counted::Refused(Refusal::BadTable))
 }
 
 // The number of bytes of flags.
@@ -36,10 +39,14 @@ pub extern "C" fn petasunok_serialized_size(
 ) -> CCount
     ensures { λ r. ⌜ r ≡ countTold (sizeC flags (now («flags_epochs» .entry)) (now («flags_counts» .entry))) ⌝ }
 {
-    if given::is_kind(flags.kind) {
-        return told::count(codec::serialized_size(given::head(flags), flags_epochs, flags_counts));
+    if capi_given::is_kind(flags.kind) {
+        return capi_told::count(codec::serialized_size(
+            capi_given::head(flags),
+            flags_epochs,
+            flags_counts,
+        ));
     }
-    told::count(Counted::Refused(Refusal::BadTable))
+    capi_told::count(Counted::Refused(Refusal::BadTable))
 }
 
 // The size of flags before they are made.
@@ -53,7 +60,7 @@ pub extern "C" fn petasunok_approximate_size(
     ensures { λ r. ⌜ r ≡ approximate (isTrue «has_owner») (changesGiven given changes size) ⌝ }
 {
     codec::approximate_size(
-        given::is_true(has_owner),
-        given::changes(given, changes, size),
+        capi_given::is_true(has_owner),
+        capi_given::changes(given, changes, size),
     )
 }

@@ -10,7 +10,6 @@ ghost use Rattle.codec_spec.specs.Bytes.{headSize};
 ghost use Rattle.repair_spec.specs.Repairing.{repairedAs};
 ghost use Rattle.repair_spec.specs.Calls.{shown, after, repairedInto};
 ghost use Rattle.repair_spec.specs.Steps.{allEpochs, kindLeft, Blank, Standing, Ready};
-use crate::listing::list_changes;
 use crate::marking::EPOCHS;
 use crate::marking::gather;
 use crate::marking::mark;
@@ -20,6 +19,7 @@ use records_spec::Head;
 use records_spec::Kind;
 use records_spec::KindByte;
 use records_spec::Refusal;
+use repair_listing::list_changes;
 use repair_spec::Outcome;
 
 // Writes the flags that are left and lists the changes, where both have room. The lines are counted first.

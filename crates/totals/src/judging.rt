@@ -8,7 +8,7 @@ ghost use Rattle.rows_spec.specs.Rows.{row, tables, rowsIn};
 ghost use Rattle.totals_spec.specs.Table.{totalAt};
 ghost use Rattle.totals_spec.specs.Replacing.{covered};
 ghost use Rattle.totals_spec.specs.Steps.{under, judged, judgedOld, judgedNew, Standing};
-use crate::finding::look_up;
+use totals_rows::look_up;
 use totals_spec::Judged;
 
 // The largest total.

@@ -9,11 +9,10 @@ ghost use Rattle.totals_spec.specs.Steps.{under, judged, countedRows, namedBy, 
 ghost use Rattle.totals_spec.specs.Calls.{shown, placing, given, properGiven, replacing};
 use crate::judging::judge_new;
 use crate::judging::judge_old;
-use crate::table;
-use crate::writing::add_rows;
-use crate::writing::take_rows;
 use records_spec::Head;
 use records_spec::Refusal;
+use totals_rows::add_rows;
+use totals_rows::take_rows;
 use totals_spec::Judged;
 use totals_spec::Named;
 use totals_spec::Replaced;
@@ -78,7 +77,7 @@ fn write(
     requires { ⌜ ok count ≡ countedRows (changed (under «old_owner» (now «old_epochs») (now «old_counts»)) (under «new_owner» (now «new_epochs») (now «new_counts»)) (rowsIn n (tables (now owners) (now epochs) (now totals)))) ⌝ }
     ensures { λ r. ⌜ shown r (tables (now (owners .exit)) (now (epochs .exit)) (now (totals .exit))) ≡ placing (changed (under «old_owner» (now («old_epochs» .entry)) (now («old_counts» .entry))) (under «new_owner» (now («new_epochs» .entry)) (now («new_counts» .entry))) (rowsIn n (tables (now (owners .entry)) (now (epochs .entry)) (now (totals .entry))))) (tables (now (owners .entry)) (now (epochs .entry)) (now (totals .entry))) ⌝ }
 {
-    if table::fit(count, owners, epochs, totals) {
+    if totals_rows::fit(count, owners, epochs, totals) {
         let left = take_rows(owners, epochs, totals, n, old_owner, old_epochs, old_counts);
         add_rows(
             owners,
@@ -188,7 +187,7 @@ pub fn replace(
 ) -> Replaced
     ensures { λ r. ⌜ shown r (tables (now (owners .exit)) (now (epochs .exit)) (now (totals .exit))) ≡ replacing rows (tables (now (owners .entry)) (now (epochs .entry)) (now (totals .entry))) (properGiven «old_present» old (now («old_epochs» .entry)) (now («old_counts» .entry)) && properGiven «new_present» new (now («new_epochs» .entry)) (now («new_counts» .entry))) (given «old_present» old (now («old_epochs» .entry)) (now («old_counts» .entry))) (given «new_present» new (now («new_epochs» .entry)) (now («new_counts» .entry))) ⌝ }
 {
-    if table::is_proper(rows, owners, epochs, totals) {
+    if totals_rows::is_proper(rows, owners, epochs, totals) {
         if is_good(old_present, old, old_epochs, old_counts) {
             if is_good(new_present, new, new_epochs, new_counts) {
                 let taken = names_of(old_present, old);

@@ -1,4 +1,5 @@
-// A line of the list, read byte by byte: hex digits of a question, `=`, hex digits of the reply. Blanks may stand anywhere.
+// A line of the list, read byte by byte: hex digits of a question, `=`, hex digits of the reply. Blanks may stand anywhere. The bytes of
+// both stand in one text, the reply's behind the question's.
 
 // What has come of a line.
 const NOTHING: u8 = 0;
@@ -14,14 +15,14 @@ const WRONG: u8 = 4;
 // No digit; also what is said of a byte that is none.
 const NO_DIGIT: u8 = 16;
 
-// The state of a line: its number, what has come, the first digit of a byte whose second is to come, and the bytes of the question and
-// of the reply so far.
+// The state of a line: its number, what has come, the first digit of a byte whose second is to come, and where the reply begins and ends in
+// the text.
 pub struct Line {
     pub number: u64,
     pub part: u8,
     pub digit: u8,
-    pub asked: usize,
-    pub told: usize,
+    pub turn: usize,
+    pub end: usize,
 }
 
 impl Line {
@@ -31,8 +32,8 @@ impl Line {
             number,
             part: NOTHING,
             digit: NO_DIGIT,
-            asked: 0,
-            told: 0,
+            turn: 0,
+            end: 0,
         }
     }
 
@@ -64,7 +65,8 @@ impl Line {
     }
 
     // The line with the `=`, which stands behind the question's whole bytes.
-    fn turned(self) -> Self {
+    fn turned(mut self) -> Self {
+        self.turn = self.end;
         if self.part == QUESTION {
             if self.digit == NO_DIGIT {
                 return self.with(REPLY);
@@ -84,28 +86,19 @@ impl Line {
     }
 
     // The line with one byte more, if there is room for it.
-    fn with_byte(mut self, byte: u8, question: &mut [u8], reply: &mut [u8]) -> Self {
+    fn with_byte(mut self, byte: u8, text: &mut [u8]) -> Self {
         self.digit = NO_DIGIT;
-        let asked = self.asked;
-        let told = self.told;
-        if self.part == REPLY {
-            if told < reply.len() {
-                reply[told] = byte;
-                self.told = told + 1;
-                return self;
-            }
-            return self.with(WRONG);
-        }
-        if asked < question.len() {
-            question[asked] = byte;
-            self.asked = asked + 1;
+        let end = self.end;
+        if end < text.len() {
+            text[end] = byte;
+            self.end = end + 1;
             return self;
         }
         self.with(WRONG)
     }
 
-    // The line with one byte of text more.
-    pub fn step(self, byte: u8, question: &mut [u8], reply: &mut [u8]) -> Self {
+    // The line with one byte of the list more.
+    pub fn step(self, byte: u8, text: &mut [u8]) -> Self {
         if self.part == COMMENT {
             return self;
         }
@@ -118,12 +111,12 @@ impl Line {
                 }
                 self.with(WRONG)
             }
-            _ => self.with_digit(digit_of(byte), question, reply),
+            _ => self.with_digit(digit_of(byte), text),
         }
     }
 
     // The line with one digit more; what is none makes the line wrong.
-    fn with_digit(self, digit: u8, question: &mut [u8], reply: &mut [u8]) -> Self {
+    fn with_digit(self, digit: u8, text: &mut [u8]) -> Self {
         if NO_DIGIT <= digit {
             return self.with(WRONG);
         }
@@ -131,7 +124,7 @@ impl Line {
             return self;
         }
         if self.digit < NO_DIGIT {
-            return self.with_byte(self.digit * 16 + digit, question, reply);
+            return self.with_byte(self.digit * 16 + digit, text);
         }
         self.begun(digit)
     }

@@ -4,9 +4,9 @@ mod names;
 mod tally;
 
 use crate::line::Line;
-use crate::tally::CALLS;
-use crate::tally::count;
-use crate::tally::name_fault;
+use crate::tally::PLACES;
+use crate::tally::agrees;
+use crate::tally::differs;
 use libc::STDIN_FILENO;
 use replay::Verdict;
 
@@ -16,12 +16,14 @@ struct Turn {
     more: bool,
 }
 
-// The first n bytes, or all where they are fewer.
-fn first(bytes: &[u8], n: usize) -> &[u8] {
-    if n <= bytes.len() {
-        return &bytes[0..n];
+// The bytes from a place up to another; none where these are not places in that order.
+fn part(bytes: &[u8], from: usize, to: usize) -> &[u8] {
+    if from <= to {
+        if to <= bytes.len() {
+            return &bytes[from..to];
+        }
     }
-    bytes
+    &bytes[0..0]
 }
 
 // A byte as a place.
@@ -38,94 +40,66 @@ fn call_of(question: &[u8]) -> usize {
 }
 
 // Replays a question and its reply, and counts what comes of it.
-fn judge(number: u64, question: &[u8], reply: &[u8], agree: &mut [u64], differ: &mut [u64]) {
-    let call = call_of(question);
+fn judge(number: u64, question: &[u8], reply: &[u8], tally: &mut [u64]) {
     match replay::replay(question, reply) {
-        Verdict::Agrees => count(agree, call),
-        Verdict::Differs => {
-            name_fault(number, call, differ);
-            count(differ, call);
-        }
-        Verdict::NoQuestion => {
-            name_fault(number, 0, differ);
-            count(differ, 0);
-        }
+        Verdict::Agrees => agrees(call_of(question), tally),
+        Verdict::Differs => differs(number, call_of(question), tally),
+        Verdict::NoQuestion => differs(number, 0, tally),
     }
 }
 
 // Judges a line that has ended.
-fn end(line: Line, question: &[u8], reply: &[u8], agree: &mut [u64], differ: &mut [u64]) {
+fn end(line: Line, text: &[u8], tally: &mut [u64]) {
     if line.is_passed_over() {
         return;
     }
     if line.is_whole() {
-        let asked = first(question, line.asked);
-        let told = first(reply, line.told);
-        judge(line.number, asked, told, agree, differ);
+        let question = part(text, 0, line.turn);
+        let reply = part(text, line.turn, line.end);
+        judge(line.number, question, reply, tally);
         return;
     }
-    name_fault(line.number, 0, differ);
-    count(differ, 0);
+    differs(line.number, 0, tally);
 }
 
-// Takes one byte of text; answers the line that it is on, or behind it the next one.
-fn take(
-    byte: u8,
-    line: Line,
-    question: &mut [u8],
-    reply: &mut [u8],
-    agree: &mut [u64],
-    differ: &mut [u64],
-) -> Line {
+// Takes one byte of the list; answers the line that it is on, or behind it the next one.
+fn take(byte: u8, line: Line, text: &mut [u8], tally: &mut [u64]) -> Line {
     if byte == b'\n' {
-        end(line, question, reply, agree, differ);
+        end(line, text, tally);
         return line.next();
     }
-    line.step(byte, question, reply)
+    line.step(byte, text)
 }
 
-// Takes a piece of the text.
-fn take_piece(
-    piece: &[u8],
-    begun: Line,
-    question: &mut [u8],
-    reply: &mut [u8],
-    agree: &mut [u64],
-    differ: &mut [u64],
-) -> Line {
+// Takes a piece of the list.
+fn take_piece(piece: &[u8], begun: Line, text: &mut [u8], tally: &mut [u64]) -> Line {
     let mut line = begun;
     let mut k: usize = 0;
     while k < piece.len() {
-        line = take(piece[k], line, question, reply, agree, differ);
+        line = take(piece[k], line, text, tally);
         k += 1;
     }
     line
 }
 
 // Reads a piece of standard input and takes it; behind the last piece the last line ends.
-fn read_piece(
-    line: Line,
-    question: &mut [u8],
-    reply: &mut [u8],
-    agree: &mut [u64],
-    differ: &mut [u64],
-) -> Turn {
+fn read_piece(line: Line, text: &mut [u8], tally: &mut [u64]) -> Turn {
     let mut piece = io::large_buffer();
     let got = io::read_full(STDIN_FILENO, &mut piece);
     if got == 0 {
-        end(line, question, reply, agree, differ);
+        end(line, text, tally);
         return Turn { line, more: false };
     }
-    let line = take_piece(&piece[..got], line, question, reply, agree, differ);
+    let line = take_piece(&piece[..got], line, text, tally);
     Turn { line, more: true }
 }
 
 // Reads all of standard input. A proved loop has to end, so it counts its turns down from a number that no run uses up.
-fn read_all(question: &mut [u8], reply: &mut [u8], agree: &mut [u64], differ: &mut [u64]) {
+fn read_all(text: &mut [u8], tally: &mut [u64]) {
     let mut line = Line::new(1);
     let mut turns = u64::MAX;
     while 0 < turns {
-        let turn = read_piece(line, question, reply, agree, differ);
+        let turn = read_piece(line, text, tally);
         if turn.more {
             line = turn.line;
             turns -= 1;
@@ -136,10 +110,8 @@ fn read_all(question: &mut [u8], reply: &mut [u8], agree: &mut [u64], differ: &m
 }
 
 fn main() {
-    let mut question = [0u8; 1024];
-    let mut reply = [0u8; 1024];
-    let mut agree = [0u64; CALLS];
-    let mut differ = [0u64; CALLS];
-    read_all(&mut question, &mut reply, &mut agree, &mut differ);
-    tally::print(&agree, &differ);
+    let mut text = [0u8; 2048];
+    let mut tally = [0u64; PLACES];
+    read_all(&mut text, &mut tally);
+    tally::print(&tally);
 }

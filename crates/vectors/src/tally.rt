@@ -1,53 +1,72 @@
-// How many answers agree and how many differ, by call. Place 0 counts lines that are no vectors.
+// How many answers agree and how many differ, by call: the first places of a tally count those that agree, one for each call number, and the
+// others those that differ. Place 0 of these counts lines that are no vectors.
 use crate::names::print_name;
 use libc::STDOUT_FILENO;
 
-// The places of a tally: one for each call number, and place 0.
-pub const CALLS: usize = 25;
+// One more than the largest call number.
+const CALLS: usize = 25;
+
+// The places of a tally.
+pub const PLACES: usize = 50;
 
 // The most faults that are named.
 const NAMED: u64 = 10;
 
-// Counts one more at a place.
-pub fn count(tally: &mut [u64], call: usize) {
-    if call < tally.len() {
-        let n = tally[call];
-        tally[call] = std::num::wrapping_add_u64(n, 1);
-    }
-}
-
 // What stands at a place.
-fn count_at(tally: &[u64], call: usize) -> u64 {
-    if call < tally.len() {
-        return tally[call];
+fn count_at(tally: &[u64], at: usize) -> u64 {
+    if at < tally.len() {
+        return tally[at];
     }
     0
 }
 
-// The sum of all places.
-fn total(tally: &[u64]) -> u64 {
+// Counts one more at a place.
+fn count(tally: &mut [u64], at: usize) {
+    if at < tally.len() {
+        let n = tally[at];
+        tally[at] = std::num::wrapping_add_u64(n, 1);
+    }
+}
+
+// The sum of the places from one up to another.
+fn total(tally: &[u64], from: usize, to: usize) -> u64 {
     let mut sum: u64 = 0;
-    let mut call: usize = 0;
-    while call < tally.len() {
-        sum = std::num::wrapping_add_u64(sum, tally[call]);
-        call += 1;
+    let mut at = from;
+    while at < to {
+        sum = std::num::wrapping_add_u64(sum, count_at(tally, at));
+        at += 1;
     }
     sum
 }
 
-// Names a line that differs or is no vector, where it is one of the first; call before it is counted.
-pub fn name_fault(number: u64, call: usize, differ: &[u64]) {
-    if total(differ) < NAMED {
+// Counts an answer that agrees.
+pub fn agrees(call: usize, tally: &mut [u64]) {
+    if call < CALLS {
+        count(tally, call);
+    }
+}
+
+// Counts a line that differs, or under 0 one that is no vector; the first ones are named.
+pub fn differs(number: u64, call: usize, tally: &mut [u64]) {
+    if total(tally, CALLS, PLACES) < NAMED {
         io::write_all(STDOUT_FILENO, b"line ");
         io::print_decimal(STDOUT_FILENO, number);
         io::write_all(STDOUT_FILENO, b": ");
-        if call == 0 {
-            io::write_all(STDOUT_FILENO, b"not a vector\n");
-            return;
-        }
-        print_name(call);
-        io::write_all(STDOUT_FILENO, b" differs\n");
+        name_fault(call);
     }
+    if call < CALLS {
+        count(tally, CALLS + call);
+    }
+}
+
+// Says what is wrong with a line.
+fn name_fault(call: usize) {
+    if call == 0 {
+        io::write_all(STDOUT_FILENO, b"not a vector\n");
+        return;
+    }
+    print_name(call);
+    io::write_all(STDOUT_FILENO, b" differs\n");
 }
 
 // Writes how many of so many agree.
@@ -58,20 +77,23 @@ fn print_share(agree: u64, differ: u64) {
 }
 
 // Writes the line of a call.
-fn print_call(call: usize, agree: &[u64], differ: &[u64]) {
+fn print_call(call: usize, tally: &[u64]) {
     print_name(call);
     io::write_all(STDOUT_FILENO, b": ");
-    print_share(count_at(agree, call), count_at(differ, call));
+    print_share(
+        count_at(tally, call),
+        count_at(tally, std::num::wrapping_add_usize(CALLS, call)),
+    );
     io::write_all(STDOUT_FILENO, b"\n");
 }
 
 // Writes the line of each call, and the last line.
-pub fn print(agree: &[u64], differ: &[u64]) {
+pub fn print(tally: &[u64]) {
     let mut call: usize = 1;
     while call < CALLS {
-        print_call(call, agree, differ);
+        print_call(call, tally);
         call += 1;
     }
-    print_share(total(agree), total(differ));
+    print_share(total(tally, 0, CALLS), total(tally, CALLS, PLACES));
     io::write_all(STDOUT_FILENO, b" answers agree\n");
 }

@@ -6,10 +6,10 @@ use Rattle.vectors.proofs.read_all.Statement.{statement}
 use Rattle.vectors.proofs.read_all.Tie as tie
 
 abbrev Inv-loop : tie.InvT-loop
-Inv-loop question₀ reply₀ agree₀ differ₀ line₀ turns₀ question reply agree differ line turns = ((length question ≡ length question₀) × (length reply ≡ length reply₀)) × ((length agree ≡ length agree₀) × (length differ ≡ length differ₀))
+Inv-loop text₀ tally₀ line₀ turns₀ text tally line turns = (length text ≡ length text₀) × (length tally ≡ length tally₀)
 
 abbrev μ-loop : tie.MeasureT-loop
-μ-loop question₀ reply₀ agree₀ differ₀ line₀ turns₀ question reply agree differ line turns = turns
+μ-loop text₀ tally₀ line₀ turns₀ text tally line turns = turns
 
 pub read-all-spec : {M : Type 1} → statement M
 read-all-spec =

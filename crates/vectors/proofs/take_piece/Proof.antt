@@ -7,10 +7,10 @@ use Rattle.vectors.proofs.take_piece.Statement.{statement}
 use Rattle.vectors.proofs.take_piece.Tie as tie
 
 abbrev Inv-loop : tie.InvT-loop
-Inv-loop piece question₀ reply₀ agree₀ differ₀ line₀ k₀ question reply agree differ line k = ((length question ≡ length question₀) × (length reply ≡ length reply₀)) × ((length agree ≡ length agree₀) × (length differ ≡ length differ₀))
+Inv-loop piece text₀ tally₀ line₀ k₀ text tally line k = (length text ≡ length text₀) × (length tally ≡ length tally₀)
 
 abbrev μ-loop : tie.MeasureT-loop
-μ-loop piece question₀ reply₀ agree₀ differ₀ line₀ k₀ question reply agree differ line k = length piece - k
+μ-loop piece text₀ tally₀ line₀ k₀ text tally line k = length piece - k
 
 pub take-piece-spec : {M : Type 1} → statement M
 take-piece-spec =

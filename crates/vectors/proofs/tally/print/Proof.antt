@@ -5,10 +5,10 @@ use Rattle.vectors.proofs.tally.print.Statement.{statement}
 use Rattle.vectors.proofs.tally.print.Tie as tie
 
 abbrev Inv-loop : tie.InvT-loop
-Inv-loop agree differ call₀ t4 call = Unit {0}
+Inv-loop tally call₀ t4 call = Unit {0}
 
 abbrev μ-loop : tie.MeasureT-loop
-μ-loop agree differ call₀ t4 call = 25 - call
+μ-loop tally call₀ t4 call = 25 - call
 
 pub print-spec : {M : Type 1} → statement M
 print-spec =

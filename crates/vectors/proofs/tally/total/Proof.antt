@@ -1,15 +1,14 @@
 -- `vectors::total` is safe and ends: the measure is the number of places left. Assumes nothing.
 use Prim.Native.Nat.{_-_}
-use lib.ListN.{length}
 use borrow.Author.Needs.{needs}
 use Rattle.vectors.proofs.tally.total.Statement.{statement}
 use Rattle.vectors.proofs.tally.total.Tie as tie
 
 abbrev Inv-loop : tie.InvT-loop
-Inv-loop tally sum₀ call₀ sum call = Unit {0}
+Inv-loop tally to sum₀ at₀ sum at = Unit {0}
 
 abbrev μ-loop : tie.MeasureT-loop
-μ-loop tally sum₀ call₀ sum call = length tally - call
+μ-loop tally to sum₀ at₀ sum at = to - at
 
 pub total-spec : {M : Type 1} → statement M
 total-spec =

@@ -1,7 +1,0 @@
--- `capi::told::head` meets its contract: but for the kind, every field is the head's. Assumes nothing.
-use borrow.Author.Needs.{needs}
-use Rattle.capi.proofs.told.head.Statement.{statement}
-use Rattle.capi.proofs.told.head.Tie as tie
-
-pub head-spec : {M : Type 1} → statement M
-head-spec = tie.close (tie.spec (λ c κs. search needs) (λ c. rw (c .kind-byte .ensures)))
