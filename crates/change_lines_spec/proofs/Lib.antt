@@ -2,3 +2,4 @@
 pub mod Texts
 pub mod Chunks
 pub mod Repairs
+pub mod Marked

@@ -1,11 +1,13 @@
--- The marked texts of document 01: P5 as it stands there, and what is printed of P1, P3, P6 and P9, by computation.
+-- The marked texts of document 01: P5 as it stands there, and what is printed of P1, P3, P6 and P9; an owner; and the longest input that is read.
+-- By computation.
 -- Assumes nothing.
 use mathlib.Core.Path.{_≡_, refl}
-use mathlib.Core.List.{[], _∷_}
+use mathlib.Core.List.{[], _∷_, _++_}
+use lib.ListN.{replicate}
 use Rattle.codec_spec.specs.Reading.{next, parse, readAs, read}
 use Rattle.fields_spec.specs.Big.{saidAfter}
 use Rattle.fields_spec.specs.Varint.{found, high, value, varint, groups}
-use Rattle.listing_spec.specs.Text.{ascii, digits, decimal, recordLines}
+use Rattle.listing_spec.specs.Text.{ascii, digits, decimal, hex, recordLines}
 use Rattle.listing_spec.specs.Listed.{listed}
 
 pub record MarkedTexts : Type 0 where
@@ -18,3 +20,13 @@ pub record MarkedTexts : Type 0 where
 pub marked-texts : MarkedTexts
 unfolding listed read readAs parse next found high value varint groups saidAfter decimal digits recordLines
 marked-texts = record { p1 = refl; p3 = refl; p5 = refl; p6 = refl; p9 = refl }
+
+-- an owner's bytes in small letters
+pub owned : listed (0x02 ∷ (replicate 32 0xAF ++ (0x00 ∷ 0x05 ∷ []))) ≡ ascii "kind 2\nowner afafafafafafafafafafafafafafafafafafafafafafafafafafafafafafafaf\nbase 5\nrecords 0\n"
+unfolding listed read readAs parse next found high value varint groups saidAfter decimal digits hex recordLines
+owned = refl
+
+-- 7,203 bytes are read, and one more are too long
+pub longest-read : (listed (replicate 7203 0) ≡ ascii "refused 2\n") × (listed (replicate 7204 0) ≡ ascii "too long\n")
+unfolding listed read readAs parse next found high value varint groups saidAfter decimal digits recordLines
+longest-read = (refl, refl)

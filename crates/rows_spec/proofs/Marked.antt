@@ -42,6 +42,7 @@ pub examples : List Example
 examples =
     example None (two 1 2 3 4) (ok false) (ok 0)
     ∷ example (Basic 0) (two 1 2 3 4) (ok false) (ok 0)
+    ∷ example (Basic 1) (two 1 2 3 4) (ok true) (ok 1)
     ∷ example (Basic 4294967295) (two 1 2 3 4) (ok true) (ok 4294967295)
     ∷ example (Sectioned 0) (two 1 2 3 4) (ok false) (ok 0)
     ∷ example (Sectioned 1) (two 1 2 0 4) (ok false) (ok 0)
