@@ -1,7 +1,4 @@
 // Totals per owner and epoch in a lent slice of structs: the table is taken apart into a work area, changed there, and put together again.
-mod judging;
 mod replacing;
-mod structs;
-mod work;
 
 pub use replacing::replace;

@@ -6,17 +6,17 @@ ghost use Rattle.totals_spec.specs.Calls.{given, properGiven};
 ghost use Rattle.totals_spec.specs.Steps.{countedRows};
 ghost use Rattle.totals_index_spec.specs.Calls.{shown, verdict, replacingStructs};
 ghost use Rattle.totals_index_spec.specs.Judging.{verdictOf};
-use crate::judging::judge_rows;
-use crate::judging::rows_to_judge;
-use crate::judging::start;
-use crate::structs::put_together;
-use crate::structs::take_apart;
-use crate::work::replace_in;
-use crate::work::rows_to_put;
-use crate::work::rows_to_take;
 use records_spec::Head;
+use totals_index_judging::judge_rows;
+use totals_index_judging::rows_to_judge;
+use totals_index_judging::start;
 use totals_index_spec::Judging;
 use totals_index_spec::Total;
+use totals_index_work::put_together;
+use totals_index_work::replace_in;
+use totals_index_work::rows_to_put;
+use totals_index_work::rows_to_take;
+use totals_index_work::take_apart;
 use totals_spec::Replaced;
 
 // Makes a change that was judged, where it is accepted and has room.

@@ -70,26 +70,26 @@ use Rattle.totals_index_spec.proofs.structs.Total as T
 use Rattle.totals_index_spec.proofs.Lends.{All, mut-out, mut-in, shr-out, shr-in}
 use Rattle.totals_index_spec.proofs.Walks.{Id, IsJudging, JudgingTyped, judging-val, judging-vals, judging-typed}
 use Rattle.totals_index_spec.proofs.Indexing.{taken, can-take, Put, can-put}
-use Rattle.totals_index.proofs.work.rows_to_take as counts
-use Rattle.totals_index.proofs.work.rows_to_take.Symbol as counts-def
-use Rattle.totals_index.proofs.work.rows_to_take.Symbol.{name as #counts}
-use Rattle.totals_index.proofs.work.rows_to_take.Met as counts-thm
-use Rattle.totals_index.proofs.structs.take_apart as takes
-use Rattle.totals_index.proofs.structs.take_apart.Symbol as takes-def
-use Rattle.totals_index.proofs.structs.take_apart.Symbol.{name as #takes}
-use Rattle.totals_index.proofs.structs.take_apart.Met as takes-thm
-use Rattle.totals_index.proofs.work.replace_in as replaces
-use Rattle.totals_index.proofs.work.replace_in.Symbol as replaces-def
-use Rattle.totals_index.proofs.work.replace_in.Symbol.{name as #replaces}
-use Rattle.totals_index.proofs.work.replace_in.Met as replaces-thm
-use Rattle.totals_index.proofs.work.rows_to_put as rows
-use Rattle.totals_index.proofs.work.rows_to_put.Symbol as rows-def
-use Rattle.totals_index.proofs.work.rows_to_put.Symbol.{name as #rows}
-use Rattle.totals_index.proofs.work.rows_to_put.Met as rows-thm
-use Rattle.totals_index.proofs.structs.put_together as puts
-use Rattle.totals_index.proofs.structs.put_together.Symbol as puts-def
-use Rattle.totals_index.proofs.structs.put_together.Symbol.{name as #puts}
-use Rattle.totals_index.proofs.structs.put_together.Met as puts-thm
+use Rattle.totals_index_work.proofs.rows_to_take as counts
+use Rattle.totals_index_work.proofs.rows_to_take.Symbol as counts-def
+use Rattle.totals_index_work.proofs.rows_to_take.Symbol.{name as #counts}
+use Rattle.totals_index_work.proofs.rows_to_take.Met as counts-thm
+use Rattle.totals_index_work.proofs.take_apart as takes
+use Rattle.totals_index_work.proofs.take_apart.Symbol as takes-def
+use Rattle.totals_index_work.proofs.take_apart.Symbol.{name as #takes}
+use Rattle.totals_index_work.proofs.take_apart.Met as takes-thm
+use Rattle.totals_index_work.proofs.replace_in as replaces
+use Rattle.totals_index_work.proofs.replace_in.Symbol as replaces-def
+use Rattle.totals_index_work.proofs.replace_in.Symbol.{name as #replaces}
+use Rattle.totals_index_work.proofs.replace_in.Met as replaces-thm
+use Rattle.totals_index_work.proofs.rows_to_put as rows
+use Rattle.totals_index_work.proofs.rows_to_put.Symbol as rows-def
+use Rattle.totals_index_work.proofs.rows_to_put.Symbol.{name as #rows}
+use Rattle.totals_index_work.proofs.rows_to_put.Met as rows-thm
+use Rattle.totals_index_work.proofs.put_together as puts
+use Rattle.totals_index_work.proofs.put_together.Symbol as puts-def
+use Rattle.totals_index_work.proofs.put_together.Symbol.{name as #puts}
+use Rattle.totals_index_work.proofs.put_together.Met as puts-thm
 use Rattle.totals_index.proofs.replacing.replace_judged.Key.{name as #replace}
 use Rattle.totals_index.proofs.replacing.replace_judged as replace
 use Rattle.totals_index.proofs.replacing.replace_judged.Statement as stated
