@@ -1,33 +1,48 @@
 -- `capi::removing::petasunok_optional_combine_removed_bytes` meets its contract: the call's own answer is told, or 11. Assumes nothing.
-use mathlib.Core.Path.{_≡_, sym, _∙_}
+use mathlib.Core.Path.{_∙_}
 use Rattle.capi_spec.proofs.Telling.{when-true, flags-told, flags-bad}
-use mathlib.Core.Bool.{true, false, _&&_}
-use Rattle.capi_spec.specs.Given.{isTrue, canMerge, isRemoval}
+use Rattle.capi_spec.proofs.Testing.{merges, second-tells, first-fails}
+use Rattle.capi_spec.specs.Given.{isRemoval}
 use borrow.Author.Needs.{needs}
 use Rattle.capi.proofs.removing.petasunok_optional_combine_removed_bytes.Statement.{statement}
 use Rattle.capi.proofs.removing.petasunok_optional_combine_removed_bytes.Tie as tie
 
 returns : tie.Need-returns
 returns c =
-    let a = c .before .before .before .before .before .before .before .before .before .before .before .before .before .before .before .before .before .before .before .before .before .before .before .before .before .before .args in
-    let m : canMerge (isTrue (a .present)) (a .ours) (a .theirs) (a .strategy) ≡ true = simp (sym (c .before .before .before .before .before .before .before .before .before .before .before .before .before .before .before .before .before .is-true .ensures), sym (c .before .before .before .before .before .before .before .before .before .before .before .before .before .before .before .before .can-merge .ensures), c .before .before .before .before .before .before .before .before .before .before .before .before .before .before .before .if1 .taken) in
-    let t : (canMerge (isTrue (a .present)) (a .ours) (a .theirs) (a .strategy) && isRemoval (a .removal .kind)) ≡ true = simp (m, sym (c .before .before .before .before .before .before .before .before .before .before .before .before .before .before .is-removal .ensures) ∙ c .before .before .before .before .before .before .before .before .before .before .before .before .before .if2 .taken) in
-    flags-told _ (c .before .before .before .before .before .optional-combine-removed-bytes .result) _ _ _ (c .flags .ensures)
-    (when-true _ _ _ t (c .before .before .before .before .before .optional-combine-removed-bytes .ensures ∙ simp (c .before .before .before .before .before .before .before .before .before .before .before .before .is-true2 .ensures, c .before .before .before .before .before .before .before .before .before .before .before .head .ensures, c .before .before .before .before .before .before .before .before .before .before .head2 .ensures, c .before .before .before .before .before .before .before .before .before .removal .ensures, c .before .before .before .before .before .before .before .before .strategy .ensures)))
+    let at-call = c .before .before .before .before .before in
+    let at-strategy = at-call .before .before .before in
+    let at-present = at-strategy .before .before .before .before in
+    let at-if2 = at-present .before in
+    let at-if1 = at-if2 .before .before in
+    let at-start = at-if1 .before .before in
+    let a = at-start .before .before .before .before .before .before .before .before .before .args in
+    let m = merges (a .present) (a .ours) (a .theirs) (a .strategy) (at-start .is-true .ensures) (at-if1 .before .can-merge .ensures) (at-if1 .if1 .taken) in
+    let t = second-tells (isRemoval (a .removal .kind)) m (at-if2 .before .is-removal .ensures) (at-if2 .if2 .taken) in
+    flags-told _ (at-call .optional-combine-removed-bytes .result) _ _ _ (c .flags .ensures)
+    (when-true _ _ _ t (at-call .optional-combine-removed-bytes .ensures ∙ simp (
+      at-present .is-true2 .ensures,
+      at-strategy .before .before .before .head .ensures,
+      at-strategy .before .before .head2 .ensures,
+      at-strategy .before .removal .ensures,
+      at-strategy .strategy .ensures,
+    )))
 
 returns-2 : tie.Need-returns-2
 returns-2 c =
-    let a = c .before .before .before .before .before .before .before .before .before .before .before .before .before .before .before .args in
-    let m : canMerge (isTrue (a .present)) (a .ours) (a .theirs) (a .strategy) ≡ true = simp (sym (c .before .before .before .before .before .before .is-true .ensures), sym (c .before .before .before .before .before .can-merge .ensures), c .before .before .before .before .if1 .taken) in
-    let f : (canMerge (isTrue (a .present)) (a .ours) (a .theirs) (a .strategy) && isRemoval (a .removal .kind)) ≡ false = simp (m, sym (c .before .before .before .is-removal .ensures) ∙ c .before .before .if2 .left) in
+    let at-if1 = c .before .before .before .before in
+    let at-start = at-if1 .before .before in
+    let a = at-start .before .before .before .before .before .before .before .before .before .args in
+    let m = merges (a .present) (a .ours) (a .theirs) (a .strategy) (at-start .is-true .ensures) (at-if1 .before .can-merge .ensures) (at-if1 .if1 .taken) in
+    let f = second-tells (isRemoval (a .removal .kind)) m (c .before .before .before .is-removal .ensures) (c .before .before .if2 .left) in
     flags-bad _ _ _ _ _ _ (c .flags2 .ensures) (c .before .refused .ensures) f
 
 returns-3 : tie.Need-returns-3
 returns-3 c =
-    let a = c .before .before .before .before .before .before .before .before .before .before .before .before .before .args in
-    let m : canMerge (isTrue (a .present)) (a .ours) (a .theirs) (a .strategy) ≡ false = simp (sym (c .before .before .before .before .is-true .ensures), sym (c .before .before .before .can-merge .ensures), c .before .before .if1 .left) in
-    let f : (canMerge (isTrue (a .present)) (a .ours) (a .theirs) (a .strategy) && isRemoval (a .removal .kind)) ≡ false = simp (m) in
-    flags-bad _ _ _ _ _ _ (c .flags3 .ensures) (c .before .refused2 .ensures) f
+    let at-if1 = c .before .before in
+    let at-start = at-if1 .before .before in
+    let a = at-start .before .before .before .before .before .before .before .before .before .args in
+    let m = merges (a .present) (a .ours) (a .theirs) (a .strategy) (at-start .is-true .ensures) (at-if1 .before .can-merge .ensures) (at-if1 .if1 .left) in
+    flags-bad _ _ _ _ _ _ (c .flags3 .ensures) (c .before .refused2 .ensures) (first-fails (isRemoval (a .removal .kind)) m)
 
 pub petasunok-optional-combine-removed-bytes-spec : {M : Type 1} → statement M
 petasunok-optional-combine-removed-bytes-spec =
