@@ -6,7 +6,6 @@ ghost use Rattle.rows_spec.specs.Removals.{nothing, basic, sectioned, removalOf
 ghost use Rattle.sums_spec.specs.Joins.{addRow, joined};
 ghost use Rattle.sums_spec.specs.Sums.{unknown, basicPlus, sum, Lost};
 ghost use Rattle.sums_spec.specs.Calls.{shown, placing, summed};
-use crate::join;
 use records_spec::Refusal;
 use rows_spec::Order;
 use rows_spec::Removed;
@@ -31,9 +30,18 @@ fn add_rows(
     requires { ⌜ Proper m (tables (now «rhs_ids») (now «rhs_epochs») (now «rhs_bytes»)) ⌝ }
     ensures { λ r. ⌜ shown r (tables (now (ids .exit)) (now (epochs .exit)) (now (bytes .exit))) ≡ placing (sectioned (joined (rowsIn n (tables (now (ids .entry)) (now (epochs .entry)) (now (bytes .entry)))) (rowsIn m (tables (now («rhs_ids» .entry)) (now («rhs_epochs» .entry)) (now («rhs_bytes» .entry)))))) (tables (now (ids .entry)) (now (epochs .entry)) (now (bytes .entry))) ⌝ }
 {
-    let count = join::count_joined(ids, epochs, bytes, n, rhs_ids, rhs_epochs, rhs_bytes, m);
+    let count = sums_joining::count_joined(
+        ids,
+        epochs,
+        bytes,
+        n,
+        rhs_ids,
+        rhs_epochs,
+        rhs_bytes,
+        m,
+    );
     if rows::fit(count, ids, epochs, bytes) {
-        join::join_in_place(
+        sums_joining::join_in_place(
             ids,
             epochs,
             bytes,
@@ -87,7 +95,7 @@ fn add_rows_to_basic(
     let row_id = [zeros; 1];
     let row_epoch = [UNKNOWN_EPOCH; 1];
     let row_bytes = [removed_bytes; 1];
-    let count = join::count_joined(
+    let count = sums_joining::count_joined(
         rhs_ids,
         rhs_epochs,
         rhs_bytes,
@@ -98,8 +106,8 @@ fn add_rows_to_basic(
         1,
     );
     if rows::fit(count, ids, epochs, bytes) {
-        join::join_in_place(ids, epochs, bytes, 0, rhs_ids, rhs_epochs, rhs_bytes, m, m);
-        join::join_in_place(
+        sums_joining::join_in_place(ids, epochs, bytes, 0, rhs_ids, rhs_epochs, rhs_bytes, m, m);
+        sums_joining::join_in_place(
             ids,
             epochs,
             bytes,
@@ -237,7 +245,7 @@ fn add_to_basic(
             removed: Removed::Basic(removed_bytes),
         }),
         Removed::Basic(n) => Summed::Sum(StorageRemovedBytes {
-            removed: Removed::Basic(join::saturating_add(removed_bytes, n)),
+            removed: Removed::Basic(sums_joining::saturating_add(removed_bytes, n)),
         }),
         Removed::Sectioned(m) => add_rows_to_basic_for_version(
             removed_bytes,

@@ -70,26 +70,26 @@ use Rattle.capi_spec.proofs.types.CCount as NT
 use Rattle.capi_spec.proofs.types.CCount.Laws as NT′
 use Rattle.capi_spec.proofs.Telling.{when-true, when-false, structs-told}
 use Rattle.capi_spec.proofs.Walking.{or-else, hears, gives-up}
-use Rattle.capi.proofs.given.can_replace as tests
-use Rattle.capi.proofs.given.can_replace.Symbol as tests-def
-use Rattle.capi.proofs.given.can_replace.Symbol.{name as #tests}
-use Rattle.capi.proofs.given.can_replace.Met as tests-thm
-use Rattle.capi.proofs.given.is_true as truths
-use Rattle.capi.proofs.given.is_true.Symbol as truths-def
-use Rattle.capi.proofs.given.is_true.Symbol.{name as #truths}
-use Rattle.capi.proofs.given.is_true.Met as truths-thm
-use Rattle.capi.proofs.given.head as heads
-use Rattle.capi.proofs.given.head.Symbol as heads-def
-use Rattle.capi.proofs.given.head.Symbol.{name as #heads}
-use Rattle.capi.proofs.given.head.Met as heads-thm
-use Rattle.capi.proofs.told.replaced as tells
-use Rattle.capi.proofs.told.replaced.Symbol as tells-def
-use Rattle.capi.proofs.told.replaced.Symbol.{name as #tells}
-use Rattle.capi.proofs.told.replaced.Met as tells-thm
-use Rattle.capi.proofs.told.bad_table as bad
-use Rattle.capi.proofs.told.bad_table.Symbol as bad-def
-use Rattle.capi.proofs.told.bad_table.Symbol.{name as #bad}
-use Rattle.capi.proofs.told.bad_table.Met as bad-thm
+use Rattle.capi_given.proofs.can_replace as tests
+use Rattle.capi_given.proofs.can_replace.Symbol as tests-def
+use Rattle.capi_given.proofs.can_replace.Symbol.{name as #tests}
+use Rattle.capi_given.proofs.can_replace.Met as tests-thm
+use Rattle.capi_given.proofs.is_true as truths
+use Rattle.capi_given.proofs.is_true.Symbol as truths-def
+use Rattle.capi_given.proofs.is_true.Symbol.{name as #truths}
+use Rattle.capi_given.proofs.is_true.Met as truths-thm
+use Rattle.capi_given.proofs.head as heads
+use Rattle.capi_given.proofs.head.Symbol as heads-def
+use Rattle.capi_given.proofs.head.Symbol.{name as #heads}
+use Rattle.capi_given.proofs.head.Met as heads-thm
+use Rattle.capi_told.proofs.replaced as tells
+use Rattle.capi_told.proofs.replaced.Symbol as tells-def
+use Rattle.capi_told.proofs.replaced.Symbol.{name as #tells}
+use Rattle.capi_told.proofs.replaced.Met as tells-thm
+use Rattle.capi_told.proofs.bad_table as bad
+use Rattle.capi_told.proofs.bad_table.Symbol as bad-def
+use Rattle.capi_told.proofs.bad_table.Symbol.{name as #bad}
+use Rattle.capi_told.proofs.bad_table.Met as bad-thm
 use Rattle.capi.proofs.structs.petasunok_totals_replace_structs.Key.{name as #replace-for-c}
 use Rattle.capi.proofs.structs.petasunok_totals_replace_structs as replace-for-c
 use Rattle.capi.proofs.structs.petasunok_totals_replace_structs.Statement as stated
@@ -408,9 +408,9 @@ petasunok-totals-replace-structs-spec 𝓤 H 𝓜 𝓖 𝓡 =
     entered 𝓤 H (tripleOf 𝓤 H (𝓖 .A) replace-for-c.signature (replace-for-c.spec 𝓤 H (𝓖 .A) (𝓜 .mem) (𝓡 .run)))
     (running 𝓤 H 𝓜 𝓡 code.env .C) (running 𝓤 H 𝓜 𝓡 code.env .Λ) #replace-for-c code.function (code.unfolded 𝓤 H 𝓜 𝓡)
     (replace-for-c-meets 𝓤 H (𝓖 .A) (givenOf 𝓤 H 𝓜 𝓖) (𝓜 .mem) (𝓡 .run) (tablesOf 𝓤 H 𝓜 (running 𝓤 H 𝓜 𝓡 code.env))
-    (cited 𝓤 H (Tests 𝓤 H (𝓖 .A) (𝓜 .mem) (𝓡 .run)) 𝓜 𝓡 code.env #tests tests-def.routine code.calls-capi·given·can-replace (tests-thm.met 𝓤 H 𝓜 𝓖 𝓡))
-    (cited 𝓤 H (Truths 𝓤 H (𝓖 .A) (𝓜 .mem) (𝓡 .run)) 𝓜 𝓡 code.env #truths truths-def.routine code.calls-capi·given·is-true (truths-thm.met 𝓤 H 𝓜 𝓖 𝓡))
-    (cited 𝓤 H (Heads 𝓤 H (𝓖 .A) (𝓜 .mem) (𝓡 .run)) 𝓜 𝓡 code.env #heads heads-def.routine code.calls-capi·given·head (heads-thm.met 𝓤 H 𝓜 𝓖 𝓡))
+    (cited 𝓤 H (Tests 𝓤 H (𝓖 .A) (𝓜 .mem) (𝓡 .run)) 𝓜 𝓡 code.env #tests tests-def.routine code.calls-capi-given·can-replace (tests-thm.met 𝓤 H 𝓜 𝓖 𝓡))
+    (cited 𝓤 H (Truths 𝓤 H (𝓖 .A) (𝓜 .mem) (𝓡 .run)) 𝓜 𝓡 code.env #truths truths-def.routine code.calls-capi-given·is-true (truths-thm.met 𝓤 H 𝓜 𝓖 𝓡))
+    (cited 𝓤 H (Heads 𝓤 H (𝓖 .A) (𝓜 .mem) (𝓡 .run)) 𝓜 𝓡 code.env #heads heads-def.routine code.calls-capi-given·head (heads-thm.met 𝓤 H 𝓜 𝓖 𝓡))
     (cited 𝓤 H (Replaces 𝓤 H (𝓖 .A) (𝓜 .mem) (𝓡 .run)) 𝓜 𝓡 code.env #replaces replaces-def.routine code.calls-totals-index·replace (replaces-thm.met 𝓤 H 𝓜 𝓖 𝓡))
-    (cited 𝓤 H (Tells 𝓤 H (𝓖 .A) (𝓜 .mem) (𝓡 .run)) 𝓜 𝓡 code.env #tells tells-def.routine code.calls-capi·told·replaced (tells-thm.met 𝓤 H 𝓜 𝓖 𝓡))
-    (cited 𝓤 H (Bad 𝓤 H (𝓖 .A) (𝓜 .mem) (𝓡 .run)) 𝓜 𝓡 code.env #bad bad-def.routine code.calls-capi·told·bad-table (bad-thm.met 𝓤 H 𝓜 𝓖 𝓡)))
+    (cited 𝓤 H (Tells 𝓤 H (𝓖 .A) (𝓜 .mem) (𝓡 .run)) 𝓜 𝓡 code.env #tells tells-def.routine code.calls-capi-told·replaced (tells-thm.met 𝓤 H 𝓜 𝓖 𝓡))
+    (cited 𝓤 H (Bad 𝓤 H (𝓖 .A) (𝓜 .mem) (𝓡 .run)) 𝓜 𝓡 code.env #bad bad-def.routine code.calls-capi-told·bad-table (bad-thm.met 𝓤 H 𝓜 𝓖 𝓡)))

@@ -341,4 +341,4 @@ judge-rows-spec 𝓤 H 𝓜 𝓖 𝓡 =
     entered 𝓤 H (tripleOf 𝓤 H (𝓖 .A) judge-rows.signature (judge-rows.spec 𝓤 H (𝓖 .A) (𝓜 .mem) (𝓡 .run)))
     (running 𝓤 H 𝓜 𝓡 code.env .C) (running 𝓤 H 𝓜 𝓡 code.env .Λ) #judge-rows code.function (code.unfolded 𝓤 H 𝓜 𝓡)
     (judge-rows-meets 𝓤 H (𝓖 .A) (givenOf 𝓤 H 𝓜 𝓖) (𝓜 .mem) (𝓡 .run) (tablesOf 𝓤 H 𝓜 (running 𝓤 H 𝓜 𝓡 code.env))
-    (cited 𝓤 H (Judges 𝓤 H (𝓖 .A) (𝓜 .mem) (𝓡 .run)) 𝓜 𝓡 code.env #judges judges-def.routine code.calls-totals-index·judging·judge-row (judges-thm.met 𝓤 H 𝓜 𝓖 𝓡)))
+    (cited 𝓤 H (Judges 𝓤 H (𝓖 .A) (𝓜 .mem) (𝓡 .run)) 𝓜 𝓡 code.env #judges judges-def.routine code.calls-totals-index-judging·judging·judge-row (judges-thm.met 𝓤 H 𝓜 𝓖 𝓡)))

@@ -5,10 +5,10 @@ use Rattle.vectors.proofs.tally.total.Statement.{statement}
 use Rattle.vectors.proofs.tally.total.Tie as tie
 
 abbrev Inv-loop : tie.InvT-loop
-Inv-loop tally to sum₀ at₀ sum at = Unit {0}
+Inv-loop tally from to sum₀ at₀ sum at = Unit {0}
 
 abbrev μ-loop : tie.MeasureT-loop
-μ-loop tally to sum₀ at₀ sum at = to - at
+μ-loop tally from to sum₀ at₀ sum at = to - at
 
 pub total-spec : {M : Type 1} → statement M
 total-spec =
@@ -17,8 +17,7 @@ total-spec =
     Inv-loop
     μ-loop
     (λ c. search needs)
-    (λ c. search needs)
-    (λ c. search needs)
+    (λ c κs. search needs)
     (λ c κs. search needs)
     (λ c. search needs)
     (λ c. search needs)

@@ -1,10 +1,10 @@
--- `sums::join::last_row` meets its contract, by how the last rows of both sides stand. Assumes nothing.
+-- `sums_joining::join::last_row` meets its contract, by how the last rows of both sides stand. Assumes nothing.
 use mathlib.Core.Path.{sym, _∙_}
 use native.Mathlib.Omega.{arith}
 use borrow.Author.Needs.{needs}
 use Rattle.sums_spec.proofs.Lasts.{step-none, step-theirs, step-both, step-ours}
-use Rattle.sums.proofs.join.last_row.Statement.{statement}
-use Rattle.sums.proofs.join.last_row.Tie as tie
+use Rattle.sums_joining.proofs.join.last_row.Statement.{statement}
+use Rattle.sums_joining.proofs.join.last_row.Tie as tie
 
 returns : tie.Need-returns
 returns c = let p = c .before .before .before .before .before .before .before .before .pre in step-none (p .0) (p .1 .0) (p .1 .1) (c .before .before .before .if1 .taken)

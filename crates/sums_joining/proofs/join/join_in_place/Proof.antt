@@ -1,11 +1,11 @@
--- `sums::join::join_in_place` meets its contract: from place k on the tables are as they end, and before it as they began. Assumes nothing.
+-- `sums_joining::join::join_in_place` meets its contract: from place k on the tables are as they end, and before it as they began. Assumes nothing.
 use Prim.Native.Nat.{_+_}
 use native.Mathlib.Omega.{arith}
 use Rattle.rows_spec.specs.Rows.{tables}
 use Rattle.rows_spec.proofs.Backing.{backing-long}
 use Rattle.sums_spec.proofs.Lasts.{Walking, walking-start, walking-ours, walking-theirs, walking-room, walking-step, walking-done}
-use Rattle.sums.proofs.join.join_in_place.Statement.{statement}
-use Rattle.sums.proofs.join.join_in_place.Tie as tie
+use Rattle.sums_joining.proofs.join.join_in_place.Statement.{statement}
+use Rattle.sums_joining.proofs.join.join_in_place.Tie as tie
 
 abbrev Inv-loop : tie.InvT-loop
 Inv-loop ids₀ epochs₀ bytes₀ n rhs-ids rhs-epochs rhs-bytes m count i₀ j₀ k₀ ids epochs bytes i j k =

@@ -1,11 +1,11 @@
--- `sums::join::count_joined` meets its contract: what was counted, and the join of what is left, make the join. Assumes nothing.
+-- `sums_joining::join::count_joined` meets its contract: what was counted, and the join of what is left, make the join. Assumes nothing.
 use Prim.Native.Nat.{_+_}
 use native.Mathlib.Omega.{arith}
 use Rattle.rows_spec.specs.Rows.{tables}
 use Rattle.rows_spec.proofs.Rows.{proper-first}
 use Rattle.sums_spec.proofs.Lasts.{Counting, counting-start, counting-step, counting-done}
-use Rattle.sums.proofs.join.count_joined.Statement.{statement}
-use Rattle.sums.proofs.join.count_joined.Tie as tie
+use Rattle.sums_joining.proofs.join.count_joined.Statement.{statement}
+use Rattle.sums_joining.proofs.join.count_joined.Tie as tie
 
 abbrev Inv-loop : tie.InvT-loop
 Inv-loop ids epochs bytes n rhs-ids rhs-epochs rhs-bytes m i₀ j₀ count₀ i j count =
