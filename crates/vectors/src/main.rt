@@ -1,14 +1,10 @@
 // Replays the list of stored answers on standard input, and says how many agree.
-mod line;
-mod names;
-mod tally;
-
-use crate::line::Line;
-use crate::tally::PLACES;
-use crate::tally::agrees;
-use crate::tally::differs;
 use libc::STDIN_FILENO;
 use replay::Verdict;
+use vectors_list::Line;
+use vectors_list::PLACES;
+use vectors_list::agrees;
+use vectors_list::differs;
 
 // What a turn of reading came to: the line that has begun, and whether there may be more.
 struct Turn {
@@ -113,5 +109,5 @@ fn main() {
     let mut text = [0u8; 2048];
     let mut tally = [0u64; PLACES];
     read_all(&mut text, &mut tally);
-    tally::print(&tally);
+    vectors_list::print(&tally);
 }

@@ -1,8 +1,8 @@
--- `vectors::total` is safe and ends: the measure is the number of places left. Assumes nothing.
+-- `vectors_list::total` is safe and ends: the measure is the number of places left. Assumes nothing.
 use Prim.Native.Nat.{_-_}
 use borrow.Author.Needs.{needs}
-use Rattle.vectors.proofs.tally.total.Statement.{statement}
-use Rattle.vectors.proofs.tally.total.Tie as tie
+use Rattle.vectors_list.proofs.tally.total.Statement.{statement}
+use Rattle.vectors_list.proofs.tally.total.Tie as tie
 
 abbrev Inv-loop : tie.InvT-loop
 Inv-loop tally from to sum₀ at₀ sum at = Unit {0}

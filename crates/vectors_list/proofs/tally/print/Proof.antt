@@ -1,8 +1,8 @@
--- `vectors::print` is safe and ends: the measure is the number of calls left. Assumes nothing.
+-- `vectors_list::print` is safe and ends: the measure is the number of calls left. Assumes nothing.
 use Prim.Native.Nat.{_-_}
 use borrow.Author.Needs.{needs}
-use Rattle.vectors.proofs.tally.print.Statement.{statement}
-use Rattle.vectors.proofs.tally.print.Tie as tie
+use Rattle.vectors_list.proofs.tally.print.Statement.{statement}
+use Rattle.vectors_list.proofs.tally.print.Tie as tie
 
 abbrev Inv-loop : tie.InvT-loop
 Inv-loop tally call₀ t4 call = Unit {0}
