@@ -4,7 +4,6 @@ ghost use Rattle.capi_spec.specs.Told.{flagsLeft, flagsTold};
 ghost use Rattle.capi_spec.specs.Calls.{combinedAddedC, optionalCombinedAddedC};
 use capi_spec::CFlags;
 use capi_spec::CHead;
-use records_spec::Refusal;
 
 // Merges ours with the incoming flags that came with added bytes.
 #[no_mangle]
@@ -36,7 +35,7 @@ pub extern "C" fn petasunok_combine_added_bytes(
             counts,
         ));
     }
-    capi_told::flags(records::refused(Refusal::BadTable))
+    capi_told::bad_flags()
 }
 
 // The same where ours may be absent; then ours is not looked at.
@@ -56,9 +55,10 @@ pub extern "C" fn petasunok_optional_combine_added_bytes(
 ) -> CFlags
     ensures { λ r. ⌜ flagsLeft r (now (epochs .exit)) (now (counts .exit)) ≡ flagsTold (optionalCombinedAddedC present ours (now («ours_epochs» .entry)) (now («ours_counts» .entry)) theirs (now («theirs_epochs» .entry)) (now («theirs_counts» .entry)) amount strategy (now (epochs .entry)) (now (counts .entry))) ⌝ }
 {
-    if capi_given::can_merge(capi_given::is_true(present), ours, theirs, strategy) {
+    let is_present = capi_given::is_true(present);
+    if capi_given::can_merge(is_present, ours, theirs, strategy) {
         return capi_told::flags(flags::optional_combine_added_bytes(
-            capi_given::is_true(present),
+            is_present,
             capi_given::head(ours),
             ours_epochs,
             ours_counts,
@@ -71,5 +71,5 @@ pub extern "C" fn petasunok_optional_combine_added_bytes(
             counts,
         ));
     }
-    capi_told::flags(records::refused(Refusal::BadTable))
+    capi_told::bad_flags()
 }

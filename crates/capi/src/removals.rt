@@ -64,21 +64,18 @@ pub extern "C" fn petasunok_add_assign(
 ) -> CSum
     ensures { λ r. ⌜ sumLeft r (tables (now («lhs_ids» .exit)) (now («lhs_epochs» .exit)) (now («lhs_bytes» .exit))) ≡ sumTold (summedC version lhs (tables (now («lhs_ids» .entry)) (now («lhs_epochs» .entry)) (now («lhs_bytes» .entry))) rhs (tables (now («rhs_ids» .entry)) (now («rhs_epochs» .entry)) (now («rhs_bytes» .entry)))) ⌝ }
 {
-    if capi_given::is_removal(lhs.kind) {
-        if capi_given::is_removal(rhs.kind) {
-            return capi_told::sum(sums::add_assign(
-                capi_given::removal(lhs),
-                lhs_ids,
-                lhs_epochs,
-                lhs_bytes,
-                capi_given::removal(rhs),
-                rhs_ids,
-                rhs_epochs,
-                rhs_bytes,
-                version,
-            ));
-        }
-        return capi_told::sum(Summed::Refused(Refusal::BadTable));
+    if capi_given::can_sum(lhs, rhs) {
+        return capi_told::sum(sums::add_assign(
+            capi_given::removal(lhs),
+            lhs_ids,
+            lhs_epochs,
+            lhs_bytes,
+            capi_given::removal(rhs),
+            rhs_ids,
+            rhs_epochs,
+            rhs_bytes,
+            version,
+        ));
     }
     capi_told::sum(Summed::Refused(Refusal::BadTable))
 }

@@ -6,7 +6,6 @@ ghost use Rattle.capi_spec.specs.Calls.{combinedRemovedC, optionalCombinedRemov
 use capi_spec::CFlags;
 use capi_spec::CHead;
 use capi_spec::CRemoval;
-use records_spec::Refusal;
 
 // Merges ours with the incoming flags that came with removed bytes.
 #[no_mangle]
@@ -27,27 +26,24 @@ pub extern "C" fn petasunok_combine_removed_bytes(
 ) -> CFlags
     ensures { λ r. ⌜ flagsLeft r (now (epochs .exit)) (now (counts .exit)) ≡ flagsTold (combinedRemovedC ours (now («ours_epochs» .entry)) (now («ours_counts» .entry)) theirs (now («theirs_epochs» .entry)) (now («theirs_counts» .entry)) removal (tables (now («removal_ids» .entry)) (now («removal_epochs» .entry)) (now («removal_bytes» .entry))) strategy (now (epochs .entry)) (now (counts .entry))) ⌝ }
 {
-    if capi_given::can_merge(true, ours, theirs, strategy) {
-        if capi_given::is_removal(removal.kind) {
-            return capi_told::flags(removal::combine_removed_bytes(
-                capi_given::head(ours),
-                ours_epochs,
-                ours_counts,
-                capi_given::head(theirs),
-                theirs_epochs,
-                theirs_counts,
-                capi_given::removal(removal),
-                removal_ids,
-                removal_epochs,
-                removal_bytes,
-                capi_given::strategy(strategy),
-                epochs,
-                counts,
-            ));
-        }
-        return capi_told::flags(records::refused(Refusal::BadTable));
+    if capi_given::can_remove(true, ours, theirs, strategy, removal) {
+        return capi_told::flags(removal::combine_removed_bytes(
+            capi_given::head(ours),
+            ours_epochs,
+            ours_counts,
+            capi_given::head(theirs),
+            theirs_epochs,
+            theirs_counts,
+            capi_given::removal(removal),
+            removal_ids,
+            removal_epochs,
+            removal_bytes,
+            capi_given::strategy(strategy),
+            epochs,
+            counts,
+        ));
     }
-    capi_told::flags(records::refused(Refusal::BadTable))
+    capi_told::bad_flags()
 }
 
 // The same where ours may be absent; then ours is not looked at.
@@ -70,26 +66,24 @@ pub extern "C" fn petasunok_optional_combine_removed_bytes(
 ) -> CFlags
     ensures { λ r. ⌜ flagsLeft r (now (epochs .exit)) (now (counts .exit)) ≡ flagsTold (optionalCombinedRemovedC present ours (now («ours_epochs» .entry)) (now («ours_counts» .entry)) theirs (now («theirs_epochs» .entry)) (now («theirs_counts» .entry)) removal (tables (now («removal_ids» .entry)) (now («removal_epochs» .entry)) (now («removal_bytes» .entry))) strategy (now (epochs .entry)) (now (counts .entry))) ⌝ }
 {
-    if capi_given::can_merge(capi_given::is_true(present), ours, theirs, strategy) {
-        if capi_given::is_removal(removal.kind) {
-            return capi_told::flags(removal::optional_combine_removed_bytes(
-                capi_given::is_true(present),
-                capi_given::head(ours),
-                ours_epochs,
-                ours_counts,
-                capi_given::head(theirs),
-                theirs_epochs,
-                theirs_counts,
-                capi_given::removal(removal),
-                removal_ids,
-                removal_epochs,
-                removal_bytes,
-                capi_given::strategy(strategy),
-                epochs,
-                counts,
-            ));
-        }
-        return capi_told::flags(records::refused(Refusal::BadTable));
+    let is_present = capi_given::is_true(present);
+    if capi_given::can_remove(is_present, ours, theirs, strategy, removal) {
+        return capi_told::flags(removal::optional_combine_removed_bytes(
+            is_present,
+            capi_given::head(ours),
+            ours_epochs,
+            ours_counts,
+            capi_given::head(theirs),
+            theirs_epochs,
+            theirs_counts,
+            capi_given::removal(removal),
+            removal_ids,
+            removal_epochs,
+            removal_bytes,
+            capi_given::strategy(strategy),
+            epochs,
+            counts,
+        ));
     }
-    capi_told::flags(records::refused(Refusal::BadTable))
+    capi_told::bad_flags()
 }

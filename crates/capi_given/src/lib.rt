@@ -1,5 +1,6 @@
 // What C gives, as the calls take it. A byte that names no kind, removal or strategy is found before a call is made.
 ghost use mathlib.Core.Path.{_≡_};
+ghost use mathlib.Core.Bool.{_&&_};
 ghost use Rattle.capi_spec.specs.Given.{isTrue, isKind, isKindIf, kindFound, headGiven, changesGiven, isStrategy, strategyGiven, canMerge, canReplace, isRemoval, removedGiven};
 ghost use Rattle.records_spec.specs.Flags.{kindOfByte};
 use capi_spec::CHead;
@@ -102,6 +103,22 @@ pub fn can_merge(present: bool, ours: CHead, theirs: CHead, strategy: u8) -> boo
     false
 }
 
+// The same for a merge with removed bytes, and whether the byte of the removal is one.
+pub fn can_remove(
+    present: bool,
+    ours: CHead,
+    theirs: CHead,
+    strategy: u8,
+    removal: CRemoval,
+) -> bool
+    ensures { λ r. ⌜ r ≡ (canMerge present ours theirs strategy && isRemoval (removal .kind)) ⌝ }
+{
+    if can_merge(present, ours, theirs, strategy) {
+        return is_removal(removal.kind);
+    }
+    false
+}
+
 // Whether the bytes of the old and the new flags are those of kinds; absent flags are not looked at.
 pub fn can_replace(old_present: u8, old: CHead, new_present: u8, new: CHead) -> bool
     ensures { λ r. ⌜ r ≡ canReplace «old_present» old «new_present» new ⌝ }
@@ -117,6 +134,13 @@ pub fn is_removal(byte: u8) -> bool
     ensures { λ r. ⌜ r ≡ isRemoval byte ⌝ }
 {
     byte <= 2
+}
+
+// Whether the bytes of both removals are.
+pub fn can_sum(lhs: CRemoval, rhs: CRemoval) -> bool
+    ensures { λ r. ⌜ r ≡ (isRemoval (lhs .kind) && isRemoval (rhs .kind)) ⌝ }
+{
+    is_removal(lhs.kind) & is_removal(rhs.kind)
 }
 
 // The removal that C's removal stands for.

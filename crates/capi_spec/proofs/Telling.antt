@@ -2,13 +2,10 @@
 -- what the call's contract says of that. Beside them, the two ways of a test on what C gave.
 -- Assumes nothing.
 use Prim.Native.Nat.{ℕ}
-use mathlib.Core.Path.{_≡_, sym, ap, _∙_}
+use mathlib.Core.Path.{_≡_, refl, sym, ap, _∙_}
 use mathlib.Core.Bool.{Bool, true, false, cond}
 use mathlib.Core.List.{List, []}
 use Rattle.records_spec.specs.Answers.{After, shown, Written, counted, wrote, kept}
-use Rattle.records_spec.specs.Flags.{noHead}
-use Rattle.records_spec.specs.declared.refusal.Refusal.the-variants.{BadTable}
-use Rattle.records_spec.specs.declared.answer.Outcome.the-variants.{Refused}
 use Rattle.records_spec.specs.declared.answer.Answered.{Answered}
 use Rattle.records_spec.specs.declared.answer.Counted.{Counted}
 use Rattle.rows_spec.specs.Rows.{Tables}
@@ -40,16 +37,12 @@ module _ {A : Type 0} (b : Bool) (x y : A) {z : A} where
 
 -- ---- forms of answers
 
--- the answer that a table is bad
-abbrev badTable : Answered
-badTable = record { outcome = Refused BadTable; head = noHead }
-
 pub flags-told : (r : CFlags) (a : Answered) (es cs : List ℕ) (x : After) → r ≡ flagsAnswer (shown a [] []) → shown a es cs ≡ x → flagsLeft r es cs ≡ flagsTold x
 flags-told r a es cs x h k = ap (λ (z : CFlags). flagsLeft z es cs) h ∙ ap flagsTold k
 
 -- no flags, because a byte names nothing
-pub flags-bad : (r : CFlags) (a : Answered) (es cs : List ℕ) (b : Bool) (x : After) → r ≡ flagsAnswer (shown a [] []) → a ≡ badTable → b ≡ false → flagsLeft r es cs ≡ flagsTold (cond b x (kept 11 es cs))
-flags-bad r a es cs b x h e f = flags-told r a es cs _ h (when-false b x (kept 11 es cs) f (ap (λ (z : Answered). shown z es cs) e))
+pub flags-bad : (r : CFlags) (es cs : List ℕ) (b : Bool) (x : After) → r ≡ flagsAnswer (kept 11 [] []) → b ≡ false → flagsLeft r es cs ≡ flagsTold (cond b x (kept 11 es cs))
+flags-bad r es cs b x h f = ap (λ (z : CFlags). flagsLeft z es cs) h ∙ ap flagsTold (when-false b x (kept 11 es cs) f refl)
 
 pub bytes-told : (r : CCount) (a : Counted) (out : List ℕ) (w : Written) → r ≡ countTold (counted a) → wrote a out ≡ w → bytesLeft r out ≡ bytesTold w
 bytes-told r a out w h k = ap (λ (z : CCount). bytesLeft z out) h ∙ ap bytesTold k

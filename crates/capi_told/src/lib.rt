@@ -2,7 +2,7 @@
 ghost use mathlib.Core.Path.{_≡_};
 ghost use mathlib.Core.List.{[]};
 ghost use Rattle.records_spec.specs.Refusals.{number};
-ghost use Rattle.records_spec.specs.Answers.{ok, refused, shown, counted};
+ghost use Rattle.records_spec.specs.Answers.{ok, refused, shown, counted, kept};
 ghost use Rattle.rows_spec.specs.Calls.{told, totalled};
 ghost use Rattle.sums_spec.specs.Calls.{told as toldSum};
 ghost use Rattle.splitting_spec.specs.Calls.{told as toldSplit};
@@ -73,6 +73,13 @@ pub fn flags(answered: Answered) -> CFlags
             head,
         },
     }
+}
+
+// The refusal of a call that answers flags, where a byte names nothing.
+pub fn bad_flags() -> CFlags
+    ensures { λ r. ⌜ r ≡ flagsAnswer (kept 11 [] []) ⌝ }
+{
+    flags(records::refused(Refusal::BadTable))
 }
 
 // A number.

@@ -11,7 +11,7 @@ returns c =
 
 returns-2 : tie.Need-returns-2
 returns-2 c =
-    flags-bad _ _ _ _ _ _ (c .flags2 .ensures) (c .before .refused .ensures) (sym (c .before .before .before .can-merge .ensures) ∙ c .before .before .if1 .left)
+    flags-bad _ _ _ _ _ (c .bad-flags .ensures) (sym (c .before .before .can-merge .ensures) ∙ c .before .if1 .left)
 
 pub petasunok-combine-added-bytes-spec : {M : Type 1} → statement M
 petasunok-combine-added-bytes-spec =
@@ -26,6 +26,5 @@ petasunok-combine-added-bytes-spec =
     (λ c. search needs)
     (λ c. search needs)
     returns
-    (λ c κs. search needs)
     (λ c κs. search needs)
     returns-2)

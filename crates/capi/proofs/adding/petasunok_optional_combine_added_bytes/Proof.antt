@@ -10,14 +10,13 @@ returns : tie.Need-returns
 returns c =
     let at-call = c .before .before .before .before .before in
     let at-strategy = at-call .before .before .before in
-    let at-present = at-strategy .before .before .before in
-    let at-if1 = at-present .before in
+    let at-if1 = at-strategy .before .before .before in
     let at-start = at-if1 .before .before in
     let a = at-start .before .before .before .before .before .before .before .args in
     let t = merges (a .present) (a .ours) (a .theirs) (a .strategy) (at-start .is-true .ensures) (at-if1 .before .can-merge .ensures) (at-if1 .if1 .taken) in
     flags-told _ (at-call .optional-combine-added-bytes .result) _ _ _ (c .flags .ensures)
     (when-true _ _ _ t (at-call .optional-combine-added-bytes .ensures ∙ simp (
-      at-present .is-true2 .ensures,
+      at-start .is-true .ensures,
       at-strategy .before .before .head .ensures,
       at-strategy .before .head2 .ensures,
       at-strategy .strategy .ensures,
@@ -25,11 +24,11 @@ returns c =
 
 returns-2 : tie.Need-returns-2
 returns-2 c =
-    let at-if1 = c .before .before in
+    let at-if1 = c .before in
     let at-start = at-if1 .before .before in
     let a = at-start .before .before .before .before .before .before .before .args in
     let f = merges (a .present) (a .ours) (a .theirs) (a .strategy) (at-start .is-true .ensures) (at-if1 .before .can-merge .ensures) (at-if1 .if1 .left) in
-    flags-bad _ _ _ _ _ _ (c .flags2 .ensures) (c .before .refused .ensures) f
+    flags-bad _ _ _ _ _ (c .bad-flags .ensures) f
 
 pub petasunok-optional-combine-added-bytes-spec : {M : Type 1} → statement M
 petasunok-optional-combine-added-bytes-spec =
@@ -42,10 +41,8 @@ petasunok-optional-combine-added-bytes-spec =
     (λ c κs. search needs)
     (λ c κs. search needs)
     (λ c κs. search needs)
-    (λ c κs. search needs)
     (λ c. search needs)
     (λ c. search needs)
     returns
-    (λ c κs. search needs)
     (λ c κs. search needs)
     returns-2)

@@ -1,7 +1,7 @@
 -- `capi::removing::petasunok_optional_combine_removed_bytes` meets its contract: the call's own answer is told, or 11. Assumes nothing.
 use mathlib.Core.Path.{_∙_}
 use Rattle.capi_spec.proofs.Telling.{when-true, flags-told, flags-bad}
-use Rattle.capi_spec.proofs.Testing.{merges, second-tells, first-fails}
+use Rattle.capi_spec.proofs.Testing.{removes}
 use Rattle.capi_spec.specs.Given.{isRemoval}
 use borrow.Author.Needs.{needs}
 use Rattle.capi.proofs.removing.petasunok_optional_combine_removed_bytes.Statement.{statement}
@@ -11,16 +11,13 @@ returns : tie.Need-returns
 returns c =
     let at-call = c .before .before .before .before .before in
     let at-strategy = at-call .before .before .before in
-    let at-present = at-strategy .before .before .before .before in
-    let at-if2 = at-present .before in
-    let at-if1 = at-if2 .before .before in
+    let at-if1 = at-strategy .before .before .before .before in
     let at-start = at-if1 .before .before in
     let a = at-start .before .before .before .before .before .before .before .before .before .args in
-    let m = merges (a .present) (a .ours) (a .theirs) (a .strategy) (at-start .is-true .ensures) (at-if1 .before .can-merge .ensures) (at-if1 .if1 .taken) in
-    let t = second-tells (isRemoval (a .removal .kind)) m (at-if2 .before .is-removal .ensures) (at-if2 .if2 .taken) in
+    let t = removes (a .present) (a .ours) (a .theirs) (a .strategy) (isRemoval (a .removal .kind)) (at-start .is-true .ensures) (at-if1 .before .can-remove .ensures) (at-if1 .if1 .taken) in
     flags-told _ (at-call .optional-combine-removed-bytes .result) _ _ _ (c .flags .ensures)
     (when-true _ _ _ t (at-call .optional-combine-removed-bytes .ensures ∙ simp (
-      at-present .is-true2 .ensures,
+      at-start .is-true .ensures,
       at-strategy .before .before .before .head .ensures,
       at-strategy .before .before .head2 .ensures,
       at-strategy .before .removal .ensures,
@@ -29,20 +26,11 @@ returns c =
 
 returns-2 : tie.Need-returns-2
 returns-2 c =
-    let at-if1 = c .before .before .before .before in
+    let at-if1 = c .before in
     let at-start = at-if1 .before .before in
     let a = at-start .before .before .before .before .before .before .before .before .before .args in
-    let m = merges (a .present) (a .ours) (a .theirs) (a .strategy) (at-start .is-true .ensures) (at-if1 .before .can-merge .ensures) (at-if1 .if1 .taken) in
-    let f = second-tells (isRemoval (a .removal .kind)) m (c .before .before .before .is-removal .ensures) (c .before .before .if2 .left) in
-    flags-bad _ _ _ _ _ _ (c .flags2 .ensures) (c .before .refused .ensures) f
-
-returns-3 : tie.Need-returns-3
-returns-3 c =
-    let at-if1 = c .before .before in
-    let at-start = at-if1 .before .before in
-    let a = at-start .before .before .before .before .before .before .before .before .before .args in
-    let m = merges (a .present) (a .ours) (a .theirs) (a .strategy) (at-start .is-true .ensures) (at-if1 .before .can-merge .ensures) (at-if1 .if1 .left) in
-    flags-bad _ _ _ _ _ _ (c .flags3 .ensures) (c .before .refused2 .ensures) (first-fails (isRemoval (a .removal .kind)) m)
+    let f = removes (a .present) (a .ours) (a .theirs) (a .strategy) (isRemoval (a .removal .kind)) (at-start .is-true .ensures) (at-if1 .before .can-remove .ensures) (at-if1 .if1 .left) in
+    flags-bad _ _ _ _ _ (c .bad-flags .ensures) f
 
 pub petasunok-optional-combine-removed-bytes-spec : {M : Type 1} → statement M
 petasunok-optional-combine-removed-bytes-spec =
@@ -56,14 +44,8 @@ petasunok-optional-combine-removed-bytes-spec =
     (λ c κs. search needs)
     (λ c κs. search needs)
     (λ c κs. search needs)
-    (λ c κs. search needs)
-    (λ c κs. search needs)
     (λ c. search needs)
     (λ c. search needs)
     returns
     (λ c κs. search needs)
-    (λ c κs. search needs)
-    returns-2
-    (λ c κs. search needs)
-    (λ c κs. search needs)
-    returns-3)
+    returns-2)
