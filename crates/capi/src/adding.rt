@@ -21,21 +21,18 @@ pub extern "C" fn petasunok_combine_added_bytes(
 ) -> CFlags
     ensures { λ r. ⌜ flagsLeft r (now (epochs .exit)) (now (counts .exit)) ≡ flagsTold (combinedAddedC ours (now («ours_epochs» .entry)) (now («ours_counts» .entry)) theirs (now («theirs_epochs» .entry)) (now («theirs_counts» .entry)) amount strategy (now (epochs .entry)) (now (counts .entry))) ⌝ }
 {
-    if capi_given::can_merge(true, ours, theirs, strategy) {
-        return capi_told::flags(flags::combine_added_bytes(
-            capi_given::head(ours),
-            ours_epochs,
-            ours_counts,
-            capi_given::head(theirs),
-            theirs_epochs,
-            theirs_counts,
-            amount,
-            capi_given::strategy(strategy),
-            epochs,
-            counts,
-        ));
-    }
-    capi_told::bad_flags()
+    capi_merges::combine_added_bytes(
+        ours,
+        ours_epochs,
+        ours_counts,
+        theirs,
+        theirs_epochs,
+        theirs_counts,
+        amount,
+        strategy,
+        epochs,
+        counts,
+    )
 }
 
 // The same where ours may be absent; then ours is not looked at.
@@ -55,21 +52,17 @@ pub extern "C" fn petasunok_optional_combine_added_bytes(
 ) -> CFlags
     ensures { λ r. ⌜ flagsLeft r (now (epochs .exit)) (now (counts .exit)) ≡ flagsTold (optionalCombinedAddedC present ours (now («ours_epochs» .entry)) (now («ours_counts» .entry)) theirs (now («theirs_epochs» .entry)) (now («theirs_counts» .entry)) amount strategy (now (epochs .entry)) (now (counts .entry))) ⌝ }
 {
-    let is_present = capi_given::is_true(present);
-    if capi_given::can_merge(is_present, ours, theirs, strategy) {
-        return capi_told::flags(flags::optional_combine_added_bytes(
-            is_present,
-            capi_given::head(ours),
-            ours_epochs,
-            ours_counts,
-            capi_given::head(theirs),
-            theirs_epochs,
-            theirs_counts,
-            amount,
-            capi_given::strategy(strategy),
-            epochs,
-            counts,
-        ));
-    }
-    capi_told::bad_flags()
+    capi_merges::optional_combine_added_bytes(
+        present,
+        ours,
+        ours_epochs,
+        ours_counts,
+        theirs,
+        theirs_epochs,
+        theirs_counts,
+        amount,
+        strategy,
+        epochs,
+        counts,
+    )
 }

@@ -8,11 +8,6 @@ use capi_spec::CHead;
 use capi_spec::CRemoval;
 use capi_spec::CSplit;
 use capi_spec::CSum;
-use records_spec::Refusal;
-use rows_spec::HasRemoval;
-use rows_spec::Total;
-use splitting_spec::Splitting;
-use sums_spec::Summed;
 
 // Splits a removal of key bytes and value bytes.
 #[no_mangle]
@@ -31,22 +26,19 @@ pub extern "C" fn petasunok_split_storage_removed_bytes(
 ) -> CSplit
     ensures { λ r. ⌜ splitLeft r (tables (now («key_ids» .exit)) (now («key_epochs» .exit)) (now («key_bytes» .exit))) (tables (now («value_ids» .exit)) (now («value_epochs» .exit)) (now («value_bytes» .exit))) ≡ splitTold (splitRemovedC flags (now («flags_epochs» .entry)) (now («flags_counts» .entry)) key value (tables (now («key_ids» .entry)) (now («key_epochs» .entry)) (now («key_bytes» .entry))) (tables (now («value_ids» .entry)) (now («value_epochs» .entry)) (now («value_bytes» .entry)))) ⌝ }
 {
-    if capi_given::is_kind(flags.kind) {
-        return capi_told::split(splitting::split_storage_removed_bytes(
-            capi_given::head(flags),
-            flags_epochs,
-            flags_counts,
-            key,
-            value,
-            key_ids,
-            key_epochs,
-            key_bytes,
-            value_ids,
-            value_epochs,
-            value_bytes,
-        ));
-    }
-    capi_told::split(Splitting::Refused(Refusal::BadTable))
+    capi_removals::split_storage_removed_bytes(
+        flags,
+        flags_epochs,
+        flags_counts,
+        key,
+        value,
+        key_ids,
+        key_epochs,
+        key_bytes,
+        value_ids,
+        value_epochs,
+        value_bytes,
+    )
 }
 
 // Adds the right removal to the left one, in the left one's tables.
@@ -64,20 +56,17 @@ pub extern "C" fn petasunok_add_assign(
 ) -> CSum
     ensures { λ r. ⌜ sumLeft r (tables (now («lhs_ids» .exit)) (now («lhs_epochs» .exit)) (now («lhs_bytes» .exit))) ≡ sumTold (summedC version lhs (tables (now («lhs_ids» .entry)) (now («lhs_epochs» .entry)) (now («lhs_bytes» .entry))) rhs (tables (now («rhs_ids» .entry)) (now («rhs_epochs» .entry)) (now («rhs_bytes» .entry)))) ⌝ }
 {
-    if capi_given::can_sum(lhs, rhs) {
-        return capi_told::sum(sums::add_assign(
-            capi_given::removal(lhs),
-            lhs_ids,
-            lhs_epochs,
-            lhs_bytes,
-            capi_given::removal(rhs),
-            rhs_ids,
-            rhs_epochs,
-            rhs_bytes,
-            version,
-        ));
-    }
-    capi_told::sum(Summed::Refused(Refusal::BadTable))
+    capi_removals::add_assign(
+        lhs,
+        lhs_ids,
+        lhs_epochs,
+        lhs_bytes,
+        rhs,
+        rhs_ids,
+        rhs_epochs,
+        rhs_bytes,
+        version,
+    )
 }
 
 // Whether anything was removed: 1 or 0.
@@ -90,15 +79,7 @@ pub extern "C" fn petasunok_has_removal(
 ) -> CCount
     ensures { λ r. ⌜ r ≡ truthTold (hasRemovalC removal (tables (now («removal_ids» .entry)) (now («removal_epochs» .entry)) (now («removal_bytes» .entry)))) ⌝ }
 {
-    if capi_given::is_removal(removal.kind) {
-        return capi_told::has(rows::has_removal(
-            capi_given::removal(removal),
-            removal_ids,
-            removal_epochs,
-            removal_bytes,
-        ));
-    }
-    capi_told::has(HasRemoval::Refused(Refusal::BadTable))
+    capi_removals::has_removal(removal, removal_ids, removal_epochs, removal_bytes)
 }
 
 // All bytes of a removal.
@@ -111,13 +92,5 @@ pub extern "C" fn petasunok_total_removed_bytes(
 ) -> CCount
     ensures { λ r. ⌜ r ≡ countTold (totalRemovedC removal (tables (now («removal_ids» .entry)) (now («removal_epochs» .entry)) (now («removal_bytes» .entry)))) ⌝ }
 {
-    if capi_given::is_removal(removal.kind) {
-        return capi_told::total(rows::total_removed_bytes(
-            capi_given::removal(removal),
-            removal_ids,
-            removal_epochs,
-            removal_bytes,
-        ));
-    }
-    capi_told::total(Total::Refused(Refusal::BadTable))
+    capi_removals::total_removed_bytes(removal, removal_ids, removal_epochs, removal_bytes)
 }

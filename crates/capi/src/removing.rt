@@ -26,24 +26,21 @@ pub extern "C" fn petasunok_combine_removed_bytes(
 ) -> CFlags
     ensures { λ r. ⌜ flagsLeft r (now (epochs .exit)) (now (counts .exit)) ≡ flagsTold (combinedRemovedC ours (now («ours_epochs» .entry)) (now («ours_counts» .entry)) theirs (now («theirs_epochs» .entry)) (now («theirs_counts» .entry)) removal (tables (now («removal_ids» .entry)) (now («removal_epochs» .entry)) (now («removal_bytes» .entry))) strategy (now (epochs .entry)) (now (counts .entry))) ⌝ }
 {
-    if capi_given::can_remove(true, ours, theirs, strategy, removal) {
-        return capi_told::flags(removal::combine_removed_bytes(
-            capi_given::head(ours),
-            ours_epochs,
-            ours_counts,
-            capi_given::head(theirs),
-            theirs_epochs,
-            theirs_counts,
-            capi_given::removal(removal),
-            removal_ids,
-            removal_epochs,
-            removal_bytes,
-            capi_given::strategy(strategy),
-            epochs,
-            counts,
-        ));
-    }
-    capi_told::bad_flags()
+    capi_merges::combine_removed_bytes(
+        ours,
+        ours_epochs,
+        ours_counts,
+        theirs,
+        theirs_epochs,
+        theirs_counts,
+        removal,
+        removal_ids,
+        removal_epochs,
+        removal_bytes,
+        strategy,
+        epochs,
+        counts,
+    )
 }
 
 // The same where ours may be absent; then ours is not looked at.
@@ -66,24 +63,20 @@ pub extern "C" fn petasunok_optional_combine_removed_bytes(
 ) -> CFlags
     ensures { λ r. ⌜ flagsLeft r (now (epochs .exit)) (now (counts .exit)) ≡ flagsTold (optionalCombinedRemovedC present ours (now («ours_epochs» .entry)) (now («ours_counts» .entry)) theirs (now («theirs_epochs» .entry)) (now («theirs_counts» .entry)) removal (tables (now («removal_ids» .entry)) (now («removal_epochs» .entry)) (now («removal_bytes» .entry))) strategy (now (epochs .entry)) (now (counts .entry))) ⌝ }
 {
-    let is_present = capi_given::is_true(present);
-    if capi_given::can_remove(is_present, ours, theirs, strategy, removal) {
-        return capi_told::flags(removal::optional_combine_removed_bytes(
-            is_present,
-            capi_given::head(ours),
-            ours_epochs,
-            ours_counts,
-            capi_given::head(theirs),
-            theirs_epochs,
-            theirs_counts,
-            capi_given::removal(removal),
-            removal_ids,
-            removal_epochs,
-            removal_bytes,
-            capi_given::strategy(strategy),
-            epochs,
-            counts,
-        ));
-    }
-    capi_told::bad_flags()
+    capi_merges::optional_combine_removed_bytes(
+        present,
+        ours,
+        ours_epochs,
+        ours_counts,
+        theirs,
+        theirs_epochs,
+        theirs_counts,
+        removal,
+        removal_ids,
+        removal_epochs,
+        removal_bytes,
+        strategy,
+        epochs,
+        counts,
+    )
 }

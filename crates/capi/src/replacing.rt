@@ -24,21 +24,18 @@ pub extern "C" fn petasunok_totals_replace(
 ) -> CCount
     ensures { λ r. ⌜ totalsLeft r (tables (now (owners .exit)) (now (epochs .exit)) (now (totals .exit))) ≡ totalsTold (totalsReplacedC rows (tables (now (owners .entry)) (now (epochs .entry)) (now (totals .entry))) «old_present» old (now («old_epochs» .entry)) (now («old_counts» .entry)) «new_present» new (now («new_epochs» .entry)) (now («new_counts» .entry))) ⌝ }
 {
-    if capi_given::can_replace(old_present, old, new_present, new) {
-        return capi_told::replaced(totals::replace(
-            rows,
-            owners,
-            epochs,
-            totals,
-            capi_given::is_true(old_present),
-            capi_given::head(old),
-            old_epochs,
-            old_counts,
-            capi_given::is_true(new_present),
-            capi_given::head(new),
-            new_epochs,
-            new_counts,
-        ));
-    }
-    capi_told::bad_table()
+    capi_totals::totals_replace(
+        rows,
+        owners,
+        epochs,
+        totals,
+        old_present,
+        old,
+        old_epochs,
+        old_counts,
+        new_present,
+        new,
+        new_epochs,
+        new_counts,
+    )
 }

@@ -1,9 +1,9 @@
--- `capi::adding::petasunok_combine_added_bytes` meets its contract: the call's own answer is told, or 11. Assumes nothing.
+-- `capi_merges::adding::combine_added_bytes` meets its contract: the call's own answer is told, or 11. Assumes nothing.
 use mathlib.Core.Path.{sym, _∙_}
 use Rattle.capi_spec.proofs.Telling.{when-true, flags-told, flags-bad}
 use borrow.Author.Needs.{needs}
-use Rattle.capi.proofs.adding.petasunok_combine_added_bytes.Statement.{statement}
-use Rattle.capi.proofs.adding.petasunok_combine_added_bytes.Tie as tie
+use Rattle.capi_merges.proofs.adding.combine_added_bytes.Statement.{statement}
+use Rattle.capi_merges.proofs.adding.combine_added_bytes.Tie as tie
 
 returns : tie.Need-returns
 returns c =
@@ -13,8 +13,8 @@ returns-2 : tie.Need-returns-2
 returns-2 c =
     flags-bad _ _ _ _ _ (c .bad-flags .ensures) (sym (c .before .before .can-merge .ensures) ∙ c .before .if1 .left)
 
-pub petasunok-combine-added-bytes-spec : {M : Type 1} → statement M
-petasunok-combine-added-bytes-spec =
+pub combine-added-bytes-spec : {M : Type 1} → statement M
+combine-added-bytes-spec =
     tie.close
     (tie.spec
     (λ c κs. search needs)

@@ -1,10 +1,10 @@
--- `capi::adding::petasunok_optional_combine_added_bytes` meets its contract: the call's own answer is told, or 11. Assumes nothing.
+-- `capi_merges::adding::optional_combine_added_bytes` meets its contract: the call's own answer is told, or 11. Assumes nothing.
 use mathlib.Core.Path.{_∙_}
 use Rattle.capi_spec.proofs.Telling.{when-true, flags-told, flags-bad}
 use Rattle.capi_spec.proofs.Testing.{merges}
 use borrow.Author.Needs.{needs}
-use Rattle.capi.proofs.adding.petasunok_optional_combine_added_bytes.Statement.{statement}
-use Rattle.capi.proofs.adding.petasunok_optional_combine_added_bytes.Tie as tie
+use Rattle.capi_merges.proofs.adding.optional_combine_added_bytes.Statement.{statement}
+use Rattle.capi_merges.proofs.adding.optional_combine_added_bytes.Tie as tie
 
 returns : tie.Need-returns
 returns c =
@@ -30,8 +30,8 @@ returns-2 c =
     let f = merges (a .present) (a .ours) (a .theirs) (a .strategy) (at-start .is-true .ensures) (at-if1 .before .can-merge .ensures) (at-if1 .if1 .left) in
     flags-bad _ _ _ _ _ (c .bad-flags .ensures) f
 
-pub petasunok-optional-combine-added-bytes-spec : {M : Type 1} → statement M
-petasunok-optional-combine-added-bytes-spec =
+pub optional-combine-added-bytes-spec : {M : Type 1} → statement M
+optional-combine-added-bytes-spec =
     tie.close
     (tie.spec
     (λ c κs. search needs)

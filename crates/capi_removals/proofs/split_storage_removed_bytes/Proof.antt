@@ -1,11 +1,11 @@
--- `capi::removals::petasunok_split_storage_removed_bytes` meets its contract: the call's own answer is told, or 11. Assumes nothing.
+-- `capi_removals::split_storage_removed_bytes` meets its contract: the call's own answer is told, or 11. Assumes nothing.
 use Rattle.records_spec.specs.declared.refusal.Refusal.the-variants.{BadTable}
 use Rattle.splitting_spec.specs.declared.split.Splitting.the-variants.{Refused}
 use mathlib.Core.Path.{refl, sym, _∙_}
 use Rattle.capi_spec.proofs.Telling.{when-true, when-false, split-told}
 use borrow.Author.Needs.{needs}
-use Rattle.capi.proofs.removals.petasunok_split_storage_removed_bytes.Statement.{statement}
-use Rattle.capi.proofs.removals.petasunok_split_storage_removed_bytes.Tie as tie
+use Rattle.capi_removals.proofs.split_storage_removed_bytes.Statement.{statement}
+use Rattle.capi_removals.proofs.split_storage_removed_bytes.Tie as tie
 
 returns : tie.Need-returns
 returns c =
@@ -15,8 +15,8 @@ returns-2 : tie.Need-returns-2
 returns-2 c =
     split-told _ (Refused BadTable) _ _ _ (c .split2 .ensures) (when-false _ _ _ (sym (c .before .before .is-kind .ensures) ∙ c .before .if1 .left) refl)
 
-pub petasunok-split-storage-removed-bytes-spec : {M : Type 1} → statement M
-petasunok-split-storage-removed-bytes-spec =
+pub split-storage-removed-bytes-spec : {M : Type 1} → statement M
+split-storage-removed-bytes-spec =
     tie.close
     (tie.spec
     (λ c κs. search needs)

@@ -1,13 +1,13 @@
--- `capi::removals::petasunok_has_removal` meets its contract: the call's own answer is told, or 11. Assumes nothing.
+-- `capi_removals::has_removal` meets its contract: the call's own answer is told, or 11. Assumes nothing.
 use mathlib.Core.Path.{refl, sym, ap, _∙_}
 use Rattle.capi_spec.proofs.Telling.{when-true, when-false}
 use Rattle.capi_spec.specs.Told.{truthTold}
 use borrow.Author.Needs.{needs}
-use Rattle.capi.proofs.removals.petasunok_has_removal.Statement.{statement}
-use Rattle.capi.proofs.removals.petasunok_has_removal.Tie as tie
+use Rattle.capi_removals.proofs.has_removal.Statement.{statement}
+use Rattle.capi_removals.proofs.has_removal.Tie as tie
 
-pub petasunok-has-removal-spec : {M : Type 1} → statement M
-petasunok-has-removal-spec =
+pub has-removal-spec : {M : Type 1} → statement M
+has-removal-spec =
     tie.close
     (tie.spec (λ c κs. search needs) (λ c κs. search needs) (λ c κs. search needs) (λ c κs. search needs)
     (λ c. c .has .ensures ∙ ap truthTold (when-true _ _ _ (sym (c .before .before .before .before .is-removal .ensures) ∙ c .before .before .before .if1 .taken) (c .before .has-removal .ensures ∙ simp (c .before .before .removal .ensures))))

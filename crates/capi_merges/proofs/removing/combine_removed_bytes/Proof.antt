@@ -1,9 +1,9 @@
--- `capi::removing::petasunok_combine_removed_bytes` meets its contract: the call's own answer is told, or 11. Assumes nothing.
+-- `capi_merges::removing::combine_removed_bytes` meets its contract: the call's own answer is told, or 11. Assumes nothing.
 use mathlib.Core.Path.{sym, _∙_}
 use Rattle.capi_spec.proofs.Telling.{when-true, flags-told, flags-bad}
 use borrow.Author.Needs.{needs}
-use Rattle.capi.proofs.removing.petasunok_combine_removed_bytes.Statement.{statement}
-use Rattle.capi.proofs.removing.petasunok_combine_removed_bytes.Tie as tie
+use Rattle.capi_merges.proofs.removing.combine_removed_bytes.Statement.{statement}
+use Rattle.capi_merges.proofs.removing.combine_removed_bytes.Tie as tie
 
 returns : tie.Need-returns
 returns c =
@@ -21,8 +21,8 @@ returns c =
 returns-2 : tie.Need-returns-2
 returns-2 c = flags-bad _ _ _ _ _ (c .bad-flags .ensures) (sym (c .before .before .can-remove .ensures) ∙ c .before .if1 .left)
 
-pub petasunok-combine-removed-bytes-spec : {M : Type 1} → statement M
-petasunok-combine-removed-bytes-spec =
+pub combine-removed-bytes-spec : {M : Type 1} → statement M
+combine-removed-bytes-spec =
     tie.close
     (tie.spec
     (λ c κs. search needs)

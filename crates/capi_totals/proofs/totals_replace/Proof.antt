@@ -1,4 +1,4 @@
--- `capi::replacing::petasunok_totals_replace` meets its contract: the call's own answer is told, or 11. Assumes nothing.
+-- `capi_totals::totals_replace` meets its contract: the call's own answer is told, or 11. Assumes nothing.
 use mathlib.Core.Path.{_≡_, refl, sym, _∙_}
 use mathlib.Core.Bool.{true, false}
 use Rattle.records_spec.specs.declared.refusal.Refusal.the-variants.{BadTable}
@@ -6,8 +6,8 @@ use Rattle.totals_spec.specs.declared.replacing.Replaced.the-variants.{Refused}
 use Rattle.capi_spec.specs.Given.{canReplace}
 use Rattle.capi_spec.proofs.Telling.{when-true, when-false, totals-told}
 use borrow.Author.Needs.{needs}
-use Rattle.capi.proofs.replacing.petasunok_totals_replace.Statement.{statement}
-use Rattle.capi.proofs.replacing.petasunok_totals_replace.Tie as tie
+use Rattle.capi_totals.proofs.totals_replace.Statement.{statement}
+use Rattle.capi_totals.proofs.totals_replace.Tie as tie
 
 returns : tie.Need-returns
 returns c =
@@ -28,8 +28,8 @@ returns-2 c =
     let tested : _ ≡ false = sym (c .before .before .can-replace .ensures) ∙ c .before .if1 .left in
     totals-told _ (Refused BadTable) _ _ (c .bad-table .ensures) (when-false _ _ _ tested refl)
 
-pub petasunok-totals-replace-spec : {M : Type 1} → statement M
-petasunok-totals-replace-spec =
+pub totals-replace-spec : {M : Type 1} → statement M
+totals-replace-spec =
     tie.close
     (tie.spec
     (λ c κs. search needs)

@@ -1,11 +1,11 @@
--- `capi::removals::petasunok_add_assign` meets its contract: the call's own answer is told, or 11. Assumes nothing.
+-- `capi_removals::add_assign` meets its contract: the call's own answer is told, or 11. Assumes nothing.
 use Rattle.records_spec.specs.declared.refusal.Refusal.the-variants.{BadTable}
 use Rattle.sums_spec.specs.declared.sum.Summed.the-variants.{Refused}
 use mathlib.Core.Path.{refl, sym, _∙_}
 use Rattle.capi_spec.proofs.Telling.{when-true, when-false, sum-told}
 use borrow.Author.Needs.{needs}
-use Rattle.capi.proofs.removals.petasunok_add_assign.Statement.{statement}
-use Rattle.capi.proofs.removals.petasunok_add_assign.Tie as tie
+use Rattle.capi_removals.proofs.add_assign.Statement.{statement}
+use Rattle.capi_removals.proofs.add_assign.Tie as tie
 
 returns : tie.Need-returns
 returns c =
@@ -17,8 +17,8 @@ returns c =
 returns-2 : tie.Need-returns-2
 returns-2 c = sum-told _ (Refused BadTable) _ _ (c .sum2 .ensures) (when-false _ _ _ (sym (c .before .before .can-sum .ensures) ∙ c .before .if1 .left) refl)
 
-pub petasunok-add-assign-spec : {M : Type 1} → statement M
-petasunok-add-assign-spec =
+pub add-assign-spec : {M : Type 1} → statement M
+add-assign-spec =
     tie.close
     (tie.spec
     (λ c κs. search needs)

@@ -1,11 +1,11 @@
--- `capi::removing::petasunok_optional_combine_removed_bytes` meets its contract: the call's own answer is told, or 11. Assumes nothing.
+-- `capi_merges::removing::optional_combine_removed_bytes` meets its contract: the call's own answer is told, or 11. Assumes nothing.
 use mathlib.Core.Path.{_∙_}
 use Rattle.capi_spec.proofs.Telling.{when-true, flags-told, flags-bad}
 use Rattle.capi_spec.proofs.Testing.{removes}
 use Rattle.capi_spec.specs.Given.{isRemoval}
 use borrow.Author.Needs.{needs}
-use Rattle.capi.proofs.removing.petasunok_optional_combine_removed_bytes.Statement.{statement}
-use Rattle.capi.proofs.removing.petasunok_optional_combine_removed_bytes.Tie as tie
+use Rattle.capi_merges.proofs.removing.optional_combine_removed_bytes.Statement.{statement}
+use Rattle.capi_merges.proofs.removing.optional_combine_removed_bytes.Tie as tie
 
 returns : tie.Need-returns
 returns c =
@@ -32,8 +32,8 @@ returns-2 c =
     let f = removes (a .present) (a .ours) (a .theirs) (a .strategy) (isRemoval (a .removal .kind)) (at-start .is-true .ensures) (at-if1 .before .can-remove .ensures) (at-if1 .if1 .left) in
     flags-bad _ _ _ _ _ (c .bad-flags .ensures) f
 
-pub petasunok-optional-combine-removed-bytes-spec : {M : Type 1} → statement M
-petasunok-optional-combine-removed-bytes-spec =
+pub optional-combine-removed-bytes-spec : {M : Type 1} → statement M
+optional-combine-removed-bytes-spec =
     tie.close
     (tie.spec
     (λ c κs. search needs)

@@ -1,0 +1,87 @@
+// The removing merge, for C.
+ghost use mathlib.Core.Path.{_≡_};
+ghost use Rattle.rows_spec.specs.Rows.{tables};
+ghost use Rattle.capi_spec.specs.Told.{flagsLeft, flagsTold};
+ghost use Rattle.capi_spec.specs.Calls.{combinedRemovedC, optionalCombinedRemovedC};
+use capi_spec::CFlags;
+use capi_spec::CHead;
+use capi_spec::CRemoval;
+
+// Merges ours with the incoming flags that came with removed bytes.
+pub fn combine_removed_bytes(
+    ours: CHead,
+    ours_epochs: &[u16],
+    ours_counts: &[u32],
+    theirs: CHead,
+    theirs_epochs: &[u16],
+    theirs_counts: &[u32],
+    removal: CRemoval,
+    removal_ids: &[[u8; 32]],
+    removal_epochs: &[u16],
+    removal_bytes: &[u32],
+    strategy: u8,
+    epochs: &mut [u16],
+    counts: &mut [u32],
+) -> CFlags
+    ensures { λ r. ⌜ flagsLeft r (now (epochs .exit)) (now (counts .exit)) ≡ flagsTold (combinedRemovedC ours (now («ours_epochs» .entry)) (now («ours_counts» .entry)) theirs (now («theirs_epochs» .entry)) (now («theirs_counts» .entry)) removal (tables (now («removal_ids» .entry)) (now («removal_epochs» .entry)) (now («removal_bytes» .entry))) strategy (now (epochs .entry)) (now (counts .entry))) ⌝ }
+{
+    if capi_given::can_remove(true, ours, theirs, strategy, removal) {
+        return capi_told::flags(removal::combine_removed_bytes(
+            capi_given::head(ours),
+            ours_epochs,
+            ours_counts,
+            capi_given::head(theirs),
+            theirs_epochs,
+            theirs_counts,
+            capi_given::removal(removal),
+            removal_ids,
+            removal_epochs,
+            removal_bytes,
+            capi_given::strategy(strategy),
+            epochs,
+            counts,
+        ));
+    }
+    capi_told::bad_flags()
+}
+
+// The same where ours may be absent; then ours is not looked at.
+pub fn optional_combine_removed_bytes(
+    present: u8,
+    ours: CHead,
+    ours_epochs: &[u16],
+    ours_counts: &[u32],
+    theirs: CHead,
+    theirs_epochs: &[u16],
+    theirs_counts: &[u32],
+    removal: CRemoval,
+    removal_ids: &[[u8; 32]],
+    removal_epochs: &[u16],
+    removal_bytes: &[u32],
+    strategy: u8,
+    epochs: &mut [u16],
+    counts: &mut [u32],
+) -> CFlags
+    ensures { λ r. ⌜ flagsLeft r (now (epochs .exit)) (now (counts .exit)) ≡ flagsTold (optionalCombinedRemovedC present ours (now («ours_epochs» .entry)) (now («ours_counts» .entry)) theirs (now («theirs_epochs» .entry)) (now («theirs_counts» .entry)) removal (tables (now («removal_ids» .entry)) (now («removal_epochs» .entry)) (now («removal_bytes» .entry))) strategy (now (epochs .entry)) (now (counts .entry))) ⌝ }
+{
+    let is_present = capi_given::is_true(present);
+    if capi_given::can_remove(is_present, ours, theirs, strategy, removal) {
+        return capi_told::flags(removal::optional_combine_removed_bytes(
+            is_present,
+            capi_given::head(ours),
+            ours_epochs,
+            ours_counts,
+            capi_given::head(theirs),
+            theirs_epochs,
+            theirs_counts,
+            capi_given::removal(removal),
+            removal_ids,
+            removal_epochs,
+            removal_bytes,
+            capi_given::strategy(strategy),
+            epochs,
+            counts,
+        ));
+    }
+    capi_told::bad_flags()
+}
