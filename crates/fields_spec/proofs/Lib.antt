@@ -1,3 +1,4 @@
+pub mod Marked
 pub mod Bigs
 pub mod Table
 pub mod Bases

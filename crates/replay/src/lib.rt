@@ -6,13 +6,7 @@ mod repairs;
 mod writes;
 
 use wire::BEYOND;
-
-// What comes of a question and its stored reply.
-pub enum Verdict {
-    Agrees,
-    Differs,
-    NoQuestion,
-}
+use wire::Verdict;
 
 // Makes the call of a number, 1 to 24; answers the place in the reply behind what it answers.
 fn make(call: u8, question: &[u8], reply: &[u8]) -> usize {

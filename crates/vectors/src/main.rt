@@ -1,10 +1,9 @@
 // Replays the list of stored answers on standard input, and says how many agree.
 use libc::STDIN_FILENO;
-use replay::Verdict;
 use vectors_list::Line;
 use vectors_list::PLACES;
-use vectors_list::agrees;
 use vectors_list::differs;
+use vectors_list::note;
 
 // What a turn of reading came to: the line that has begun, and whether there may be more.
 struct Turn {
@@ -22,26 +21,12 @@ fn part(bytes: &[u8], from: usize, to: usize) -> &[u8] {
     &bytes[0..0]
 }
 
-// A byte as a place.
-fn place(byte: u8) -> usize {
-    byte as usize
-}
-
 // The call number of a question; 0 where there is none.
-fn call_of(question: &[u8]) -> usize {
+fn call_of(question: &[u8]) -> u8 {
     if 0 < question.len() {
-        return place(question[0]);
+        return question[0];
     }
     0
-}
-
-// Replays a question and its reply, and counts what comes of it.
-fn judge(number: u64, question: &[u8], reply: &[u8], tally: &mut [u64]) {
-    match replay::replay(question, reply) {
-        Verdict::Agrees => agrees(call_of(question), tally),
-        Verdict::Differs => differs(number, call_of(question), tally),
-        Verdict::NoQuestion => differs(number, 0, tally),
-    }
 }
 
 // Judges a line that has ended.
@@ -52,7 +37,8 @@ fn end(line: Line, text: &[u8], tally: &mut [u64]) {
     if line.is_whole() {
         let question = part(text, 0, line.turn);
         let reply = part(text, line.turn, line.end);
-        judge(line.number, question, reply, tally);
+        let verdict = replay::replay(question, reply);
+        note(line.number, call_of(question), verdict, tally);
         return;
     }
     differs(line.number, 0, tally);

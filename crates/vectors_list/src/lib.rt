@@ -5,6 +5,6 @@ mod tally;
 
 pub use line::Line;
 pub use tally::PLACES;
-pub use tally::agrees;
 pub use tally::differs;
+pub use tally::note;
 pub use tally::print;

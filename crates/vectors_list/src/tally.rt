@@ -2,6 +2,7 @@
 // others those that differ. Place 0 of these counts lines that are no vectors.
 use crate::names::print_name;
 use libc::STDOUT_FILENO;
+use wire::Verdict;
 
 // One more than the largest call number.
 const CALLS: usize = 25;
@@ -39,13 +40,6 @@ fn total(tally: &[u64], from: usize, to: usize) -> u64 {
     sum
 }
 
-// Counts an answer that agrees.
-pub fn agrees(call: usize, tally: &mut [u64]) {
-    if call < CALLS {
-        count(tally, call);
-    }
-}
-
 // Counts a line that differs, or under 0 one that is no vector; the first ones are named.
 pub fn differs(number: u64, call: usize, tally: &mut [u64]) {
     if total(tally, CALLS, PLACES) < NAMED {
@@ -56,6 +50,15 @@ pub fn differs(number: u64, call: usize, tally: &mut [u64]) {
     }
     if call < CALLS {
         count(tally, CALLS + call);
+    }
+}
+
+// Counts what came of the question on a line, whose call has this number.
+pub fn note(number: u64, call: u8, verdict: Verdict, tally: &mut [u64]) {
+    match verdict {
+        Verdict::Agrees => count(tally, call as usize),
+        Verdict::Differs => differs(number, call as usize, tally),
+        Verdict::NoQuestion => differs(number, 0, tally),
     }
 }
 

@@ -20,6 +20,7 @@ pub use question::take_u8;
 pub use question::take_u16;
 pub use question::take_u32;
 pub use reply::DIFFERS;
+pub use reply::Verdict;
 pub use reply::byte_of;
 pub use reply::tell_answer;
 pub use reply::tell_bytes;

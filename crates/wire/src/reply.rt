@@ -8,6 +8,13 @@ use records_spec::Refusal;
 use rows_spec::Removed;
 use rows_spec::StorageRemovedBytes;
 
+// What comes of a question and its stored reply.
+pub enum Verdict {
+    Agrees,
+    Differs,
+    NoQuestion,
+}
+
 // The place behind a field that differs.
 pub const DIFFERS: usize = 0xffff_fffe;
 
