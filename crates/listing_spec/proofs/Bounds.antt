@@ -17,7 +17,7 @@ use Rattle.records_spec.specs.Tables.{At}
 use Rattle.records_spec.specs.Flags.{Flags, owned, ownerIf, typeByte, kindOf}
 use Rattle.records_spec.specs.Refusals.{number}
 use Rattle.records_spec.specs.declared.refusal.Refusal.{Refusal}
-use Rattle.records_spec.specs.declared.refusal.Refusal.the-variants.{UnknownType, WrongSize, NonCanonical, DifferentBaseEpoch, DifferentOwners, Overflow, NoStorageAtEpoch, RemovalTooLarge, TotalTooLarge, NoRoom, BadTable}
+use Rattle.records_spec.specs.declared.refusal.Refusal.the-variants.{UnknownType, WrongSize, NonCanonical, DifferentBaseEpoch, DifferentOwners, Overflow, NoStorageAtEpoch, TotalTooLarge, NoRoom, BadTable}
 use Rattle.records_spec.specs.declared.head.Kind.{Kind}
 use Rattle.records_spec.specs.declared.head.Kind.the-variants.{SingleEpoch, MultiEpoch, SingleEpochOwned, MultiEpochOwned}
 use Rattle.codec_spec.specs.Bytes.{headSize, basePlace}
@@ -172,7 +172,6 @@ number-below DifferentBaseEpoch = omega arith
 number-below DifferentOwners = omega arith
 number-below Overflow = omega arith
 number-below NoStorageAtEpoch = omega arith
-number-below RemovalTooLarge = omega arith
 number-below TotalTooLarge = omega arith
 number-below NoRoom = omega arith
 number-below BadTable = omega arith

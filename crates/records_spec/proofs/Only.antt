@@ -10,7 +10,7 @@ use borrow.Author.Tests.{ne-eqb}
 use Rattle.records_spec.specs.Refusals.{number}
 use Rattle.records_spec.specs.Answers.{Answer, ok, refused, After, refusalOf, presentIn, shown, counted, Written, wrote}
 use Rattle.records_spec.specs.declared.refusal.Refusal.{Refusal}
-use Rattle.records_spec.specs.declared.refusal.Refusal.the-variants.{UnknownType, WrongSize, NonCanonical, DifferentBaseEpoch, DifferentOwners, Overflow, NoStorageAtEpoch, RemovalTooLarge, TotalTooLarge, NoRoom, BadTable}
+use Rattle.records_spec.specs.declared.refusal.Refusal.the-variants.{UnknownType, WrongSize, NonCanonical, DifferentBaseEpoch, DifferentOwners, Overflow, NoStorageAtEpoch, TotalTooLarge, NoRoom, BadTable}
 use Rattle.records_spec.specs.declared.answer.Outcome.{Outcome}
 use Rattle.records_spec.specs.declared.answer.Outcome.the-variants.{Absent, Present, Refused}
 use Rattle.records_spec.specs.declared.answer.Answered.{Answered}
@@ -36,7 +36,7 @@ named n =
     (cond (eqb n 5) DifferentOwners
     (cond (eqb n 6) Overflow
     (cond (eqb n 7) NoStorageAtEpoch
-    (cond (eqb n 8) RemovalTooLarge (cond (eqb n 9) TotalTooLarge (cond (eqb n 10) NoRoom BadTable)))))))))
+    (cond (eqb n 9) TotalTooLarge (cond (eqb n 10) NoRoom BadTable))))))))
 
 pub named-back : (r : Refusal) → named (number r) ≡ r
 named-back UnknownType = refl
@@ -46,10 +46,17 @@ named-back DifferentBaseEpoch = refl
 named-back DifferentOwners = refl
 named-back Overflow = refl
 named-back NoStorageAtEpoch = refl
-named-back RemovalTooLarge = refl
 named-back TotalTooLarge = refl
 named-back NoRoom = refl
 named-back BadTable = refl
+
+-- a number that names no refusal of that number is no refusal's
+unused : (n : ℕ) → (number (named n) ≡ n → ⊥) → (r : Refusal) → number r ≡ n → ⊥
+unused n none r e = none (ap number (ap named (sym e) ∙ named-back r) ∙ e)
+
+-- 8 IS NO REFUSAL'S NUMBER ANY MORE
+pub never-8 : (r : Refusal) → number r ≡ 8 → ⊥
+never-8 = unused 8 (λ e. omega arith)
 
 -- ---- answers
 
@@ -77,7 +84,7 @@ outcomeAs true n = Present
 outcomeAs false n = cond (eqb n 0) Absent (Refused (named n))
 
 numbered : (r : Refusal) → eqb (number r) 0 ≡ false
-numbered r = ne-eqb (number r) 0 (λ e. let f : number r ≡ 11 = ap number (sym (named-back r) ∙ ap named e) in omega arith)
+numbered r = ne-eqb (number r) 0 (unused 0 (λ e. omega arith) r)
 
 outcome-back : (o : Outcome) → outcomeAs (presentIn o) (refusalOf o) ≡ o
 outcome-back Absent = refl

@@ -2,7 +2,7 @@
 -- Assumes nothing.
 use Prim.Native.Nat.{ℕ}
 use Rattle.records_spec.specs.declared.refusal.Refusal.{Refusal}
-use Rattle.records_spec.specs.declared.refusal.Refusal.the-variants.{UnknownType, WrongSize, NonCanonical, DifferentBaseEpoch, DifferentOwners, Overflow, NoStorageAtEpoch, RemovalTooLarge, TotalTooLarge, NoRoom, BadTable}
+use Rattle.records_spec.specs.declared.refusal.Refusal.the-variants.{UnknownType, WrongSize, NonCanonical, DifferentBaseEpoch, DifferentOwners, Overflow, NoStorageAtEpoch, TotalTooLarge, NoRoom, BadTable}
 
 -- a refusal's number
 abbrev pub number : Refusal → ℕ
@@ -13,7 +13,7 @@ number DifferentBaseEpoch = 4
 number DifferentOwners = 5
 number Overflow = 6
 number NoStorageAtEpoch = 7
-number RemovalTooLarge = 8
+-- 8, RemovalTooLarge, is no longer given, and no other refusal gets its number
 number TotalTooLarge = 9
 number NoRoom = 10
 number BadTable = 11

@@ -9,7 +9,7 @@ pub enum Refusal {
     DifferentOwners,
     Overflow,
     NoStorageAtEpoch,
-    RemovalTooLarge,
+    // 8, RemovalTooLarge, is no longer given, and no other refusal gets its number.
     TotalTooLarge,
     NoRoom,
     BadTable,

@@ -70,6 +70,9 @@ examples =
     ∷ own (7 ⦂ 4 ∷ []) 1 (placed (flags 5 none []))
     ∷ own (7 ⦂ 5 ∷ []) 1 (placed (flags 5 none (7 ⦂ 4 ∷ [])))
     ∷ own (7 ⦂ 10 ∷ 9 ⦂ 5 ∷ []) 0 (placed (flags 5 none (7 ⦂ 10 ∷ 9 ⦂ 5 ∷ [])))
+    ∷ own (7 ⦂ 1 ∷ []) 4294967293 (placed (flags 5 none []))
+    ∷ own (7 ⦂ 10 ∷ 9 ⦂ 4294967295 ∷ []) 4294967294 (placed (flags 5 none (7 ⦂ 8 ∷ [])))
+    ∷ own (7 ⦂ 10 ∷ 9 ⦂ 4294967295 ∷ []) 4294967295 (placed (flags 5 none (7 ⦂ 7 ∷ [])))
     -- exact room, and one record less
     ∷ ten (sectioned (row zeros 7 2 ∷ [])) (placed (flags 5 none (7 ⦂ 8 ∷ [])))
     ∷ example (flags 5 none (7 ⦂ 10 ∷ [])) (flags 9 none []) (sectioned (row zeros 7 2 ∷ [])) RaiseIssue (1 ∷ []) [] (kept 10)

@@ -1,11 +1,10 @@
 // Splitting a removal into sections, with the Rust's names where it has them.
 ghost use mathlib.Core.Path.{_≡_};
-ghost use mathlib.Core.List.{List, [], _∷_};
+ghost use mathlib.Core.List.{[], _∷_};
 ghost use lib.ListN.{length};
-ghost use Rattle.records_spec.specs.Tables.{At, _⦂_, recordsOf};
-ghost use Rattle.records_spec.specs.Answers.{ok};
+ghost use Rattle.records_spec.specs.Tables.{_⦂_, recordsOf};
 ghost use Rattle.rows_spec.specs.Rows.{tables, Room};
-ghost use Rattle.splitting_spec.specs.Sections.{split, allowed};
+ghost use Rattle.splitting_spec.specs.Sections.{split};
 ghost use Rattle.splitting_spec.specs.Visits.{rowsAtBase};
 ghost use Rattle.splitting_spec.specs.Calls.{removalOf, PlacedRemoval, parted, shown, placing, splitRemoved};
 use crate::giving::gives;
@@ -17,19 +16,6 @@ use rows_spec::Removed;
 use rows_spec::StorageRemovedBytes;
 use splitting_spec::Split;
 use splitting_spec::Splitting;
-
-// The most that a value split of flags with records takes.
-const LARGEST_REMOVAL: u32 = 4294967292;
-
-// Whether a value split of flags with so many records takes so much.
-fn is_allowed(records: usize, bytes: u32) -> bool
-    ensures { λ r. ⌜ ((rs : List At) → length rs ≡ records → r ≡ allowed rs bytes) ⌝ }
-{
-    if records == 0 {
-        return true;
-    }
-    bytes <= LARGEST_REMOVAL
-}
 
 // How many rows bytes at the base make: one, or none where there are no bytes.
 fn rows_at_base(bytes: u32) -> usize
@@ -113,8 +99,8 @@ fn sectioned_storage_removal(
     }
 }
 
-// Splits bytes that are not too many, if both removals' rows have room. They are counted before anything is written.
-fn split_allowed(
+// Splits bytes over records, if both removals' rows have room. They are counted before anything is written.
+fn split_records(
     base: u16,
     id: OwnerId,
     epochs: &[u16],
@@ -129,7 +115,7 @@ fn split_allowed(
     value_bytes: &mut [u32],
 ) -> Splitting
     requires { ⌜ length (now epochs) ≡ length (now counts) ⌝ }
-    ensures { λ r. ⌜ shown r (tables (now («key_ids» .exit)) (now («key_epochs» .exit)) (now («key_bytes» .exit))) (tables (now («value_ids» .exit)) (now («value_epochs» .exit)) (now («value_bytes» .exit))) ≡ placing (ok (parted id base (recordsOf (now (epochs .entry)) (now (counts .entry))) «removed_key_bytes» «removed_value_bytes»)) (tables (now («key_ids» .entry)) (now («key_epochs» .entry)) (now («key_bytes» .entry))) (tables (now («value_ids» .entry)) (now («value_epochs» .entry)) (now («value_bytes» .entry))) ⌝ }
+    ensures { λ r. ⌜ shown r (tables (now («key_ids» .exit)) (now («key_epochs» .exit)) (now («key_bytes» .exit))) (tables (now («value_ids» .exit)) (now («value_epochs» .exit)) (now («value_bytes» .exit))) ≡ placing (parted id base (recordsOf (now (epochs .entry)) (now (counts .entry))) «removed_key_bytes» «removed_value_bytes») (tables (now («key_ids» .entry)) (now («key_epochs» .entry)) (now («key_bytes» .entry))) (tables (now («value_ids» .entry)) (now («value_epochs» .entry)) (now («value_bytes» .entry))) ⌝ }
 {
     let visits = visit(epochs, counts, removed_value_bytes);
     let visited = visits.records;
@@ -185,25 +171,22 @@ pub fn split_storage_removed_bytes(
 {
     if records::is_proper(flags, epochs, counts) {
         let n = flags.records;
-        if is_allowed(n, removed_value_bytes) {
-            let owner = records::owner_id(flags);
-            let id = owner.id;
-            return split_allowed(
-                flags.base,
-                id,
-                &epochs[..n],
-                &counts[..n],
-                removed_key_bytes,
-                removed_value_bytes,
-                key_ids,
-                key_epochs,
-                key_bytes,
-                value_ids,
-                value_epochs,
-                value_bytes,
-            );
-        }
-        return Splitting::Refused(Refusal::RemovalTooLarge);
+        let owner = records::owner_id(flags);
+        let id = owner.id;
+        return split_records(
+            flags.base,
+            id,
+            &epochs[..n],
+            &counts[..n],
+            removed_key_bytes,
+            removed_value_bytes,
+            key_ids,
+            key_epochs,
+            key_bytes,
+            value_ids,
+            value_epochs,
+            value_bytes,
+        );
     }
     Splitting::Refused(Refusal::BadTable)
 }

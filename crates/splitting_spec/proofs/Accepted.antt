@@ -8,7 +8,7 @@ use Prim.Native.Nat.{ℕ, zero, suc}
 use lib.ListN.{length}
 use Rattle.records_spec.specs.Tables.{At, epochsOf, ascending}
 use Rattle.records_spec.specs.Flags.{idOf, ownerOf, flagsOf, proper}
-use Rattle.records_spec.specs.Answers.{ok, refused}
+use Rattle.records_spec.specs.Answers.{ok}
 use Rattle.records_spec.specs.declared.head.Head.{Head}
 use Rattle.records_spec.proofs.Answers.{refused-not-ok}
 use Rattle.records_spec.proofs.Proper.{proper-inv, proper-ascends}
@@ -17,7 +17,7 @@ use Rattle.rows_spec.specs.Removals.{Removal, rowsOfRemoval, stateOf, removalOf
 use Rattle.rows_spec.proofs.Rows.{asc-none, asc-cons}
 use Rattle.rows_spec.proofs.Under.{under-one}
 use Rattle.rows_spec.proofs.Over.{removal-over, proper-over}
-use Rattle.splitting_spec.specs.Sections.{allowed, besideBase}
+use Rattle.splitting_spec.specs.Sections.{besideBase}
 use Rattle.splitting_spec.specs.Calls.{Split, parted, splitOf, Told, After, kept, placing, splitRemoved}
 use Rattle.splitting_spec.proofs.Sums.{key-sum, value-sum}
 use Rattle.splitting_spec.proofs.Ascending.{rows-ascend, visited-beside}
@@ -46,7 +46,7 @@ record Left (s : Split) (kt vt : Tables) (t : Told) (a : After) : Type 0 where
 
 -- the split that a call of these makes
 abbrev pub splitFor : Head → List ℕ → List ℕ → ℕ → ℕ → Split
-splitFor h es cs keyBytes valueBytes = parted (idOf (ownerOf h)) (h .base) (flagsOf h es cs .records) keyBytes valueBytes
+splitFor h es cs keyBytes valueBytes = splitOf (flagsOf h es cs) keyBytes valueBytes
 
 -- all that is left of a split that has room
 abbrev filled : Split → Tables → Tables → After
@@ -58,16 +58,15 @@ module _ (s : Split) (kt vt : Tables) (t : Told) where
   by-room true e = record { answer = let z : toldOf s ≡ t = cc in sym z; key = refl; value = refl }
   by-room false e = absurd (refused-not-ok 10 t e)
 
-  by-limit : (b : Bool) → placing (cond b (ok s) (refused 8)) kt vt .answer ≡ ok t → Left s kt vt t (placing (cond b (ok s) (refused 8)) kt vt)
+  placed-left : placing s kt vt .answer ≡ ok t → Left s kt vt t (placing s kt vt)
   unfolding placing
-  by-limit true e = by-room (roomIn (length (rowsOfRemoval (s .key))) kt && roomIn (length (rowsOfRemoval (s .value))) vt) e
-  by-limit false e = absurd (refused-not-ok 8 t e)
+  placed-left e = by-room (roomIn (length (rowsOfRemoval (s .key))) kt && roomIn (length (rowsOfRemoval (s .value))) vt) e
 
 module _ (h : Head) (es cs : List ℕ) (keyBytes valueBytes : ℕ) (kt vt : Tables) (t : Told) where
   -- the flags are proper, and the rows stand in the tables
-  by-proper : (b : Bool) → proper h es cs ≡ b → cond b (placing (splitOf (flagsOf h es cs) keyBytes valueBytes) kt vt) (kept 11 kt vt) .answer ≡ ok t
-      → (proper h es cs ≡ true) × Left (splitFor h es cs keyBytes valueBytes) kt vt t (cond b (placing (splitOf (flagsOf h es cs) keyBytes valueBytes) kt vt) (kept 11 kt vt))
-  by-proper true p e = (p, by-limit (splitFor h es cs keyBytes valueBytes) kt vt t (allowed (flagsOf h es cs .records) valueBytes) e)
+  by-proper : (b : Bool) → proper h es cs ≡ b → cond b (placing (splitFor h es cs keyBytes valueBytes) kt vt) (kept 11 kt vt) .answer ≡ ok t
+      → (proper h es cs ≡ true) × Left (splitFor h es cs keyBytes valueBytes) kt vt t (cond b (placing (splitFor h es cs keyBytes valueBytes) kt vt) (kept 11 kt vt))
+  by-proper true p e = (p, placed-left (splitFor h es cs keyBytes valueBytes) kt vt t e)
   by-proper false p e = absurd (refused-not-ok 11 t e)
 
   accepted-left : splitRemoved h es cs keyBytes valueBytes kt vt .answer ≡ ok t

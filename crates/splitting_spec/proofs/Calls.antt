@@ -13,7 +13,7 @@ use Rattle.rows_spec.specs.Rows.{Tables, roomIn, Room}
 use Rattle.rows_spec.specs.Removals.{rowsOfRemoval}
 use Rattle.rows_spec.specs.declared.removed.Removed.{Removed}
 use Rattle.rows_spec.proofs.Rows.{room-in}
-use Rattle.splitting_spec.specs.Sections.{sections, split, allowed}
+use Rattle.splitting_spec.specs.Sections.{sections, split}
 use Rattle.splitting_spec.specs.Visits.{visits, rowsAtBase}
 use Rattle.splitting_spec.specs.Calls.{Split, parted, After, PlacedRemoval, kept, placing, splitRemoved}
 use Rattle.splitting_spec.specs.declared.giving.Visited.{Visited}
@@ -41,17 +41,17 @@ module _ (i : List ℕ) (base : ℕ) (rs : List At) (keyBytes valueBytes : ℕ) 
     value-room : roomIn (length (rowsOfRemoval (both .value))) vt ≡ roomIn m vt
     value-room = ap (λ (n : ℕ). roomIn n vt) (value-rows i base rs valueBytes ∙ sym em)
 
-    pub key-short : roomIn k kt ≡ false → kept 10 kt vt ≡ placing (ok both) kt vt
+    pub key-short : roomIn k kt ≡ false → kept 10 kt vt ≡ placing both kt vt
     unfolding placing
     key-short h = rw (key-room ∙ h)
 
-    pub value-short : roomIn k kt ≡ true → roomIn m vt ≡ false → kept 10 kt vt ≡ placing (ok both) kt vt
+    pub value-short : roomIn k kt ≡ true → roomIn m vt ≡ false → kept 10 kt vt ≡ placing both kt vt
     unfolding placing
     value-short h g = rw (key-room ∙ h, value-room ∙ g)
 
     pub both-placed : {x y : Removed} {kt′ vt′ : Tables} (v : ℕ) → roomIn k kt ≡ true → roomIn m vt ≡ true → PlacedRemoval (both .key) x kt kt′
         → PlacedRemoval (both .value) y vt vt′ → v ≡ length (sections rs valueBytes)
-        → _≡_ {A = After} (record { answer = ok (record { key = x; value = y; visited = v }); key-rows = kt′; value-rows = vt′ }) (placing (ok both) kt vt)
+        → _≡_ {A = After} (record { answer = ok (record { key = x; value = y; visited = v }); key-rows = kt′; value-rows = vt′ }) (placing both kt vt)
     unfolding placing
     both-placed v h g p q e =
         rw (key-room ∙ h, value-room ∙ g)
@@ -64,11 +64,7 @@ module _ (h : Head) (es cs : List ℕ) (keyBytes valueBytes : ℕ) (kt vt : Tabl
   unfolding splitRemoved
   split-bad p = rw p
 
-  pub split-large : proper h es cs ≡ true → allowed (flagsOf h es cs .records) valueBytes ≡ false → kept 8 kt vt ≡ splitRemoved h es cs keyBytes valueBytes kt vt
-  unfolding splitRemoved placing
-  split-large p a = rw (p, a)
-
-  pub split-fitting : (i : List ℕ) → i ≡ idOf (ownerOf h) → proper h es cs ≡ true → allowed (flagsOf h es cs .records) valueBytes ≡ true
-      → placing (ok (parted i (h .base) (flagsOf h es cs .records) keyBytes valueBytes)) kt vt ≡ splitRemoved h es cs keyBytes valueBytes kt vt
+  pub split-proper : (i : List ℕ) → i ≡ idOf (ownerOf h) → proper h es cs ≡ true
+      → placing (parted i (h .base) (flagsOf h es cs .records) keyBytes valueBytes) kt vt ≡ splitRemoved h es cs keyBytes valueBytes kt vt
   unfolding splitRemoved
-  split-fitting i e p a = rw (p, a) (ap (λ (j : List ℕ). placing (ok (parted j (h .base) (flagsOf h es cs .records) keyBytes valueBytes)) kt vt) e)
+  split-proper i e p = rw p (ap (λ (j : List ℕ). placing (parted j (h .base) (flagsOf h es cs .records) keyBytes valueBytes) kt vt) e)

@@ -1,16 +1,14 @@
 -- How many rows a split makes: one for each record visited, at most one more than there are records, and one at the base where it is asked.
 -- Assumes nothing.
 use mathlib.Core.Path.{_≡_, refl, sym, ap}
-use mathlib.Core.Bool.{true}
 use mathlib.Core.List.{List, [], _∷_}
 use Prim.Native.Nat.{ℕ, zero, suc, _+_, _-_, _≤_, _<_}
 use native.Mathlib.Omega.{arith}
-use lib.Dec.{leb}
 use lib.ListN.{length, length-append}
 use Rattle.records_spec.specs.Tables.{At, _⦂_}
 use Rattle.rows_spec.specs.Removals.{rowsOfRemoval}
 use Rattle.rows_spec.proofs.Under.{length-under}
-use Rattle.splitting_spec.specs.Sections.{largestRemoval, above, asked, section, sections, split, allowed}
+use Rattle.splitting_spec.specs.Sections.{above, asked, section, sections, split}
 use Rattle.splitting_spec.specs.Visits.{rowsAtBase}
 use Rattle.splitting_spec.specs.Calls.{removalOf}
 use Rattle.splitting_spec.proofs.Sections.{split-none}
@@ -59,13 +57,3 @@ key-rows i base (suc n) = length-under i (base ⦂ suc n ∷ [])
 pub value-rows : (i : List ℕ) (base : ℕ) (rs : List At) (n : ℕ) → length (rowsOfRemoval (removalOf i n (split base rs n))) ≡ length (split base rs n)
 value-rows i base rs zero = sym (ap (length {A = At}) (split-none base rs))
 value-rows i base rs (suc n) = length-under i (split base rs (suc n))
-
--- ---- what is allowed
-
-pub allowed-none : (rs : List At) (n : ℕ) → length rs ≡ 0 → allowed rs n ≡ true
-allowed-none [] n h = refl
-allowed-none (r ∷ rs) n h = absurd (omega arith)
-
-pub allowed-some : (rs : List At) (n : ℕ) → 0 < length rs → allowed rs n ≡ leb n largestRemoval
-allowed-some [] n h = absurd (omega arith)
-allowed-some (r ∷ rs) n h = refl

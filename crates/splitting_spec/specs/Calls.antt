@@ -13,7 +13,7 @@ use Rattle.records_spec.specs.declared.head.Head.{Head}
 use Rattle.rows_spec.specs.Rows.{Tables, rowsUnder, roomIn, overRows}
 use Rattle.rows_spec.specs.Removals.{Removal, nothing, sectioned, rowsOfRemoval, stateOf}
 use Rattle.rows_spec.specs.declared.removed.Removed.{Removed}
-use Rattle.splitting_spec.specs.Sections.{sections, split, allowed}
+use Rattle.splitting_spec.specs.Sections.{sections, split}
 use Rattle.splitting_spec.specs.declared.split.Splitting.{Splitting}
 use Rattle.splitting_spec.specs.declared.split.Splitting.the-variants.{Done, Refused}
 
@@ -42,10 +42,9 @@ parted i base rs keyBytes valueBytes =
       visited = length (sections rs valueBytes);
     }
 
--- the split under our owner, or 32 zero bytes; 8 where the value bytes are too many
-abbrev pub splitOf : Flags → ℕ → ℕ → Answer Split
-splitOf f keyBytes valueBytes =
-    cond (allowed (f .records) valueBytes) (ok (parted (idOf (f .owner)) (f .base) (f .records) keyBytes valueBytes)) (refused 8)
+-- the split under our owner, or 32 zero bytes
+abbrev pub splitOf : Flags → ℕ → ℕ → Split
+splitOf f keyBytes valueBytes = parted (idOf (f .owner)) (f .base) (f .records) keyBytes valueBytes
 
 -- ---- what the call leaves
 
@@ -75,9 +74,8 @@ abbrev pub kept : ℕ → Tables → Tables → After
 kept n kt vt = record { answer = refused n; key-rows = kt; value-rows = vt }
 
 -- both removals' rows at the start of their tables, or 10 where one of them has no room
-unfoldable pub placing : Answer Split → Tables → Tables → After
-placing (refused n) kt vt = kept n kt vt
-placing (ok s) kt vt =
+unfoldable pub placing : Split → Tables → Tables → After
+placing s kt vt =
     cond (roomIn (length (rowsOfRemoval (s .key))) kt && roomIn (length (rowsOfRemoval (s .value))) vt)
     (record {
       answer = ok (record { key = stateOf (s .key); value = stateOf (s .value); visited = s .visited });

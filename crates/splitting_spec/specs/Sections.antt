@@ -1,7 +1,7 @@
 -- What each epoch gives of a removal: document 01, "Splitting a removal".
 -- Assumes nothing.
 use Prim.Native.Nat.{ℕ, zero, suc, _+_, _-_, min}
-use mathlib.Core.Bool.{Bool, true, cond}
+use mathlib.Core.Bool.{cond}
 use mathlib.Core.List.{List, [], _∷_, _++_}
 use lib.Dec.{leb, eqb}
 use Rattle.records_spec.specs.Tables.{At, _⦂_}
@@ -9,10 +9,6 @@ use Rattle.records_spec.specs.Tables.{At, _⦂_}
 -- what a record keeps, if it has as much; with so little left it is dropped
 abbrev pub minimum : ℕ
 minimum = 3
-
--- the most that a value split of flags with records takes
-abbrev pub largestRemoval : ℕ
-largestRemoval = 4294967292
 
 -- what a record can give: what it holds above 3
 abbrev pub above : At → ℕ
@@ -45,11 +41,6 @@ split base rs n = section base (asked n rs) (asked n rs) ++ sections rs n
 unfoldable pub besideBase : ℕ → List At → List At
 besideBase base [] = []
 besideBase base (s ∷ ss) = cond (eqb (s .epoch) base) (besideBase base ss) (s ∷ besideBase base ss)
-
--- whether a value split takes so much: not limited without records
-abbrev pub allowed : List At → ℕ → Bool
-allowed [] n = true
-allowed (r ∷ rs) n = leb n largestRemoval
 
 -- the Rust's loop over the records, the latest first: while bytes are left a record gives all above 3, or all that is left; the base gives the rest
 unfoldable pub fromLatest : ℕ → List At → ℕ → List At

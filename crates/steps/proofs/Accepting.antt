@@ -22,11 +22,11 @@ use Rattle.flags_spec.proofs.Merging.{added-owned, raised-higher, combined-prop
 use Rattle.rows_spec.specs.Rows.{Row, Tables, Room, rowsUnder}
 use Rattle.rows_spec.specs.Removals.{rowsOfRemoval, stateOf}
 use Rattle.rows_spec.proofs.Rows.{has-room, room-less}
-use Rattle.splitting_spec.specs.Sections.{split, allowed, largestRemoval}
+use Rattle.splitting_spec.specs.Sections.{split}
 use Rattle.splitting_spec.specs.Calls.{Split, removalOf as removalOfSplit, Told, placing as placingSplit, splitRemoved}
 use Rattle.splitting_spec.proofs.Sections.{split-none}
 use Rattle.splitting_spec.proofs.Counting.{value-rows, split-short}
-use Rattle.splitting_spec.proofs.Calls.{split-fitting}
+use Rattle.splitting_spec.proofs.Calls.{split-proper}
 use Rattle.splitting_spec.proofs.Accepted.{splitFor, value-stands}
 use Rattle.removal_spec.proofs.OwnSplit.{rest, Incoming, split-merged}
 use Rattle.steps.specs.Held.{Held, properHeld, flagsIn}
@@ -59,20 +59,17 @@ module _ (h : Held) (n : ℕ) (kt vt : Tables) where
   abbrev pub toldBy : Told
   toldBy = record { key = stateOf (s .key); value = stateOf (s .value); visited = s .visited }
 
-  within : (rs : List At) → n ≤ largestRemoval → allowed rs n ≡ true
-  within [] p = refl
-  within (r ∷ rs) p = le-leb n largestRemoval p
-
-  split-placed : Room 0 kt → Room (length (rowsOfRemoval (s .value))) vt → placingSplit (ok s) kt vt .answer ≡ ok toldBy
+  split-placed : Room 0 kt → Room (length (rowsOfRemoval (s .value))) vt → placingSplit s kt vt .answer ≡ ok toldBy
   unfolding placingSplit
   split-placed k v = simp (has-room k, has-room v)
 
-  pub split-accepted : properHeld h ≡ true → n ≤ largestRemoval → Room (length rs + 1) vt
+  -- whatever the amount is
+  pub split-accepted : properHeld h ≡ true → Room (length rs + 1) vt
       → splitRemoved (h .head) (h .epochs) (h .counts) 0 n kt vt .answer ≡ ok toldBy
-  split-accepted p q r =
+  split-accepted p r =
       let l = value-rows (idOf (ownerOf (h .head))) (h .head .base) rs n in
       let v = room-less (length (rowsOfRemoval (s .value))) (omega (arith, l, split-short (h .head .base) rs n)) r in
-      ap (λ a. a .answer) (sym (split-fitting (h .head) (h .epochs) (h .counts) 0 n kt vt (idOf (ownerOf (h .head))) refl p (within rs q)))
+      ap (λ a. a .answer) (sym (split-proper (h .head) (h .epochs) (h .counts) 0 n kt vt (idOf (ownerOf (h .head))) refl p))
       ∙ split-placed (record { ids-long = omega arith; epochs-long = omega arith; bytes-long = omega arith }) v
 
 -- ---- a removal
@@ -90,14 +87,14 @@ afterRemoval f rows x =
 
 module _ (h : Held) (rows : List Row) (x : Edit) (s : properHeld h ≡ true) (t : properHeld (x .incoming) ≡ true) where
   -- the merge of what the split left
-  own-step : Incoming (flagsIn h) (flagsIn (x .incoming)) → x .amount ≤ largestRemoval → h .head .records ≤ length (x .epochs) → h .head .records ≤ length (x .counts)
+  own-step : Incoming (flagsIn h) (flagsIn (x .incoming)) → h .head .records ≤ length (x .epochs) → h .head .records ≤ length (x .counts)
       → Room (length (flagsIn h .records) + 1) (x .value-rows) → step (state h rows) (remove x) ≡ ok (afterRemoval (flagsIn h) rows x)
   unfolding step
-  own-step w q he hc r =
+  own-step w he hc r =
       let n = x .amount in
       let kt = x .key-rows in
       let vt = x .value-rows in
-      let a = split-accepted h n kt vt s q r in
+      let a = split-accepted h n kt vt s r in
       let m = split-merged (h .head) (h .epochs) (h .counts) 0 n kt vt (toldBy h n kt vt) (x .incoming .head) (x .incoming .epochs) (x .incoming .counts) (x .strategy) (x .epochs) (x .counts) a t w he hc in
       let v = value-stands (h .head) (h .epochs) (h .counts) 0 n kt vt (toldBy h n kt vt) a in
       let f = flagsIn h in
@@ -107,12 +104,12 @@ module _ (h : Held) (rows : List Row) (x : Edit) (s : properHeld h ≡ true) (t 
 
 -- A REMOVAL IS ACCEPTED, AND LEAVES WHAT ITS SPLIT LEAVES
 pub removal-step : (h : Held) (f : Flags) (rows : List Row) (x : Edit) → Stands h f → properHeld (x .incoming) ≡ true → Incoming f (flagsIn (x .incoming))
-    → x .amount ≤ largestRemoval → length (f .records) ≤ length (x .epochs) → length (f .records) ≤ length (x .counts) → Room (length (f .records) + 1) (x .value-rows)
+    → length (f .records) ≤ length (x .epochs) → length (f .records) ≤ length (x .counts) → Room (length (f .records) + 1) (x .value-rows)
     → step (state h rows) (remove x) ≡ ok (afterRemoval f rows x)
-removal-step h f rows x s t w q he hc r =
+removal-step h f rows x s t w he hc r =
     let l = stands-long s in
     subst (λ (g : Flags). Incoming g (flagsIn (x .incoming)) → Room (length (g .records) + 1) (x .value-rows) → step (state h rows) (remove x) ≡ ok (afterRemoval g rows x)) (s .are)
-    (λ w r. own-step h rows x (s .are-proper) t w q (omega arith) (omega arith) r) w r
+    (λ w r. own-step h rows x (s .are-proper) t w (omega arith) (omega arith) r) w r
 
 -- ---- an addition
 

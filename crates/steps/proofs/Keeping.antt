@@ -137,12 +137,11 @@ module _ (kt vt : Tables) where
   split-either : (b : Bool) (s t : AfterSplit) → SplitKept s → SplitKept t → SplitKept (cond b s t)
   split-either = tested (λ (a : AfterSplit). numberIn (a .answer)) (λ n. keptSplit n kt vt)
 
-  split-placed : (s : Answer Split) → SplitKept (placingSplit s kt vt)
+  split-placed : (s : Split) → SplitKept (placingSplit s kt vt)
   unfolding placingSplit
-  split-placed (refused n) h = refl
-  split-placed (ok s) h =
+  split-placed s =
       split-either
-      (roomIn (length (rowsOfRemoval (s .key))) kt && roomIn (length (rowsOfRemoval (s .value))) vt) _ _ (λ g. absurd (g refl)) (λ g. refl) h
+      (roomIn (length (rowsOfRemoval (s .key))) kt && roomIn (length (rowsOfRemoval (s .value))) vt) _ _ (λ h. absurd (h refl)) (λ h. refl)
 
   split-kept : (f : Head) (es cs : List ℕ) (k v : ℕ) → SplitKept (splitRemoved f es cs k v kt vt)
   unfolding splitRemoved

@@ -45,8 +45,6 @@ examples =
     ∷ (9 ⦂ 4 ∷ [], remove (edit 9 0) ∷ [], someFlags (flags 5 none (9 ⦂ 4 ∷ [])))
     -- a count past the limit
     ∷ (9 ⦂ 4294967295 ∷ [], add (edit 9 1) ∷ [], refusal 6)
-    -- a removal of 4,294,967,293
-    ∷ (9 ⦂ 4 ∷ [], remove (edit 9 4294967293) ∷ [], refusal 8)
     -- rows for no more than the records
     ∷ (7 ⦂ 10 ∷ 9 ⦂ 5 ∷ [], remove (narrow (edit 9 20)) ∷ [], refusal 10)
     ∷ []

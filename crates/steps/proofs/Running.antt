@@ -56,7 +56,7 @@ module _ (f : Held) where
       → step (state h rows) (remove x) ≡ ok (left rs rows x)
   removed-once h rs rows x s l r =
       let m = r .record-room in
-      removal-step h (at rs) rows x s (r .single .are-proper) (single-incoming rs (x .incoming) (r .single) (r .above-our-base)) (r .at-most) (omega arith) (omega arith)
+      removal-step h (at rs) rows x s (r .single .are-proper) (single-incoming rs (x .incoming) (r .single) (r .above-our-base)) (omega arith) (omega arith)
       (room-less (length rs + 1) (omega arith) (r .row-room))
 
   -- THEN REMOVALS ONLY: all together remove what one removal of their sum removes

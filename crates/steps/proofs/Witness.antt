@@ -1,5 +1,6 @@
--- The premises of demand 3 can be met: an owned history on {7:10, 9:5} above base 5, with tables, rows and output as long as they must be.
--- 8 bytes are added at 9 and 15 removed, in six steps with each strategy; so it refunds like one removal of 7. By computation.
+-- The premises of demand 3 can be met: two owned histories on {7:10, 9:5} above base 5, with tables, rows and output as long as they must be.
+-- In one 8 bytes are added at 9 and 15 removed, in six steps with each strategy; so it refunds like one removal of 7. The other is at the limits:
+-- 4,294,967,290 added, a removal of 4,294,967,295 and one more; it refunds like one removal of 4,294,967,295. By computation.
 -- Assumes nothing.
 use mathlib.Core.Path.{_≡_, refl}
 use mathlib.Core.Logic.{inl, inr}
@@ -9,7 +10,7 @@ use Prim.Native.Nat.{ℕ, _≤_, _<_}
 use native.Mathlib.Omega.{arith}
 use lib.ListN.{replicate}
 use Rattle.fields_spec.specs.Big.{big}
-use Rattle.fields_spec.specs.Varint.{groups, varint}
+use Rattle.fields_spec.specs.Varint.{largest, groups, varint}
 use Rattle.records_spec.specs.Tables.{_⦂_, recordsOf, epochsOf, countsOf, ascending, has, held, put, union}
 use Rattle.records_spec.specs.Flags.{Flags, flags, same, headOf, proper}
 use Rattle.records_spec.specs.Answers.{Answer, ok, refused, after}
@@ -20,7 +21,7 @@ use Rattle.flags_spec.specs.declared.owners.MergingOwnersStrategy.{MergingOwner
 use Rattle.flags_spec.specs.declared.owners.MergingOwnersStrategy.the-variants.{RaiseIssue, UseOurs, UseTheirs}
 use Rattle.rows_spec.specs.Order.{order}
 use Rattle.rows_spec.specs.Rows.{ascends, idsOf, partsOf, rowsUnder, Tables, tables, rowsOf, properRows}
-use Rattle.splitting_spec.specs.Sections.{largestRemoval, spare, section, sections, split}
+use Rattle.splitting_spec.specs.Sections.{spare, section, sections, split}
 use Rattle.splitting_spec.specs.Calls.{placing, splitRemoved}
 use Rattle.removal_spec.specs.Removing.{allUnder, fault, minus, removed}
 use Rattle.removal_spec.specs.Calls.{combinedRemoved}
@@ -70,7 +71,7 @@ ours e = record { are-proper = refl; kind-0-or-2 = refl; no-owner-or-ours = inr 
 adds : (o : Option (List ℕ)) (s : MergingOwnersStrategy) (n : ℕ) → Single start (exactly (flags 9 o [])) → Adds start 9 (edit o 9 s n)
 adds o s n i = record { single = i; at-e = refl; record-room = record { epochs-long = omega arith; counts-long = omega arith } }
 
-removes : (o : Option (List ℕ)) (e : ℕ) (s : MergingOwnersStrategy) (n : ℕ) → Single start (exactly (flags e o [])) → 5 < e → n ≤ largestRemoval → Removes start (edit o e s n)
+removes : (o : Option (List ℕ)) (e : ℕ) (s : MergingOwnersStrategy) (n : ℕ) → Single start (exactly (flags e o [])) → 5 < e → n ≤ largest → Removes start (edit o e s n)
 removes o e s n i p q =
     record {
       single = i;
@@ -112,7 +113,42 @@ met =
 pub refunded : Refunds start 9 firsts laters one (replicate 41 0)
 refunded = small-steps start 9 5 firsts laters one (replicate 41 0) met
 
--- ---- the same history, computed
+-- ---- at the limits
+
+-- the count at 9 is then 4,294,967,295
+abbrev firsts-most : List Step
+firsts-most = add (edit owner 9 RaiseIssue 4294967290) ∷ []
+
+abbrev laters-most : List Step
+laters-most = remove (edit none 9 UseOurs 4294967295) ∷ remove (edit owner 6 RaiseIssue 4294967290) ∷ []
+
+abbrev one-most : Edit
+one-most = edit owner 12 UseTheirs 4294967295
+
+-- THE PREMISES ARE MET AT THE LIMITS
+met-most : Premises start 9 5 firsts-most laters-most one-most (replicate 41 0)
+unfolding proper ascending epochsOf countsOf recordsOf allAdded allRemoved bytesOf recordsBytes big varint groups
+met-most =
+    record {
+      canonical = refl;
+      earlier = 7 ⦂ 10 ∷ [];
+      latest = refl;
+      four-or-more = omega arith;
+      first-steps = (adds owner RaiseIssue 4294967290 (ours 9), omega arith, tt);
+      later-steps = (
+        removes none 9 UseOurs 4294967295 (unowned 9) (omega arith) (omega arith),
+        (removes owner 6 RaiseIssue 4294967290 (ours 6) (omega arith) (omega arith), tt),
+      );
+      not-below-0 = omega arith;
+      one-amount = refl;
+      one-removal = removes owner 12 UseTheirs 4294967295 (ours 12) (omega arith) (omega arith);
+      byte-room = omega arith;
+    }
+
+pub refunded-most : Refunds start 9 firsts-most laters-most one-most (replicate 41 0)
+refunded-most = small-steps start 9 5 firsts-most laters-most one-most (replicate 41 0) met-most
+
+-- ---- the same histories, computed
 
 -- what a run ends in: the flags, and the refunds of the owner at the base, at 7 and at 9
 abbrev ended : Answer State → Option (Flags × ℕ × ℕ × ℕ)
@@ -124,3 +160,9 @@ pub ended-alike : map ended (run (state start []) (firsts ++ laters) ∷ run (st
     ≡ some (flags 5 owner (7 ⦂ 5 ∷ []), 0, 5, 10) ∷ some (flags 5 owner (7 ⦂ 5 ∷ []), 0, 5, 2) ∷ []
 unfolding run step allAdded allRemoved refundAt recordsOf epochsOf countsOf ascending has held put union same proper after added combinedAdded order ascends idsOf partsOf rowsUnder rowsOf properRows spare section sections split placing splitRemoved allUnder fault minus removed combinedRemoved
 ended-alike = refl
+
+-- BOTH LEAVE NO RECORD; ALL STEPS TOGETHER REFUND 4,294,967,290 MORE AT 9
+pub ended-most : map ended (run (state start []) (firsts-most ++ laters-most) ∷ run (state start []) (remove one-most ∷ []) ∷ [])
+    ≡ some (flags 5 owner [], 4294967286, 7, 4294967292) ∷ some (flags 5 owner [], 4294967286, 7, 2) ∷ []
+unfolding run step allAdded allRemoved refundAt recordsOf epochsOf countsOf ascending has held put union same proper after added combinedAdded order ascends idsOf partsOf rowsUnder rowsOf properRows spare section sections split placing splitRemoved allUnder fault minus removed combinedRemoved
+ended-most = refl

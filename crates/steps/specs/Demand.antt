@@ -13,7 +13,6 @@ use Rattle.records_spec.specs.Flags.{multi, idOf, ownerOf}
 use Rattle.records_spec.specs.Answers.{ok}
 use Rattle.codec_spec.specs.Bytes.{bytesOf}
 use Rattle.rows_spec.specs.Rows.{row, Room}
-use Rattle.splitting_spec.specs.Sections.{largestRemoval}
 use Rattle.steps.specs.Held.{Held, properHeld, flagsIn, bytesInto}
 use Rattle.steps.specs.History.{Edit, Step, add, remove, State, state, run, allAdded, allRemoved, refundAt}
 
@@ -36,11 +35,11 @@ pub record Adds (f : Held) (e : ℕ) (x : Edit) : Type 0 where
   pub at-e : x .incoming .head .base ≡ e
   pub record-room : RecordRoom f x
 
--- a removal: incoming flags above our base, at most 4,294,967,292 bytes, rows for one more
+-- a removal: incoming flags above our base, at most 4,294,967,295 bytes, rows for one more
 pub record Removes (f : Held) (x : Edit) : Type 0 where
   pub single : Single f (x .incoming)
   pub above-our-base : f .head .base < x .incoming .head .base
-  pub at-most : x .amount ≤ largestRemoval
+  pub at-most : x .amount ≤ largest
   pub record-room : RecordRoom f x
   pub row-room : Room (f .head .records + 1) (x .value-rows)
 
@@ -60,7 +59,7 @@ Then f (remove x ∷ xs) = Removes f x × Then f xs
 -- ---- the demand
 
 -- canonical flags f whose latest record, at e, holds c bytes, 4 or more; the first steps, then the later ones; with A added and R removed,
--- one removal of R - A, which is from 0 to 4,294,967,292; and an output with room for the first flags
+-- one removal of R - A, which is from 0 to 4,294,967,295; and an output with room for the first flags
 pub record Premises (f : Held) (e c : ℕ) (first later : List Step) (one : Edit) (out : List ℕ) : Type 0 where
   pub canonical : properHeld f ≡ true
   pub earlier : List At
