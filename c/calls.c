@@ -99,7 +99,7 @@ const call calls[CALLS] = {
     {"optional_combine_removed_bytes", optional_combine_removed_bytes, FLAGS, MERGES | REMOVAL_TABLES,
      TAKES_MERGE | TAKES_REMOVAL | TAKES_PRESENT, REMOVING_REFUSALS},
     {"split_storage_removed_bytes", split_storage_removed_bytes, SPLIT, OURS_TABLES | LEFT_TABLES | VALUE_TABLES, TAKES_OURS,
-     BIT(8) | BIT(10) | BIT(11)},
+     BIT(10) | BIT(11)},
     {"add_assign", add_assign, SUM, LEFT_TABLES | REMOVAL_TABLES, TAKES_LEFT | TAKES_REMOVAL, BIT(10) | BIT(11)},
     {"has_removal", has_removal, NUMBER, REMOVAL_TABLES, TAKES_REMOVAL, BIT(11)},
     {"total_removed_bytes", total_removed_bytes, NUMBER, REMOVAL_TABLES, TAKES_REMOVAL, BIT(9) | BIT(11)},

@@ -63,7 +63,7 @@ int once_in(unsigned n) {
 /* A number of bytes; the limits of the rules and of varints come often. */
 static uint32_t some_count(void) {
     static const uint32_t limits[] = {0, 1, 2, 3, 4, 5, 7, 127, 128, 16383, 16384, 2097151, 2097152, 268435455, 268435456,
-                                      2147483648u, 4294967291u, 4294967292u, 4294967293u, 4294967295u};
+                                      2147483648u, 4294967291u, 4294967292u, 4294967293u, 4294967294u, 4294967295u};
     if (once_in(2)) return (uint32_t)below(600);
     return once_in(4) ? (uint32_t)any() : limits[below(sizeof limits / sizeof *limits)];
 }

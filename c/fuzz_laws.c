@@ -432,7 +432,6 @@ const char *broken_refusal(int which, const given *g, uint32_t refusal) {
     if (refusal == 6 && change && mismatched(g)) return "6, and it is 14";
     if (refusal == 6 && change && !too_large(g)) return "6, and no total passes 64 bits";
     if (which == TOTALS_REPLACE_STRUCTS) return like_slices(g, refusal, 0);
-    if (refusal == 8 && !(has_records(&g->ours) && g->amount > 4294967292u)) return "8, and the removal is not too large";
     if (refusal == 9 && total(g, &g->removal, REMOVAL_IDS, &full) <= UINT32_MAX) return "9, and the total is not too large";
     return merge && refusal >= 4 && refusal <= 7 && which % 2 == OPTIONAL_ADDED % 2 && g->present == 0 ? "absent ours was looked at" : NULL;
 }

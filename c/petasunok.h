@@ -29,7 +29,7 @@ extern "C" {
 #define PETASUNOK_DIFFERENT_OWNERS 5      /* the owners differ, or a removal is not under our owner */
 #define PETASUNOK_OVERFLOW 6              /* a count would pass 32 bits or a total 64, or a section takes more than its record holds */
 #define PETASUNOK_NO_STORAGE_AT_EPOCH 7   /* a section's epoch is not the base and has no record */
-#define PETASUNOK_REMOVAL_TOO_LARGE 8     /* a value split of flags with records, more than 4,294,967,292 bytes */
+#define PETASUNOK_REMOVAL_TOO_LARGE 8     /* no longer given, since every amount is split; the number is not used again */
 #define PETASUNOK_TOTAL_TOO_LARGE 9       /* a total passes 32 bits */
 #define PETASUNOK_NO_ROOM 10              /* the answer needs more room than was lent */
 #define PETASUNOK_BAD_TABLE 11            /* flags or rows that are not proper, or a kind or strategy that does not exist */
@@ -214,7 +214,7 @@ petasunok_flags petasunok_optional_combine_removed_bytes(
 /* ---- removals */
 
 /* Splits a removal: the key's bytes at the base, the value's from the latest record down, each of which keeps 3, or all it has
- * where that is less: 11, 8, 10. No other division of the value's bytes is "latest first, three kept": docs/DIVISION.md. */
+ * where that is less: 11, 10. Every amount is split. No other division of the value's bytes is "latest first, three kept": docs/DIVISION.md. */
 petasunok_split petasunok_split_storage_removed_bytes(
     petasunok_head flags, const uint16_t *flags_epochs, size_t flags_epochs_len, const uint32_t *flags_counts, size_t flags_counts_len,
     uint32_t key, uint32_t value,

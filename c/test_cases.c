@@ -186,8 +186,15 @@ const example examples[] = {
     PART_OFF("1@5 7:4", 0, 1, "none, rows 0/7:1, visited 1"),
     PART_OFF("1@5 7:3", 0, 4294967292, "none, rows 0/5:4294967292 0/7:0, visited 1"),
     PART_OFF("1@5 7:4294967295", 0, 4294967292, "none, rows 0/7:4294967292, visited 1"),
-    PART_OFF("1@5 7:4294967295", 0, 4294967293, "refused 8"),
-    PART_OFF("3@5/A 7:1", 4294967295, 4294967295, "refused 8"),
+    /* the top three amounts, which the original cannot split */
+    PART_OFF("1@5 7:1", 0, 4294967293, "none, rows 0/5:4294967293 0/7:0, visited 1"),
+    PART_OFF("1@5 7:1", 0, 4294967294, "none, rows 0/5:4294967294 0/7:0, visited 1"),
+    PART_OFF("1@5 7:1", 0, 4294967295, "none, rows 0/5:4294967295 0/7:0, visited 1"),
+    PART_OFF("1@5 7:4294967295", 0, 4294967293, "none, rows 0/5:1 0/7:4294967292, visited 1"),
+    PART_OFF("1@5 7:10 9:4294967295", 0, 4294967294, "none, rows 0/7:2 0/9:4294967292, visited 2"),
+    PART_OFF("3@5/A 7:1", 4294967295, 4294967295, "rows A/5:4294967295, rows A/5:4294967295 A/7:0, visited 1"),
+    TAKE("1@5 7:1", "0@9", "rows 0/5:4294967293 0/7:0", 0, "0@5"),
+    TAKE("1@5 7:10 9:4294967295", "0@9", "rows 0/7:2 0/9:4294967292", 0, "1@5 7:8"),
 
     /* sums */
     PLUS_BOTH("none", "none", "none"),

@@ -2,7 +2,6 @@
 use crate::boundary;
 use crate::expected::expected;
 use crate::generate::{flags, numbers};
-use crate::model::MOST_REMOVED;
 use crate::owned;
 use crate::question::{Merge, Question, Reply, Split};
 use crate::random::Random;
@@ -74,7 +73,7 @@ impl History {
                 history.push(random, true, latest, amount);
                 (count, left, history.added) = (count + amount, left + u64::from(amount), history.added + u64::from(amount));
             } else {
-                let amount = up_to(random, left.min(MOST_REMOVED.into()) as u32);
+                let amount = up_to(random, left.min(u32::MAX.into()) as u32);
                 history.push(random, false, latest, amount);
                 (count, left) = (count - amount, left - u64::from(amount));
             }
@@ -87,21 +86,21 @@ impl History {
     fn remove_rest(&mut self, random: &mut Random, left: u64) {
         let held: u64 = self.first.records().map(|record| u64::from(record.1)).sum();
         self.whole = match random.below(4) {
-            0 => numbers::count(random).min(MOST_REMOVED),
+            0 => numbers::count(random),
             1 => random.below(16) as u32,
-            _ => random.below(held.min(MOST_REMOVED.into()) as usize + 1) as u32,
+            _ => random.below(held.min(u32::MAX.into()) as usize + 1) as u32,
         };
         let mut rest = left + u64::from(self.whole);
         let parts = 1 + random.below(5);
         for part in 0..parts {
-            let limit = rest.min(MOST_REMOVED.into()) as u32;
+            let limit = rest.min(u32::MAX.into()) as u32;
             let amount = if part + 1 == parts { limit } else { up_to(random, limit) };
             let base = numbers::epoch_above(random, self.first.head.base);
             self.push(random, false, base, amount);
             rest -= u64::from(amount);
         }
         while rest > 0 {
-            let amount = rest.min(MOST_REMOVED.into()) as u32;
+            let amount = rest.min(u32::MAX.into()) as u32;
             self.push(random, false, self.first.head.base + 1, amount);
             rest -= u64::from(amount);
         }

@@ -4,7 +4,7 @@ use crate::model::Fault;
 /// One kind of intended difference.
 #[derive(Clone, Copy, Debug, PartialEq, Eq)]
 pub enum Intended {
-    RemovalTooLarge,
+    TopThreeAmounts,
     TotalTooLarge,
     NoRoom,
     BadByte,
@@ -17,9 +17,9 @@ pub enum Intended {
 /// Each with its name and its reason.
 pub const INTENDED: [(Intended, &str, &str); 8] = [
     (
-        Intended::RemovalTooLarge,
-        "removal too large (8)",
-        "`left + 3` overflows in the original: a panic in a debug build, a wrong test in a release build",
+        Intended::TopThreeAmounts,
+        "the top three amounts",
+        "`left + 3` overflows in the original: a panic in a debug build, a wrong test in a release build; a model over whole numbers answers",
     ),
     (
         Intended::TotalTooLarge,

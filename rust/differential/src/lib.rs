@@ -22,6 +22,7 @@ pub mod repair_model;
 pub mod repairs;
 pub mod run;
 pub mod short_strings;
+pub mod split_model;
 pub mod stages;
 pub mod summary;
 pub mod totals;

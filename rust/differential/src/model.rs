@@ -1,8 +1,5 @@
-//! Document 01's own refusals, 8 to 11, said once more and apart from the library: these cannot be had from the original.
+//! Document 01's own refusals, 9 to 11, said once more and apart from the library: these cannot be had from the original.
 use crate::values::*;
-
-/// The most value bytes that flags with records can be split by.
-pub const MOST_REMOVED: u32 = u32::MAX - 3;
 
 /// Whether flags have records by their kind.
 pub fn has_records(kind: u8) -> bool {

@@ -29,7 +29,9 @@ const TRIES_OF_TOTALS: usize = 60;
 const HEAD: &str = "\
 # Questions to the calls with the replies that they have to get, one a line.
 # Made by `tools/differential vectors` from the original Rust, dashpay/grovedb at commit 0ea327d726, and its stand-ins (rust/standins).
-# Refusals 8 to 11 come from document 01's rule and not from the Rust, which has none of them.
+# Refusals 9 to 11 come from document 01's rule and not from the Rust, which has none of them.
+# For value splits of 4,294,967,293 to 4,294,967,295 of flags with records, where the Rust overflows, the replies to 14 come from a model over whole
+# numbers, rust/differential/src/split_model.rs, as document 02 (v) wants it.
 # The Rust has no repair: the replies to 23 come from a model of its own, rust/differential/src/repair_model.rs, written from document 02 (iv).
 # The Rust has no totals: the replies to 24 come from a model of its own, rust/differential/src/totals_model.rs, written from document 02 (vii).
 # A line: hex digits of the question, =, hex digits of the reply; blanks do not count; numbers are big-endian; u8 to u64 have 1, 2, 4, 8 bytes.
@@ -72,16 +74,15 @@ pub fn list(seed: u64) -> String {
     let mut list = List::default();
     list.all(marked::questions);
     list.all(edges::questions);
-    let mut random = Random::new(seed);
-    list.boundaries(&mut random, &BOUNDARIES);
-    list.random(&mut random, &RANDOMLY, TRIES);
+    list.boundaries(seed, &BOUNDARIES);
+    list.random(seed, &RANDOMLY, TRIES);
     list.all(blocks::questions);
     list.all(repairs::questions);
-    list.boundaries(&mut random, &[repairing::boundaries]);
-    list.random(&mut random, &[repairing::random], TRIES_OF_REPAIRS);
+    list.boundaries(seed, &[repairing::boundaries]);
+    list.random(seed, &[repairing::random], TRIES_OF_REPAIRS);
     list.all(totals::questions);
-    list.boundaries(&mut random, &[of_totals::boundaries]);
-    list.random(&mut random, &[of_totals::random], TRIES_OF_TOTALS);
+    list.boundaries(seed, &[of_totals::boundaries]);
+    list.random(seed, &[of_totals::random], TRIES_OF_TOTALS);
     let mut text = HEAD.to_string();
     for (number, lines) in list.lines {
         text.push_str(&format!("# {number} {}\n", CALLS[number - 1]));
@@ -91,6 +92,11 @@ pub fn list(seed: u64) -> String {
         }
     }
     text
+}
+
+/// So many sources of random numbers, each apart from the others.
+fn own_randoms(seed: u64, many: usize) -> impl Iterator<Item = Random> {
+    (0..many as u64).map(move |place| Random::new(seed.wrapping_add(place)))
 }
 
 impl List {
@@ -113,27 +119,32 @@ impl List {
         });
     }
 
-    /// Some of every call's boundaries, by chance.
-    fn boundaries(&mut self, random: &mut Random, of_groups: &[Boundaries]) {
+    /// Some of every call's boundaries, by chance. Each call has random numbers of its own, so that what changes of one leaves the others.
+    fn boundaries(&mut self, seed: u64, of_groups: &[Boundaries]) {
         let all = |visit: &mut dyn FnMut(Question)| of_groups.iter().for_each(|boundaries| boundaries(visit));
         let mut numbers = [0; CALLS.len() + 1];
         all(&mut |question| numbers[question.number()] += 1);
+        let mut randoms: Vec<_> = own_randoms(seed, numbers.len()).collect();
         all(&mut |question| {
-            if random.below(numbers[question.number()]) < BOUNDARIES_OF_CALL {
+            let number = question.number();
+            if randoms[number].below(numbers[number]) < BOUNDARIES_OF_CALL {
                 self.add(&question);
             }
         });
     }
 
-    /// Random questions, some for each call and refusal.
-    fn random(&mut self, random: &mut Random, randomly: &[Randomly], tries: usize) {
+    /// Random questions, some for each call and refusal. Each sort of them has random numbers of its own.
+    fn random(&mut self, seed: u64, randomly: &[Randomly], tries: usize) {
         let mut stored: BTreeMap<(usize, u32), usize> = BTreeMap::new();
-        for round in 0..tries {
-            let question = randomly[round % randomly.len()](random, 6);
-            let key = (question.number(), expected(&question).reply.refusal());
-            let stored = stored.entry(key).or_default();
-            if *stored < OF_REFUSAL && self.add(&question).is_some() {
-                *stored += 1;
+        let tries_of_one = tries / randomly.len();
+        for (randomly, mut random) in randomly.iter().zip(own_randoms(seed, randomly.len())) {
+            for _ in 0..tries_of_one {
+                let question = randomly(&mut random, 6);
+                let key = (question.number(), expected(&question).reply.refusal());
+                let stored = stored.entry(key).or_default();
+                if *stored < OF_REFUSAL && self.add(&question).is_some() {
+                    *stored += 1;
+                }
             }
         }
     }

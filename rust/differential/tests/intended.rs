@@ -80,15 +80,24 @@ fn original_removing(removal: &StorageRemovedBytes) -> Result<StorageFlags, Stor
     original_at_five(&[(7, 10)]).combine_removed_bytes(StorageFlags::SingleEpoch(9), removal, RaiseIssue)
 }
 
+/// The rows of the value that our split leaves, of one record at 7.
+fn rows_of_split(count: u32, value: u32) -> Vec<(Id, u16, u32)> {
+    let Reply::Split { answer, value, .. } = boundary::ask(&split(&[(7, count)], value)) else { panic!("a split answers a split") };
+    Removal { state: answer.value, rows: value }.rows().collect()
+}
+
 #[test]
-fn removal_too_large() {
+fn the_top_three_amounts() {
     let largest = u32::MAX - 3;
-    let original_split = |value| original(move || original_at_five(&[(7, 1)]).split_storage_removed_bytes(0, value).1);
-    assert_eq!(original_split(largest), Some(sections(&[(ZEROS, &[(5, largest), (7, 0)])])));
-    assert_eq!(refusal(split(&[(7, 1)], largest)), 0);
-    // one byte more, and the original takes all of it from a record that holds 1
-    assert_eq!(original_split(largest + 1), in_release(sections(&[(ZEROS, &[(7, largest + 1)])])));
-    assert_eq!(refusal(split(&[(7, 1)], largest + 1)), 8);
+    let original_split = |count, value| original(move || original_at_five(&[(7, count)]).split_storage_removed_bytes(0, value).1);
+    assert_eq!(original_split(1, largest), Some(sections(&[(ZEROS, &[(5, largest), (7, 0)])])));
+    assert_eq!(rows_of_split(1, largest), [(ZEROS, 5, largest), (ZEROS, 7, 0)]);
+    // of one to three bytes more the original takes all from a record that holds as many; here the rule holds for every amount
+    for more in 1..=3 {
+        let value = largest + more;
+        assert_eq!(original_split(more, value), in_release(sections(&[(ZEROS, &[(7, value)])])));
+        assert_eq!(rows_of_split(more, value), [(ZEROS, 5, value), (ZEROS, 7, 0)]);
+    }
 }
 
 #[test]

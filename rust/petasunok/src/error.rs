@@ -1,7 +1,8 @@
 //! The refusals.
 use std::fmt;
 
-/// Why a call was refused. Every refusal has a number, 1 to 11 or 14; nothing that the call was lent has changed.
+/// Why a call was refused. Every refusal has a number, 1 to 11 or 14; nothing that the call was lent has changed. No call gives 8 any more: its
+/// variant stays for those who name it, and its number is not used again.
 ///
 /// The original carries a text in each error; here the variant alone says what happened.
 ///
@@ -28,7 +29,7 @@ pub enum StorageFlagsError {
     StorageFlagsOverflow = 6,
     /// 7: a section's epoch is not the base epoch and has no record.
     RemovingAtEpochWithNoAssociatedStorage = 7,
-    /// 8: more than 4,294,967,292 bytes are split of the value of flags that have records. The original overflows there.
+    /// 8: no longer given. It was, where more than 4,294,967,292 bytes were split of the value of flags that have records; now every amount is split.
     RemovalTooLarge = 8,
     /// 9: a total passes 32 bits. The original overflows there.
     TotalTooLarge = 9,
@@ -87,7 +88,7 @@ impl fmt::Display for StorageFlagsError {
             MergingStorageFlagsFromDifferentOwners => "the owners differ, or the removal is not under our owner alone",
             StorageFlagsOverflow => "a count would pass 32 bits or a total 64, or more would be removed at an epoch than was added there",
             RemovingAtEpochWithNoAssociatedStorage => "bytes would be removed at an epoch that has no record",
-            RemovalTooLarge => "more than 4294967292 bytes would be removed from flags with several epochs",
+            RemovalTooLarge => "more than 4294967292 bytes would be removed from flags with several epochs (no longer given)",
             TotalTooLarge => "the total of the removed bytes passes 32 bits",
             NoRoom => "the answer needs more room than was lent",
             BadTable => "the given flags, removal or totals are not proper",

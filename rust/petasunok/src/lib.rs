@@ -67,10 +67,10 @@
 //! | maps of flags | `BTreeMap<EpochIndex, BytesAddedInEpoch>` | [`EpochMap`], made from a map and back |
 //! | maps of removals | `BTreeMap<Identifier, IntMap<u16, u32>>` | [`StorageRemovalPerEpochByIdentifier`], made from a map of maps and back |
 //! | an identifier without sections | can stand in the map | is left out |
-//! | errors | carry a text | are [`StorageFlagsError`] alone, each with a number; `RemovalTooLarge`, `TotalTooLarge`, `NoRoom`, `BadTable` and `IndexMismatch` are new |
+//! | errors | carry a text | are [`StorageFlagsError`] alone, each with a number; `TotalTooLarge`, `NoRoom`, `BadTable` and `IndexMismatch` are new, and `RemovalTooLarge` (8) is no longer given |
 //! | flags and rows that are not proper | are taken as they are; `serialize` has debug assertions | are refused with `BadTable` (11) by every call that reads, merges, splits or adds them |
 //! | `serialize`, `serialized_size` and what is built on them | cannot fail | answer a `Result`, for `BadTable` |
-//! | `split_storage_removed_bytes` | overflows for the top three amounts | answers a `Result`, `RemovalTooLarge` (8) there; a second form also counts the records visited |
+//! | `split_storage_removed_bytes` | overflows for the top three amounts: a debug build panics, a release build takes all from the latest record | splits them as all others, and answers a `Result`, for `BadTable`; a second form also counts the records visited |
 //! | `total_removed_bytes` | overflows | answers a `Result`, `TotalTooLarge` (9) there |
 //! | `add_assign` | the operator `+=`, with the thread's version | a method with the version as an argument, and a `Result` |
 //! | two sections at fault in one merge | either error | the first by epoch |

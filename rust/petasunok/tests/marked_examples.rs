@@ -84,5 +84,33 @@ fn boundaries() {
         split(4_294_967_292),
         Ok((NoStorageRemoval, sections([(5, 4_294_967_285), (7, 7)]), 1))
     );
-    assert_eq!(split(4_294_967_293), Err(RemovalTooLarge));
+    assert_eq!(
+        split(4_294_967_293),
+        Ok((NoStorageRemoval, sections([(5, 4_294_967_286), (7, 7)]), 1))
+    );
+}
+
+/// Request (v): every amount is split by the rule, where the original overflows too.
+#[test]
+fn the_top_three_amounts() {
+    for value in [4_294_967_293, 4_294_967_294, 4_294_967_295] {
+        assert_eq!(
+            split_and_merged(&records([(7, 1)]), value),
+            (sections([(5, value), (7, 0)]), 1, SingleEpoch(5))
+        );
+    }
+    let most = records([(7, 10), (9, u32::MAX)]);
+    assert_eq!(
+        split_and_merged(&most, 4_294_967_294),
+        (sections([(7, 2), (9, 4_294_967_292)]), 2, records([(7, 8)]))
+    );
+    assert_eq!(
+        split_and_merged(&most, 4_294_967_295),
+        (sections([(7, 3), (9, 4_294_967_292)]), 2, records([(7, 7)]))
+    );
+    // a row less than the split has
+    assert_eq!(
+        both::split_storage_removed_bytes(&records([(7, 1)]), 0, 4_294_967_295, (0, 1)),
+        Err(NoRoom)
+    );
 }

@@ -19,8 +19,11 @@ fn removed(ours: &StorageFlags, theirs: &StorageFlags, removal: &StorageRemovedB
     number(both::combine_removed_bytes(ours, theirs, removal, RaiseIssue, ENOUGH))
 }
 
-/// The numbers of all refusals.
-const NUMBERS: [u32; 12] = [1, 2, 3, 4, 5, 6, 7, 8, 9, 10, 11, 14];
+/// The numbers of all refusals that are given.
+const GIVEN: [u32; 11] = [1, 2, 3, 4, 5, 6, 7, 9, 10, 11, 14];
+
+/// The number that stays taken, and is no longer given.
+const RETIRED: u32 = 8;
 
 #[test]
 fn each_number_once() {
@@ -35,24 +38,38 @@ fn each_number_once() {
         added(&SingleEpochOwned(5, [1; 32]), &SingleEpochOwned(5, [2; 32]), 1),
         added(&ours, &SingleEpoch(7), u32::MAX),
         removed(&ours, &SingleEpoch(9), &sections([(8, 1)])),
-        number(both::split_storage_removed_bytes(&ours, 0, u32::MAX, (0, ENOUGH))),
         number(lent::total_removed_bytes(large.as_lent())),
         number(both::deserialize(&[1, 0, 5, 0, 7, 1], 0)),
         number(both::serialize(&StorageFlags::MultiEpoch(5, EpochMap::new()), ENOUGH)),
         number(both::totals_replace(&Totals::new(), Some(&ours), None, [ENOUGH; 3])),
     ];
-    assert_eq!(numbers.to_vec(), NUMBERS);
+    assert_eq!(numbers.to_vec(), GIVEN);
 }
 
 #[test]
 fn numbers_and_refusals_match() {
-    for (refusal, number) in StorageFlagsError::ALL.into_iter().zip(NUMBERS) {
-        assert_eq!(refusal.number(), number);
-        assert_eq!(StorageFlagsError::from_number(number), Some(refusal));
+    let mut numbers = [&GIVEN[..], &[RETIRED]].concat();
+    numbers.sort_unstable();
+    assert_eq!(StorageFlagsError::ALL.map(StorageFlagsError::number).to_vec(), numbers);
+    for refusal in StorageFlagsError::ALL {
+        assert_eq!(StorageFlagsError::from_number(refusal.number()), Some(refusal));
         assert!(!refusal.to_string().is_empty());
     }
     for number in [0, 12, 13, 15] {
         assert_eq!(StorageFlagsError::from_number(number), None);
+    }
+}
+
+/// 8 still names the refusal that it named, and says that it is no longer given; no amount gets it.
+#[test]
+fn eight_stays_taken() {
+    let refusal = StorageFlagsError::from_number(RETIRED);
+    assert_eq!(refusal, Some(StorageFlagsError::RemovalTooLarge));
+    assert!(refusal.is_some_and(|refusal| refusal.to_string().contains("no longer given")));
+    for value in u32::MAX - 4..=u32::MAX {
+        for flags in [records([(7, 1)]), records([(7, 10), (9, u32::MAX)]), SingleEpoch(5)] {
+            assert_eq!(number(both::split_storage_removed_bytes(&flags, u32::MAX, value, (1, ENOUGH))), 0, "{flags}, {value} bytes");
+        }
     }
 }
 

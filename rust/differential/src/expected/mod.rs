@@ -1,9 +1,9 @@
-//! What a call has to answer: the original's answer on document 01's domain, and the model's refusal outside it. The original has no repair
-//! and no totals; their answers are models'.
+//! What a call has to answer: the original's answer on document 01's domain, and the model's refusal outside it. Where the original overflows in
+//! a split, a model answers. It has no repair and no totals; their answers are models'.
 mod heads;
 mod merging;
 pub mod reading;
-mod removals;
+pub mod removals;
 mod writing;
 
 use crate::convert;

@@ -5,8 +5,17 @@ use crate::intended::Intended;
 use crate::model;
 use crate::placed;
 use crate::question::Split;
+use crate::split_model;
 use crate::values::*;
 use grovedb_costs::storage_cost::removal::{with_basic_sectioned_removal_addition_version, StorageRemovedBytes};
+
+/// What the original splits from proper flags, of a key and of a value; where it overflows, the value's is the model's.
+pub fn parts(flags: &Flags, key: u32, value: u32) -> (Removal, Removal) {
+    let overflows = split_model::overflows(flags, value);
+    let (of_key, of_value) = convert::flags(flags).split_storage_removed_bytes(key, if overflows { 0 } else { value });
+    let of_value = if overflows { split_model::split(flags, value) } else { convert::from_removal(&of_value) };
+    (convert::from_removal(&of_key), of_value)
+}
 
 /// Splits a removal. The records visited are the value's sections above the base.
 pub fn split(split: &Split) -> Expected {
@@ -14,13 +23,13 @@ pub fn split(split: &Split) -> Expected {
     if let Some(fault) = model::flags_fault(flags) {
         return Expected::added(fault, placed::split(Err(11), key_rows, value_rows));
     }
-    if model::has_records(flags.head.kind) && *value > model::MOST_REMOVED {
-        return Expected::added(Intended::RemovalTooLarge, placed::split(Err(8), key_rows, value_rows));
+    let (of_key, of_value) = parts(flags, *key, *value);
+    let visited = of_value.rows().filter(|row| row.1 > flags.head.base).count();
+    let reply = placed::split(Ok((of_key, of_value, visited)), key_rows, value_rows);
+    if split_model::overflows(flags, *value) && reply.refusal() == 0 {
+        return Expected::added(Intended::TopThreeAmounts, reply);
     }
-    let (key, value) = convert::flags(flags).split_storage_removed_bytes(*key, *value);
-    let (key, value) = (convert::from_removal(&key), convert::from_removal(&value));
-    let visited = value.rows().filter(|row| row.1 > flags.head.base).count();
-    Expected::original(placed::split(Ok((key, value, visited)), key_rows, value_rows))
+    Expected::original(reply)
 }
 
 /// Adds the right removal to the left one, at a version.

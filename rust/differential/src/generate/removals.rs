@@ -1,6 +1,6 @@
 //! Removals: any, ones that fit flags, and ones that are not proper.
 use super::{lent, numbers};
-use crate::convert;
+use crate::expected::removals::parts;
 use crate::model;
 use crate::random::Random;
 use crate::values::*;
@@ -57,13 +57,12 @@ pub fn for_merge(random: &mut Random, ours: &Flags, theirs: &Flags, most: usize)
     sectioned(sections)
 }
 
-/// What the original splits from flags.
+/// What is split from flags.
 fn a_split(random: &mut Random, ours: &Flags) -> Removal {
     let held: u64 = ours.records().map(|record| u64::from(record.1)).sum();
-    let most = held.clamp(1, model::MOST_REMOVED.into());
-    let amount = if random.one_in(2) { random.below(most as usize) as u32 } else { numbers::count(random).min(model::MOST_REMOVED) };
-    let (_, value) = convert::flags(ours).split_storage_removed_bytes(0, amount);
-    convert::from_removal(&value)
+    let most = held.clamp(1, u32::MAX.into());
+    let amount = if random.one_in(2) { random.below(most as usize) as u32 } else { numbers::count(random) };
+    parts(ours, 0, amount).1
 }
 
 /// A removal with some rows of another one and some of its own.
