@@ -85,7 +85,7 @@ impl StorageFlags {
 
     /// split_storage_removed_bytes removes bytes as LIFO: the key's at the base epoch, the value's from the latest record down. It answers
     /// the key's removal and the value's. No other division of the value's bytes is "latest first, three kept"
-    /// (`docs/DIVISION.md` in the repository). Refusals: 11, 8.
+    /// (`docs/DIVISION.md` in the repository). Every amount is split. Refusal: 11.
     ///
     /// ```
     /// use petasunok::{StorageFlags, StorageRemovedBytes::*};

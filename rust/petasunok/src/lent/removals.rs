@@ -2,7 +2,7 @@
 use super::{answered, Flags, Removal, Rows, RowsMut, Split};
 use crate::StorageFlagsError;
 
-/// Splits a removal: the key's bytes are taken at the base, the value's from the latest record down. Refusals: 11, 8, 10.
+/// Splits a removal: the key's bytes are taken at the base, the value's from the latest record down. Refusals: 11, 10.
 ///
 /// ```
 /// use petasunok::lent::{self, Flags, Head, Removal, RowsMut};
