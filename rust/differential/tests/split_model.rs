@@ -67,7 +67,9 @@ fn the_library_is_the_model_at_the_top_three() {
         for value in TOP_THREE {
             let value_rows = Rows { ids: vec![[9; 32]; 4], epochs: vec![9; 4], bytes: vec![9; 4] };
             let asked = Split { flags: flags.clone(), key: 0, value, key_rows: Rows::default(), value_rows };
-            let Reply::Split { answer, value: rows, .. } = boundary::ask(&Question::Split(asked)) else { panic!("a split answers a split") };
+            let Reply::Split { answer, value: rows, .. } = boundary::ask(&Question::Split(asked)) else {
+                panic!("a split answers a split")
+            };
             let model = split(&flags, value);
             assert_eq!((answer.refusal, answer.value), (0, model.state), "{flags:?}, {value} bytes");
             assert_eq!(rows.first(answer.value.rows).collect::<Vec<_>>(), model.rows().collect::<Vec<_>>(), "{flags:?}, {value} bytes");

@@ -68,7 +68,11 @@ fn eight_stays_taken() {
     assert!(refusal.is_some_and(|refusal| refusal.to_string().contains("no longer given")));
     for value in u32::MAX - 4..=u32::MAX {
         for flags in [records([(7, 1)]), records([(7, 10), (9, u32::MAX)]), SingleEpoch(5)] {
-            assert_eq!(number(both::split_storage_removed_bytes(&flags, u32::MAX, value, (1, ENOUGH))), 0, "{flags}, {value} bytes");
+            assert_eq!(
+                number(both::split_storage_removed_bytes(&flags, u32::MAX, value, (1, ENOUGH))),
+                0,
+                "{flags}, {value} bytes"
+            );
         }
     }
 }
