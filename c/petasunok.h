@@ -213,8 +213,8 @@ petasunok_flags petasunok_optional_combine_removed_bytes(
 
 /* ---- removals */
 
-/* Splits a removal: the key's bytes at the base, the value's from the latest record down, each of which keeps 3, or all it has
- * where that is less: 11, 10. Every amount is split. No other division of the value's bytes is "latest first, three kept": docs/DIVISION.md. */
+/* Splits a removal, whatever the amounts are: the key's bytes at the base, the value's from the latest record down, each of which keeps 3,
+ * or all it has where that is less: 11, 10. No other division of the value's bytes is "latest first, three kept": docs/DIVISION.md. */
 petasunok_split petasunok_split_storage_removed_bytes(
     petasunok_head flags, const uint16_t *flags_epochs, size_t flags_epochs_len, const uint32_t *flags_counts, size_t flags_counts_len,
     uint32_t key, uint32_t value,

@@ -50,7 +50,7 @@ named-back TotalTooLarge = refl
 named-back NoRoom = refl
 named-back BadTable = refl
 
--- a number that names no refusal of that number is no refusal's
+-- a number that is not the one of what it names is no refusal's
 unused : (n : ℕ) → (number (named n) ≡ n → ⊥) → (r : Refusal) → number r ≡ n → ⊥
 unused n none r e = none (ap number (ap named (sym e) ∙ named-back r) ∙ e)
 

@@ -1,14 +1,15 @@
 -- What an accepted split leaves, read back from what the call answers: both removals are proper, they come to what was removed, and so many
--- records were visited as the value's has sections beside the base.
+-- records were visited as the value's has sections beside the base. And with which numbers a split is refused.
 -- Assumes nothing.
 use mathlib.Core.Path.{_≡_, refl, sym, ap, _∙_}
 use mathlib.Core.Bool.{Bool, true, false, cond, _&&_}
+use mathlib.Core.Logic.{_⊎_, inl, inr}
 use mathlib.Core.List.{List, []}
 use Prim.Native.Nat.{ℕ, zero, suc}
 use lib.ListN.{length}
 use Rattle.records_spec.specs.Tables.{At, epochsOf, ascending}
 use Rattle.records_spec.specs.Flags.{idOf, ownerOf, flagsOf, proper}
-use Rattle.records_spec.specs.Answers.{ok}
+use Rattle.records_spec.specs.Answers.{ok, refused}
 use Rattle.records_spec.specs.declared.head.Head.{Head}
 use Rattle.records_spec.proofs.Answers.{refused-not-ok}
 use Rattle.records_spec.proofs.Proper.{proper-inv, proper-ascends}
@@ -73,6 +74,27 @@ module _ (h : Head) (es cs : List ℕ) (keyBytes valueBytes : ℕ) (kt vt : Tabl
       → (proper h es cs ≡ true) × Left (splitFor h es cs keyBytes valueBytes) kt vt t (splitRemoved h es cs keyBytes valueBytes kt vt)
   unfolding splitRemoved
   accepted-left e = by-proper (proper h es cs) refl e
+
+-- ---- the numbers of a call that was refused
+
+module _ (s : Split) (kt vt : Tables) (n : ℕ) where
+  without-room : (b : Bool) → cond b (filled s kt vt) (kept 10 kt vt) .answer ≡ refused n → n ≡ 10
+  without-room true e = absurd (refused-not-ok n (toldOf s) (sym e))
+  without-room false e = let z : 10 ≡ n = cc in sym z
+
+  placing-refuses : placing s kt vt .answer ≡ refused n → n ≡ 10
+  unfolding placing
+  placing-refuses e = without-room (roomIn (length (rowsOfRemoval (s .key))) kt && roomIn (length (rowsOfRemoval (s .value))) vt) e
+
+module _ (h : Head) (es cs : List ℕ) (keyBytes valueBytes : ℕ) (kt vt : Tables) (n : ℕ) where
+  either-number : (b : Bool) → cond b (placing (splitFor h es cs keyBytes valueBytes) kt vt) (kept 11 kt vt) .answer ≡ refused n → (n ≡ 11) ⊎ (n ≡ 10)
+  either-number true e = inr (placing-refuses (splitFor h es cs keyBytes valueBytes) kt vt n e)
+  either-number false e = let z : 11 ≡ n = cc in inl (sym z)
+
+  -- A SPLIT IS REFUSED WITH 11 OR 10 ONLY, WHATEVER THE AMOUNTS ARE
+  pub split-refusals : splitRemoved h es cs keyBytes valueBytes kt vt .answer ≡ refused n → (n ≡ 11) ⊎ (n ≡ 10)
+  unfolding splitRemoved
+  split-refusals e = either-number (proper h es cs) e
 
 -- ---- what is left
 

@@ -12,7 +12,7 @@ use Rattle.records_spec.specs.Answers.{ok}
 use Rattle.rows_spec.specs.Rows.{Tables, tables, idsOf, partsOf, rowsUnder, overRows}
 use Rattle.rows_spec.specs.declared.removed.Removed.{Removed}
 use Rattle.rows_spec.specs.declared.removed.Removed.the-variants.{None, Sectioned}
-use Rattle.splitting_spec.specs.Sections.{spare, section, sections, split}
+use Rattle.splitting_spec.specs.Sections.{spare, section, sections, split, fromLatest}
 use Rattle.splitting_spec.specs.Calls.{After, kept, placing, splitRemoved}
 
 -- an owner or none, records, key bytes, value bytes, two lots of tables, and what is left
@@ -87,3 +87,9 @@ examples =
 pub marked : map made examples ≡ map (λ (e : Example). e .left) examples
 unfolding examples splitRemoved placing proper ascending recordsOf epochsOf countsOf spare section sections split idsOf partsOf rowsUnder
 marked = refl
+
+-- the loop of the Rust over whole numbers, at the smallest inputs where its own sum of 32 bits overflows
+pub loop-marked : map (λ (x : At × ℕ). fromLatest 5 (x .0 ∷ []) (x .1)) ((7 ⦂ 1, 4294967293) ∷ (7 ⦂ 2, 4294967294) ∷ (7 ⦂ 3, 4294967295) ∷ [])
+    ≡ (7 ⦂ 0 ∷ 5 ⦂ 4294967293 ∷ []) ∷ (7 ⦂ 0 ∷ 5 ⦂ 4294967294 ∷ []) ∷ (7 ⦂ 0 ∷ 5 ⦂ 4294967295 ∷ []) ∷ []
+unfolding fromLatest
+loop-marked = refl

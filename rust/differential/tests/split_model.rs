@@ -1,9 +1,12 @@
-//! The model of splitting, held to examples that were worked out by hand and to the original wherever that has an answer; and the library
-//! against the model at the top three amounts, where the original has none.
+//! The model of splitting, held to examples that were worked out by hand and to the original, at boundaries and at random where that has an answer;
+//! and the library against the model at the top three amounts, where the original has none.
 use differential::boundary;
 use differential::convert;
 use differential::generate::numbers::COUNTS;
+use differential::groups::removals;
+use differential::model;
 use differential::question::{Question, Reply, Split};
+use differential::random::Random;
 use differential::split_model::{overflows, split};
 use differential::values::*;
 
@@ -51,14 +54,35 @@ fn where_the_original_overflows() {
     }
 }
 
+/// Checks the model against the original, where that has an answer; whether it has one is handed back.
+fn is_the_original(flags: &Flags, value: u32) -> bool {
+    if overflows(flags, value) {
+        return false;
+    }
+    let (_, original) = convert::flags(flags).split_storage_removed_bytes(0, value);
+    assert_eq!(split(flags, value), convert::from_removal(&original), "{flags:?}, {value} bytes");
+    true
+}
+
 #[test]
-fn the_model_is_the_original_elsewhere() {
+fn the_model_is_the_original_at_boundaries() {
     for flags in every_flags() {
-        for value in COUNTS.into_iter().filter(|value| !overflows(&flags, *value)) {
-            let (_, original) = convert::flags(&flags).split_storage_removed_bytes(0, value);
-            assert_eq!(split(&flags, value), convert::from_removal(&original), "{flags:?}, {value} bytes");
+        let answered = COUNTS.into_iter().filter(|value| is_the_original(&flags, *value)).count();
+        assert_eq!(answered, if flags.head.records > 0 { COUNTS.len() - 3 } else { COUNTS.len() });
+    }
+}
+
+#[test]
+fn the_model_is_the_original_at_random() {
+    let mut random = Random::new(20261117);
+    let mut answered = 0;
+    for _ in 0..100_000 {
+        let Question::Split(asked) = removals::split(&mut random, 40) else { panic!("a split is asked") };
+        if model::flags_fault(&asked.flags).is_none() && is_the_original(&asked.flags, asked.value) {
+            answered += 1;
         }
     }
+    assert!(answered > 80_000, "{answered} of 100,000");
 }
 
 #[test]
