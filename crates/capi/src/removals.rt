@@ -2,42 +2,58 @@
 ghost use mathlib.Core.Path.{_≡_};
 ghost use Rattle.rows_spec.specs.Rows.{tables};
 ghost use Rattle.capi_spec.specs.Told.{countTold, truthTold, sumLeft, sumTold, splitLeft, splitTold};
-ghost use Rattle.capi_spec.specs.Calls.{splitRemovedC, summedC, hasRemovalC, totalRemovedC};
+ghost use Rattle.capi_spec.specs.Calls.{splitKeyC, splitValueC, summedC, hasRemovalC, totalRemovedC};
 use capi_spec::CCount;
 use capi_spec::CHead;
 use capi_spec::CRemoval;
-use capi_spec::CSplit;
 use capi_spec::CSum;
+use capi_spec::CValueSplit;
 
-// Splits a removal of key bytes and value bytes.
+// Splits a removal of key bytes.
 #[no_mangle]
-pub extern "C" fn petasunok_split_storage_removed_bytes(
+pub extern "C" fn petasunok_split_key_removed_bytes(
     flags: CHead,
     flags_epochs: &[u16],
     flags_counts: &[u32],
     key: u32,
-    value: u32,
-    key_ids: &mut [[u8; 32]],
-    key_epochs: &mut [u16],
-    key_bytes: &mut [u32],
-    value_ids: &mut [[u8; 32]],
-    value_epochs: &mut [u16],
-    value_bytes: &mut [u32],
-) -> CSplit
-    ensures { λ r. ⌜ splitLeft r (tables (now («key_ids» .exit)) (now («key_epochs» .exit)) (now («key_bytes» .exit))) (tables (now («value_ids» .exit)) (now («value_epochs» .exit)) (now («value_bytes» .exit))) ≡ splitTold (splitRemovedC flags (now («flags_epochs» .entry)) (now («flags_counts» .entry)) key value (tables (now («key_ids» .entry)) (now («key_epochs» .entry)) (now («key_bytes» .entry))) (tables (now («value_ids» .entry)) (now («value_epochs» .entry)) (now («value_bytes» .entry)))) ⌝ }
+    ids: &mut [[u8; 32]],
+    epochs: &mut [u16],
+    bytes: &mut [u32],
+) -> CSum
+    ensures { λ r. ⌜ sumLeft r (tables (now (ids .exit)) (now (epochs .exit)) (now (bytes .exit))) ≡ sumTold (splitKeyC flags (now («flags_epochs» .entry)) (now («flags_counts» .entry)) key (tables (now (ids .entry)) (now (epochs .entry)) (now (bytes .entry)))) ⌝ }
 {
-    capi_removals::split_storage_removed_bytes(
+    capi_removals::split_key_removed_bytes(
         flags,
         flags_epochs,
         flags_counts,
         key,
+        ids,
+        epochs,
+        bytes,
+    )
+}
+
+// Splits a removal of value bytes.
+#[no_mangle]
+pub extern "C" fn petasunok_split_value_removed_bytes(
+    flags: CHead,
+    flags_epochs: &[u16],
+    flags_counts: &[u32],
+    value: u32,
+    ids: &mut [[u8; 32]],
+    epochs: &mut [u16],
+    bytes: &mut [u32],
+) -> CValueSplit
+    ensures { λ r. ⌜ splitLeft r (tables (now (ids .exit)) (now (epochs .exit)) (now (bytes .exit))) ≡ splitTold (splitValueC flags (now («flags_epochs» .entry)) (now («flags_counts» .entry)) value (tables (now (ids .entry)) (now (epochs .entry)) (now (bytes .entry)))) ⌝ }
+{
+    capi_removals::split_value_removed_bytes(
+        flags,
+        flags_epochs,
+        flags_counts,
         value,
-        key_ids,
-        key_epochs,
-        key_bytes,
-        value_ids,
-        value_epochs,
-        value_bytes,
+        ids,
+        epochs,
+        bytes,
     )
 }
 

@@ -18,11 +18,12 @@ use Rattle.flags_spec.specs.Calls.{handedOn, combinedAdded}
 use Rattle.rows_spec.specs.Order.{order}
 use Rattle.rows_spec.specs.Rows.{Tables, tables, ascends, idsOf, partsOf, rowsUnder, rowsOf, properRows}
 use Rattle.rows_spec.specs.Removals.{totalRows, anyBytes}
+use Rattle.rows_spec.specs.Outcomes.{placing}
 use Rattle.sums_spec.specs.Joins.{addRow}
 use Rattle.sums_spec.specs.Sums.{anyOfZeros, withoutZeros, basicPlus}
-use Rattle.sums_spec.specs.Calls.{placing as placingSum, summed}
+use Rattle.sums_spec.specs.Calls.{summed}
 use Rattle.splitting_spec.specs.Sections.{spare, section, sections, split}
-use Rattle.splitting_spec.specs.Calls.{placing as placingSplit, splitRemoved}
+use Rattle.splitting_spec.specs.Calls.{splitKey, splitValue}
 use Rattle.removal_spec.specs.Removing.{allUnder, fault, minus, removed}
 use Rattle.removal_spec.specs.Calls.{combinedRemoved}
 use Rattle.totals_spec.specs.Table.{above, totalAt, putTotal, addCounts, takeCounts}
@@ -32,7 +33,7 @@ use Rattle.totals_index_spec.specs.Structs.{ownersOf, epochsOf as epochsIn, tot
 use Rattle.totals_index_spec.specs.Calls.{verdict, placing as placingStructs, replacingStructs}
 use Rattle.totals_index_spec.specs.declared.structs.Total.{Total}
 use Rattle.capi_spec.specs.Told.{FlagsLeft, flagsLeft, flagsTold, headAnswer, countTold, truthTold, bytesLeft, bytesTold, ownerTold, ownerIdTold, sumLeft, sumTold, splitLeft, splitTold, totalsLeft, totalsTold, structsLeft, structsTold, repairAnswer}
-use Rattle.capi_spec.specs.Calls.{serializedC, sizeC, ownerC, combinedAddedC, optionalCombinedAddedC, combinedRemovedC, optionalCombinedRemovedC, splitRemovedC, summedC, hasRemovalC, totalRemovedC, totalsReplacedC, structsReplacedC, withOwnerC, baseC, ownerIdC, typeByteC}
+use Rattle.capi_spec.specs.Calls.{serializedC, sizeC, ownerC, combinedAddedC, optionalCombinedAddedC, combinedRemovedC, optionalCombinedRemovedC, splitKeyC, splitValueC, summedC, hasRemovalC, totalRemovedC, totalsReplacedC, structsReplacedC, withOwnerC, baseC, ownerIdC, typeByteC}
 use Rattle.capi_spec.specs.declared.types.CHead.{CHead}
 use Rattle.capi_spec.specs.declared.types.CFlags.{CFlags}
 use Rattle.capi_spec.specs.declared.types.CCount.{CCount}
@@ -127,13 +128,19 @@ removes-optional = (refl, refl)
 
 -- ---- removals
 
-pub splits :
-    (splitTold (splitRemovedC (head 1 5 1) (7 ∷ []) (300 ∷ []) 4 10 (one [] 0 0) (one [] 0 0))
-    ≡ splitLeft (record { refusal = 0; key = removal 2 0 1; value = removal 2 0 1; visited = 1 }) (one zeros 5 4) (one zeros 7 10))
-    × (splitTold (splitRemovedC (head 4 5 1) (7 ∷ []) (300 ∷ []) 4 10 (one [] 0 0) (one [] 0 0))
-    ≡ splitLeft (record { refusal = 11; key = removal 0 0 0; value = removal 0 0 0; visited = 0 }) (one [] 0 0) (one [] 0 0))
-unfolding splitRemoved placingSplit split sections section spare recordsOf epochsOf countsOf ascending put union has held same proper after order ascends idsOf partsOf rowsUnder rowsOf properRows
-splits = (refl, refl)
+pub splits-key :
+    (sumTold (splitKeyC (head 1 5 1) (7 ∷ []) (300 ∷ []) 4 (one [] 0 0)) ≡ sumLeft (record { refusal = 0; removal = removal 2 0 1 }) (one zeros 5 4))
+    × (sumTold (splitKeyC (head 4 5 1) (7 ∷ []) (300 ∷ []) 4 (one [] 0 0)) ≡ sumLeft (record { refusal = 11; removal = removal 0 0 0 }) (one [] 0 0))
+unfolding splitKey placing recordsOf epochsOf countsOf ascending put union has held same proper after order ascends idsOf partsOf rowsUnder rowsOf properRows
+splits-key = (refl, refl)
+
+pub splits-value :
+    (splitTold (splitValueC (head 1 5 1) (7 ∷ []) (300 ∷ []) 10 (one [] 0 0))
+    ≡ splitLeft (record { refusal = 0; removal = removal 2 0 1; visited = 1 }) (one zeros 7 10))
+    × (splitTold (splitValueC (head 4 5 1) (7 ∷ []) (300 ∷ []) 10 (one [] 0 0))
+    ≡ splitLeft (record { refusal = 11; removal = removal 0 0 0; visited = 0 }) (one [] 0 0))
+unfolding splitValue placing split sections section spare recordsOf epochsOf countsOf ascending put union has held same proper after order ascends idsOf partsOf rowsUnder rowsOf properRows
+splits-value = (refl, refl)
 
 -- a number and a row of the zero identifier: both are lost at version 0, and neither at version 1
 pub sums :
@@ -142,7 +149,7 @@ pub sums :
     × (sumTold (summedC 1 (removal 1 5 0) t (removal 2 0 1) (one zeros 7 100))
     ≡ sumLeft (record { refusal = 0; removal = removal 2 0 2 }) (tables (zeros ∷ zeros ∷ []) (7 ∷ 65535 ∷ []) (100 ∷ 5 ∷ [])))
     × (sumTold (summedC 1 (removal 3 5 0) t (removal 2 0 1) (one zeros 7 100)) ≡ sumLeft (record { refusal = 11; removal = removal 0 0 0 }) t)
-unfolding summed placingSum addRow anyOfZeros withoutZeros basicPlus recordsOf epochsOf countsOf ascending put union has held same proper after order ascends idsOf partsOf rowsUnder rowsOf properRows
+unfolding summed placing addRow anyOfZeros withoutZeros basicPlus recordsOf epochsOf countsOf ascending put union has held same proper after order ascends idsOf partsOf rowsUnder rowsOf properRows
 sums = (refl, refl, refl)
 
 pub has-removal :

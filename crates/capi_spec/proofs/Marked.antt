@@ -10,7 +10,7 @@ use Rattle.records_spec.specs.declared.head.Kind.the-variants.{SingleEpoch, Mul
 use Rattle.flags_spec.specs.declared.owners.MergingOwnersStrategy.the-variants.{RaiseIssue, UseOurs, UseTheirs}
 use Rattle.rows_spec.specs.Rows.{Tables}
 use Rattle.rows_spec.specs.declared.removed.Removed.the-variants.{None, Basic, Sectioned}
-use Rattle.sums_spec.specs.Calls.{kept as keptSum}
+use Rattle.rows_spec.specs.Outcomes.{kept as keptRemoval}
 use Rattle.splitting_spec.specs.Calls.{kept as keptSplit}
 use Rattle.totals_spec.specs.Calls.{kept as keptTotals}
 use Rattle.totals_index_spec.specs.declared.structs.Total.{Total}
@@ -53,14 +53,12 @@ module _ (n : ℕ) where
   pub bytes-refused : (out : List ℕ) → bytesTold (record { answer = refused n; out = out }) ≡ bytesLeft (record { refusal = n; count = 0 }) out
   bytes-refused out = refl
 
-  pub sum-refused : (t : Tables) → sumTold (keptSum n t) ≡ sumLeft (record { refusal = n; removal = record { kind = 0; bytes = 0; rows = 0 } }) t
+  pub sum-refused : (t : Tables) → sumTold (keptRemoval n t) ≡ sumLeft (record { refusal = n; removal = record { kind = 0; bytes = 0; rows = 0 } }) t
   sum-refused t = refl
 
   pub split-refused :
-      (kt vt : Tables)
-      → splitTold (keptSplit n kt vt)
-      ≡ splitLeft (record { refusal = n; key = record { kind = 0; bytes = 0; rows = 0 }; value = record { kind = 0; bytes = 0; rows = 0 }; visited = 0 }) kt vt
-  split-refused kt vt = refl
+      (t : Tables) → splitTold (keptSplit n t) ≡ splitLeft (record { refusal = n; removal = record { kind = 0; bytes = 0; rows = 0 }; visited = 0 }) t
+  split-refused t = refl
 
   pub totals-refused : (t : Tables) → totalsTold (keptTotals n t) ≡ totalsLeft (record { refusal = n; count = 0 }) t
   totals-refused t = refl

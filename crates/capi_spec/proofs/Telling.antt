@@ -9,8 +9,8 @@ use Rattle.records_spec.specs.Answers.{After, shown, Written, counted, wrote, k
 use Rattle.records_spec.specs.declared.answer.Answered.{Answered}
 use Rattle.records_spec.specs.declared.answer.Counted.{Counted}
 use Rattle.rows_spec.specs.Rows.{Tables}
-use Rattle.sums_spec.specs.Calls.{After as AfterSum, told as toldSum, shown as shownSum}
-use Rattle.sums_spec.specs.declared.sum.Summed.{Summed}
+use Rattle.rows_spec.specs.Outcomes.{After as AfterRemoval, told as toldRemoval, shown as shownRemoval}
+use Rattle.rows_spec.specs.declared.removed.AnsweredRemoval.{AnsweredRemoval}
 use Rattle.splitting_spec.specs.Calls.{After as AfterSplit, told as toldSplit, shown as shownSplit}
 use Rattle.splitting_spec.specs.declared.split.Splitting.{Splitting}
 use Rattle.totals_spec.specs.Calls.{After as AfterTotals, told as toldTotals, shown as shownTotals}
@@ -23,7 +23,7 @@ use Rattle.capi_spec.specs.Told.{flagsLeft, flagsAnswer, flagsTold, coun
 use Rattle.capi_spec.specs.declared.types.CFlags.{CFlags}
 use Rattle.capi_spec.specs.declared.types.CCount.{CCount}
 use Rattle.capi_spec.specs.declared.types.CSum.{CSum}
-use Rattle.capi_spec.specs.declared.types.CSplit.{CSplit}
+use Rattle.capi_spec.specs.declared.types.CValueSplit.{CValueSplit}
 use Rattle.capi_spec.specs.declared.types.CRepaired.{CRepaired}
 
 -- ---- tests
@@ -47,11 +47,11 @@ flags-bad r es cs b x h f = ap (λ (z : CFlags). flagsLeft z es cs) h ∙ ap fla
 pub bytes-told : (r : CCount) (a : Counted) (out : List ℕ) (w : Written) → r ≡ countTold (counted a) → wrote a out ≡ w → bytesLeft r out ≡ bytesTold w
 bytes-told r a out w h k = ap (λ (z : CCount). bytesLeft z out) h ∙ ap bytesTold k
 
-pub sum-told : (r : CSum) (a : Summed) (t : Tables) (x : AfterSum) → r ≡ sumAnswer (toldSum a) → shownSum a t ≡ x → sumLeft r t ≡ sumTold x
+pub sum-told : (r : CSum) (a : AnsweredRemoval) (t : Tables) (x : AfterRemoval) → r ≡ sumAnswer (toldRemoval a) → shownRemoval a t ≡ x → sumLeft r t ≡ sumTold x
 sum-told r a t x h k = ap (λ (z : CSum). sumLeft z t) h ∙ ap sumTold k
 
-pub split-told : (r : CSplit) (a : Splitting) (kt vt : Tables) (x : AfterSplit) → r ≡ splitAnswer (toldSplit a) → shownSplit a kt vt ≡ x → splitLeft r kt vt ≡ splitTold x
-split-told r a kt vt x h k = ap (λ (z : CSplit). splitLeft z kt vt) h ∙ ap splitTold k
+pub split-told : (r : CValueSplit) (a : Splitting) (t : Tables) (x : AfterSplit) → r ≡ splitAnswer (toldSplit a) → shownSplit a t ≡ x → splitLeft r t ≡ splitTold x
+split-told r a t x h k = ap (λ (z : CValueSplit). splitLeft z t) h ∙ ap splitTold k
 
 pub totals-told : (r : CCount) (a : Replaced) (t : Tables) (x : AfterTotals) → r ≡ countTold (toldTotals a) → shownTotals a t ≡ x → totalsLeft r t ≡ totalsTold x
 totals-told r a t x h k = ap (λ (z : CCount). totalsLeft z t) h ∙ ap totalsTold k

@@ -15,8 +15,9 @@ use Rattle.flags_spec.specs.declared.owners.Choice.{Choice}
 use Rattle.flags_spec.specs.declared.owners.Choice.the-variants.{Refused}
 use Rattle.rows_spec.specs.Rows.{Tables}
 use Rattle.rows_spec.specs.Calls.{hasRemoval, totalRemoved}
-use Rattle.sums_spec.specs.Calls.{After as AfterSum, kept as keptSum, summed}
-use Rattle.splitting_spec.specs.Calls.{After as AfterSplit, kept as keptSplit, splitRemoved}
+use Rattle.rows_spec.specs.Outcomes.{After as AfterRemoval, kept as keptRemoval}
+use Rattle.sums_spec.specs.Calls.{summed}
+use Rattle.splitting_spec.specs.Calls.{After as AfterSplit, kept as keptSplit, splitKey, splitValue}
 use Rattle.totals_spec.specs.Calls.{After as AfterTotals, kept as keptTotals, given, properGiven, replacing}
 use Rattle.totals_index_spec.specs.Calls.{After as AfterStructs, kept as keptStructs, replacingStructs}
 use Rattle.totals_index_spec.specs.declared.structs.Total.{Total}
@@ -64,13 +65,17 @@ optionalCombinedRemovedC present ours oes ocs theirs tes tcs x t s es cs =
     (optionalCombinedRemoved (isTrue present) (headGiven ours) oes ocs (headGiven theirs) tes tcs (removedGiven x) t (strategyGiven s) es cs)
     (kept 11 es cs)
 
--- `petasunok_split_storage_removed_bytes`
-abbrev pub splitRemovedC : CHead → List ℕ → List ℕ → ℕ → ℕ → Tables → Tables → AfterSplit
-splitRemovedC h es cs key value kt vt = cond (isKind (h .kind)) (splitRemoved (headGiven h) es cs key value kt vt) (keptSplit 11 kt vt)
+-- `petasunok_split_key_removed_bytes`
+abbrev pub splitKeyC : CHead → List ℕ → List ℕ → ℕ → Tables → AfterRemoval
+splitKeyC h es cs key t = cond (isKind (h .kind)) (splitKey (headGiven h) es cs key t) (keptRemoval 11 t)
+
+-- `petasunok_split_value_removed_bytes`
+abbrev pub splitValueC : CHead → List ℕ → List ℕ → ℕ → Tables → AfterSplit
+splitValueC h es cs value t = cond (isKind (h .kind)) (splitValue (headGiven h) es cs value t) (keptSplit 11 t)
 
 -- `petasunok_add_assign`
-abbrev pub summedC : ℕ → CRemoval → Tables → CRemoval → Tables → AfterSum
-summedC version x t y u = cond (isRemoval (x .kind) && isRemoval (y .kind)) (summed version (removedGiven x) t (removedGiven y) u) (keptSum 11 t)
+abbrev pub summedC : ℕ → CRemoval → Tables → CRemoval → Tables → AfterRemoval
+summedC version x t y u = cond (isRemoval (x .kind) && isRemoval (y .kind)) (summed version (removedGiven x) t (removedGiven y) u) (keptRemoval 11 t)
 
 -- `petasunok_has_removal`
 abbrev pub hasRemovalC : CRemoval → Tables → Answer Bool

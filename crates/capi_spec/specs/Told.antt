@@ -11,9 +11,9 @@ use Rattle.records_spec.specs.declared.head.MaybeOwner.{MaybeOwner}
 use Rattle.flags_spec.specs.declared.owners.Choice.{Choice}
 use Rattle.flags_spec.specs.declared.owners.Choice.the-variants.{Ours, Theirs, Neither, Refused}
 use Rattle.rows_spec.specs.Rows.{Tables}
+use Rattle.rows_spec.specs.Outcomes.{After as AfterRemoval}
 use Rattle.rows_spec.specs.declared.removed.Removed.{Removed}
 use Rattle.rows_spec.specs.declared.removed.Removed.the-variants.{None, Basic, Sectioned}
-use Rattle.sums_spec.specs.Calls.{After as AfterSum}
 use Rattle.splitting_spec.specs.Calls.{Told, After as AfterSplit}
 use Rattle.totals_spec.specs.Calls.{After as AfterTotals}
 use Rattle.totals_index_spec.specs.Calls.{After as AfterStructs}
@@ -24,7 +24,7 @@ use Rattle.capi_spec.specs.declared.types.CFlags.{CFlags}
 use Rattle.capi_spec.specs.declared.types.CCount.{CCount}
 use Rattle.capi_spec.specs.declared.types.CRemoval.{CRemoval}
 use Rattle.capi_spec.specs.declared.types.CSum.{CSum}
-use Rattle.capi_spec.specs.declared.types.CSplit.{CSplit}
+use Rattle.capi_spec.specs.declared.types.CValueSplit.{CValueSplit}
 use Rattle.capi_spec.specs.declared.types.COwner.{COwner}
 use Rattle.capi_spec.specs.declared.types.CMaybeOwner.{CMaybeOwner}
 use Rattle.capi_spec.specs.declared.types.CRepaired.{CRepaired}
@@ -110,7 +110,7 @@ removalTold None = record { kind = 0; bytes = 0; rows = 0 }
 removalTold (Basic n) = record { kind = 1; bytes = n; rows = 0 }
 removalTold (Sectioned n) = record { kind = 2; bytes = 0; rows = n }
 
--- all that a sum leaves
+-- all that a call leaves that gives a removal
 pub record SumLeft : Type 0 where
   pub answer : CSum
   pub rows : Tables
@@ -119,33 +119,32 @@ pub record SumLeft : Type 0 where
 abbrev pub sumLeft : CSum → Tables → SumLeft
 sumLeft a t = record { answer = a; rows = t }
 
--- the sum's state, or a refusal's number
+-- the removal's state, or a refusal's number
 abbrev pub sumAnswer : Answer Removed → CSum
 sumAnswer (ok x) = record { refusal = 0; removal = removalTold x }
 sumAnswer (refused r) = record { refusal = r; removal = removalTold None }
 
 -- the same with the lent tables
-abbrev pub sumTold : AfterSum → SumLeft
+abbrev pub sumTold : AfterRemoval → SumLeft
 sumTold a = sumLeft (sumAnswer (a .answer)) (a .rows)
 
--- all that a split leaves
+-- all that a value split leaves
 pub record SplitLeft : Type 0 where
-  pub answer : CSplit
-  pub key-rows : Tables
-  pub value-rows : Tables
+  pub answer : CValueSplit
+  pub rows : Tables
 
 -- what was answered and left
-abbrev pub splitLeft : CSplit → Tables → Tables → SplitLeft
-splitLeft a kt vt = record { answer = a; key-rows = kt; value-rows = vt }
+abbrev pub splitLeft : CValueSplit → Tables → SplitLeft
+splitLeft a t = record { answer = a; rows = t }
 
--- the two states and the number of records visited, or a refusal's number
-abbrev pub splitAnswer : Answer Told → CSplit
-splitAnswer (ok s) = record { refusal = 0; key = removalTold (s .key); value = removalTold (s .value); visited = s .visited }
-splitAnswer (refused r) = record { refusal = r; key = removalTold None; value = removalTold None; visited = 0 }
+-- the removal's state and the number of records visited, or a refusal's number
+abbrev pub splitAnswer : Answer Told → CValueSplit
+splitAnswer (ok u) = record { refusal = 0; removal = removalTold (u .removal); visited = u .visited }
+splitAnswer (refused r) = record { refusal = r; removal = removalTold None; visited = 0 }
 
 -- the same with the lent tables
 abbrev pub splitTold : AfterSplit → SplitLeft
-splitTold a = splitLeft (splitAnswer (a .answer)) (a .key-rows) (a .value-rows)
+splitTold a = splitLeft (splitAnswer (a .answer)) (a .rows)
 
 -- ---- totals
 

@@ -10,5 +10,5 @@ pub use types::CMaybeOwner;
 pub use types::COwner;
 pub use types::CRemoval;
 pub use types::CRepaired;
-pub use types::CSplit;
 pub use types::CSum;
+pub use types::CValueSplit;

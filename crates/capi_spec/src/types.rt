@@ -39,12 +39,11 @@ pub struct CSum {
     pub removal: CRemoval,
 }
 
-// Two removals and the number of records visited, or a refusal.
+// The removal of a value's bytes and the number of records visited, or a refusal.
 #[repr(C)]
-pub struct CSplit {
+pub struct CValueSplit {
     pub refusal: u32,
-    pub key: CRemoval,
-    pub value: CRemoval,
+    pub removal: CRemoval,
     pub visited: usize,
 }
 

@@ -4,7 +4,7 @@ ghost use mathlib.Core.List.{[]};
 ghost use Rattle.records_spec.specs.Refusals.{number};
 ghost use Rattle.records_spec.specs.Answers.{ok, refused, shown, counted, kept};
 ghost use Rattle.rows_spec.specs.Calls.{told, totalled};
-ghost use Rattle.sums_spec.specs.Calls.{told as toldSum};
+ghost use Rattle.rows_spec.specs.Outcomes.{told as toldRemoval};
 ghost use Rattle.splitting_spec.specs.Calls.{told as toldSplit};
 ghost use Rattle.totals_spec.specs.Calls.{told as toldTotals};
 ghost use Rattle.repair_spec.specs.Calls.{sizes};
@@ -18,8 +18,8 @@ use capi_spec::CMaybeOwner;
 use capi_spec::COwner;
 use capi_spec::CRemoval;
 use capi_spec::CRepaired;
-use capi_spec::CSplit;
 use capi_spec::CSum;
+use capi_spec::CValueSplit;
 use flags_spec::Choice;
 use records_spec::Answered;
 use records_spec::Counted;
@@ -27,12 +27,12 @@ use records_spec::Head;
 use records_spec::MaybeOwner;
 use records_spec::Outcome;
 use records_spec::Refusal;
+use rows_spec::AnsweredRemoval;
 use rows_spec::HasRemoval;
 use rows_spec::Removed;
 use rows_spec::StorageRemovedBytes;
 use rows_spec::Total;
 use splitting_spec::Splitting;
-use sums_spec::Summed;
 use totals_spec::Replaced;
 
 // A head, its kind a byte.
@@ -231,36 +231,34 @@ fn removal(state: StorageRemovedBytes) -> CRemoval
 }
 
 // A removal, or a refusal.
-pub fn sum(summed: Summed) -> CSum
-    ensures { λ r. ⌜ r ≡ sumAnswer (toldSum summed) ⌝ }
+pub fn sum(answered: AnsweredRemoval) -> CSum
+    ensures { λ r. ⌜ r ≡ sumAnswer (toldRemoval answered) ⌝ }
 {
-    match summed {
-        Summed::Sum(state) => CSum {
+    match answered {
+        AnsweredRemoval::Done(state) => CSum {
             refusal: 0,
             removal: removal(state),
         },
-        Summed::Refused(refusal) => CSum {
+        AnsweredRemoval::Refused(refusal) => CSum {
             refusal: records::number(refusal),
             removal: no_removal(),
         },
     }
 }
 
-// Two removals and the number of records visited, or a refusal.
-pub fn split(splitting: Splitting) -> CSplit
+// A removal and the number of records visited, or a refusal.
+pub fn value_split(splitting: Splitting) -> CValueSplit
     ensures { λ r. ⌜ r ≡ splitAnswer (toldSplit splitting) ⌝ }
 {
     match splitting {
-        Splitting::Done(done) => CSplit {
+        Splitting::Done(split) => CValueSplit {
             refusal: 0,
-            key: removal(done.key),
-            value: removal(done.value),
-            visited: done.visited,
+            removal: removal(split.removal),
+            visited: split.visited,
         },
-        Splitting::Refused(refusal) => CSplit {
+        Splitting::Refused(refusal) => CValueSplit {
             refusal: records::number(refusal),
-            key: no_removal(),
-            value: no_removal(),
+            removal: no_removal(),
             visited: 0,
         },
     }

@@ -1,4 +1,4 @@
--- The same of proper flags, and of what an accepted call of `split_storage_removed_bytes` leaves: its sections are the only fair ones, and a
+-- The same of proper flags, and of what an accepted call of `split_value_removed_bytes` leaves: its sections are the only fair ones, and a
 -- call for more bytes takes no less from any epoch.
 -- Assumes nothing.
 use mathlib.Core.Path.{_≡_, sym, ap, subst, _∙_}
@@ -12,7 +12,7 @@ use Rattle.records_spec.proofs.Proper.{proper-inv, proper-ascends}
 use Rattle.rows_spec.specs.Rows.{Tables, partsOf}
 use Rattle.rows_spec.specs.Removals.{Removal, rowsOfRemoval}
 use Rattle.splitting_spec.specs.Sections.{split}
-use Rattle.splitting_spec.specs.Calls.{Told, splitRemoved}
+use Rattle.splitting_spec.specs.Calls.{Told, splitValue}
 use Rattle.splitting_spec.proofs.Ascending.{value-parts}
 use Rattle.splitting_spec.proofs.Accepted.{flags-proper, value-stands}
 use Rattle.division.specs.Fair.{OnlyFair, NoLess, NeverLess}
@@ -32,19 +32,19 @@ module _ (h : Head) (es cs : List ℕ) (p : proper h es cs ≡ true) where
 
 -- ---- accepted calls
 
-module _ (h : Head) (es cs : List ℕ) (key n : ℕ) (kt vt : Tables) (t : Told) (e : splitRemoved h es cs key n kt vt .answer ≡ ok t) where
-  left-split : sectionsLeft t (splitRemoved h es cs key n kt vt) ≡ split (h .base) (flagsOf h es cs .records) n
+module _ (h : Head) (es cs : List ℕ) (n : ℕ) (t : Tables) (u : Told) (e : splitValue h es cs n t .answer ≡ ok u) where
+  left-split : sectionsLeft u (splitValue h es cs n t) ≡ split (h .base) (flagsOf h es cs .records) n
   left-split =
-      ap (λ (r : Removal). partsOf (rowsOfRemoval r)) (value-stands h es cs key n kt vt t e)
-      ∙ value-parts (idOf (ownerOf h)) (h .base) (flagsOf h es cs .records) key n
+      ap (λ (r : Removal). partsOf (rowsOfRemoval r)) (value-stands h es cs n t u e)
+      ∙ value-parts (idOf (ownerOf h)) (h .base) (flagsOf h es cs .records) n
 
-  pub left-only-fair : OnlyFair (h .base) (flagsOf h es cs .records) n (sectionsLeft t (splitRemoved h es cs key n kt vt))
+  pub left-only-fair : OnlyFair (h .base) (flagsOf h es cs .records) n (sectionsLeft u (splitValue h es cs n t))
   left-only-fair =
-      subst (OnlyFair (h .base) (flagsOf h es cs .records) n) (sym left-split) (only-fair h es cs (flags-proper h es cs key n kt vt t e) n)
+      subst (OnlyFair (h .base) (flagsOf h es cs .records) n) (sym left-split) (only-fair h es cs (flags-proper h es cs n t u e) n)
 
 -- two calls of the same flags, the second for no fewer bytes
-pub left-never-less : (h : Head) (es cs : List ℕ) (k l m n : ℕ) (kt vt lt wt : Tables) (t u : Told) → splitRemoved h es cs k m kt vt .answer ≡ ok t
-    → splitRemoved h es cs l n lt wt .answer ≡ ok u → m ≤ n → (e : ℕ)
-    → NoLess (sectionsLeft t (splitRemoved h es cs k m kt vt)) (sectionsLeft u (splitRemoved h es cs l n lt wt)) e
-left-never-less h es cs k l m n kt vt lt wt t u p q less =
-    rw (left-split h es cs k m kt vt t p, left-split h es cs l n lt wt u q) (never-less h es cs (flags-proper h es cs k m kt vt t p) m n less)
+pub left-never-less : (h : Head) (es cs : List ℕ) (m n : ℕ) (t t′ : Tables) (u u′ : Told) → splitValue h es cs m t .answer ≡ ok u
+    → splitValue h es cs n t′ .answer ≡ ok u′ → m ≤ n → (e : ℕ)
+    → NoLess (sectionsLeft u (splitValue h es cs m t)) (sectionsLeft u′ (splitValue h es cs n t′)) e
+left-never-less h es cs m n t t′ u u′ p q less =
+    rw (left-split h es cs m t u p, left-split h es cs n t′ u′ q) (never-less h es cs (flags-proper h es cs m t u p) m n less)

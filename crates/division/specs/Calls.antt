@@ -1,4 +1,4 @@
--- What an accepted call of `split_storage_removed_bytes` leaves, read as sections.
+-- What an accepted call of `split_value_removed_bytes` leaves, read as sections.
 -- Assumes nothing.
 use mathlib.Core.List.{List}
 use Rattle.records_spec.specs.Tables.{At}
@@ -6,6 +6,6 @@ use Rattle.rows_spec.specs.Rows.{partsOf}
 use Rattle.rows_spec.specs.Removals.{rowsOfRemoval, removalOf}
 use Rattle.splitting_spec.specs.Calls.{Told, After}
 
--- the sections of the value's removal, from its state and the tables lent for its rows
+-- the sections of the removal, from its state and the tables lent for its rows
 abbrev pub sectionsLeft : Told → After → List At
-sectionsLeft t a = partsOf (rowsOfRemoval (removalOf (t .value) (a .value-rows)))
+sectionsLeft u a = partsOf (rowsOfRemoval (removalOf (u .removal) (a .rows)))

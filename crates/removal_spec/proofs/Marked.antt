@@ -16,7 +16,7 @@ use Rattle.rows_spec.specs.Order.{order}
 use Rattle.rows_spec.specs.Rows.{Row, row, ascends, idsOf, partsOf, rowsUnder, Tables, tables, rowsOf, properRows}
 use Rattle.rows_spec.specs.Removals.{Removal, nothing, basic, sectioned, rowsOfRemoval, stateOf}
 use Rattle.splitting_spec.specs.Sections.{spare, section, sections, split}
-use Rattle.splitting_spec.specs.Calls.{removalOf}
+use Rattle.splitting_spec.specs.Calls.{valueRemoval}
 use Rattle.removal_spec.specs.Removing.{allUnder, fault, minus, removed}
 use Rattle.removal_spec.specs.Calls.{combinedRemoved}
 
@@ -55,7 +55,7 @@ b = replicate 32 2
 -- unowned records above base 5, incoming kind 0 at 9, and the removal that the split of some bytes makes; room for two records
 abbrev own : List At → ℕ → (List ℕ → List ℕ → After) → Example
 own rs n answer =
-    example (flags 5 none rs) (flags 9 none []) (removalOf zeros n (split 5 rs n)) RaiseIssue (1 ∷ 2 ∷ []) (3 ∷ 4 ∷ []) answer
+    example (flags 5 none rs) (flags 9 none []) (valueRemoval (flags 5 none rs) n) RaiseIssue (1 ∷ 2 ∷ []) (3 ∷ 4 ∷ []) answer
 
 -- unowned {7:10} above base 5, incoming kind 0 at 9, and a removal; room for one record
 abbrev ten : Removal → (List ℕ → List ℕ → After) → Example

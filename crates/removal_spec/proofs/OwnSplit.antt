@@ -28,12 +28,12 @@ use Rattle.rows_spec.specs.Removals.{Removal, removalOf, totalRows, proper as p
 use Rattle.rows_spec.specs.declared.removed.Removed.{Removed}
 use Rattle.rows_spec.proofs.Under.{parts-under, total-none}
 use Rattle.splitting_spec.specs.Sections.{asked, section, sections, split}
-use Rattle.splitting_spec.specs.Calls.{removalOf as removalOfSplit, Told, splitRemoved}
+use Rattle.splitting_spec.specs.Calls.{valuePart, valueRemoval, Told, splitValue}
 use Rattle.splitting_spec.proofs.Sections.{section-none, section-one, split-parts, split-none}
 use Rattle.splitting_spec.proofs.Ascending.{sections-ascend}
 use Rattle.splitting_spec.proofs.Given.{Within, sections-within}
 use Rattle.splitting_spec.proofs.Sums.{split-sum}
-use Rattle.splitting_spec.proofs.Accepted.{flags-proper, value-stands, accepted}
+use Rattle.splitting_spec.proofs.Accepted.{flags-proper, value-stands, value-removes}
 use Rattle.removal_spec.specs.Removing.{onlyUnder, fault, minus, taken, removedAbove, removed}
 use Rattle.removal_spec.specs.Calls.{combinedRemoved}
 use Rattle.removal_spec.proofs.Faults.{fault-base, fault-within, fault-none, fault-on}
@@ -80,18 +80,14 @@ some-section i (s ∷ ss) n h = only-under i s ss
 
 -- flags less the removal that their own split made
 less-own : (o : Option (List ℕ)) (base : ℕ) (rs : List At) (n : ℕ) → ascending base (epochsOf rs) ≡ true
-    → taken (idOf o) (removalOfSplit (idOf o) n (split base rs n)) (flags base o rs) ≡ ok (flags base o (minus rs (split base rs n)))
+    → taken (idOf o) (valuePart (idOf o) base rs n) (flags base o rs) ≡ ok (flags base o (minus rs (split base rs n)))
 less-own o base rs zero h = ap (λ (l : List At). ok (flags base o l)) (sym (ap (minus rs) (split-none base rs) ∙ minus-nothing rs))
 less-own o base rs (suc n) h =
     taken-under (idOf o) (rowsUnder (idOf o) (split base rs (suc n))) (flags base o rs) (split base rs (suc n))
     (some-section (idOf o) (split base rs (suc n)) n (split-sum (idOf o) base rs (suc n))) (parts-under (idOf o) (split base rs (suc n)))
     ∙ less-fine (split base rs (suc n)) (flags base o rs) (split-fine base rs (suc n) h)
 
--- the removal that the split of n bytes makes
-abbrev pub ownRemoval : Flags → ℕ → Removal
-ownRemoval f n = removalOfSplit (idOf (f .owner)) n (split (f .base) (f .records) n)
-
--- the flags less the sections of that split
+-- flags less the sections of their own split of n bytes
 abbrev pub rest : Flags → ℕ → Flags
 rest f n = flags (f .base) (f .owner) (minus (f .records) (split (f .base) (f .records) n))
 
@@ -103,20 +99,20 @@ pub record Incoming (f theirs : Flags) : Type 0 where
 
 module _ (s : MergingOwnersStrategy) (f theirs : Flags) (n : ℕ) (h : ascending (f .base) (epochsOf (f .records)) ≡ true) (w : Incoming f theirs) where
   -- by whether ours has records
-  above-own : (rs : List At) → f .records ≡ rs → removedAbove s (ownRemoval f n) f theirs rs ≡ ok (rest f n)
+  above-own : (rs : List At) → f .records ≡ rs → removedAbove s (valueRemoval f n) f theirs rs ≡ ok (rest f n)
   above-own [] e = ap (λ (l : List At). ok (flags (f .base) (f .owner) l)) (e ∙ sym (ap (λ (l : List At). minus l (split (f .base) (f .records) n)) e ∙ minus-none _))
   above-own (r ∷ rs) e =
-      above-owned s (ownRemoval f n) f theirs (r ∷ rs) (omega arith) (f .owner) (owner-stays s (f .owner) (theirs .owner) (w .owner))
-      ∙ ap (λ (l : List At). taken (idOf (f .owner)) (ownRemoval f n) (flags (f .base) (f .owner) l)) (ap (union (f .records)) (w .bare) ∙ union-none (f .records))
+      above-owned s (valueRemoval f n) f theirs (r ∷ rs) (omega arith) (f .owner) (owner-stays s (f .owner) (theirs .owner) (w .owner))
+      ∙ ap (λ (l : List At). taken (idOf (f .owner)) (valueRemoval f n) (flags (f .base) (f .owner) l)) (ap (union (f .records)) (w .bare) ∙ union-none (f .records))
       ∙ less-own (f .owner) (f .base) (f .records) n h
 
   -- THE SPLIT'S OWN MERGE IS NEVER REFUSED, FOR NO STRATEGY
-  pub own-merge : removed s (ownRemoval f n) f theirs ≡ ok (rest f n)
-  own-merge = removed-above s (ownRemoval f n) f theirs (w .higher) ∙ above-own (f .records) refl
+  pub own-merge : removed s (valueRemoval f n) f theirs ≡ ok (rest f n)
+  own-merge = removed-above s (valueRemoval f n) f theirs (w .higher) ∙ above-own (f .records) refl
 
   -- with room for our records it is placed
   pub own-placed : (es cs : List ℕ) → length (f .records) ≤ length es → length (f .records) ≤ length cs
-      → placing (removed s (ownRemoval f n) f theirs) es cs ≡ placed (rest f n) es cs
+      → placing (removed s (valueRemoval f n) f theirs) es cs ≡ placed (rest f n) es cs
   own-placed es cs p q =
       let l = minus-long (f .records) (split (f .base) (f .records) n) in
       ap (λ (x : Answer Flags). placing x es cs) own-merge ∙ after-placed (rest f n) es cs (omega arith) (omega arith)
@@ -124,7 +120,7 @@ module _ (s : MergingOwnersStrategy) (f theirs : Flags) (n : ℕ) (h : ascending
 -- the same of the call: ours, theirs and a removal that stands for the split's are proper, and our records have room
 module _ (ours : Head) (oes ocs : List ℕ) (theirs : Head) (tes tcs : List ℕ) (x : Removed) (t : Tables) (s : MergingOwnersStrategy) (es cs : List ℕ) (n : ℕ) where
   own-call : proper ours oes ocs ≡ true → proper theirs tes tcs ≡ true → properRemoval x t ≡ true
-      → removalOf x t ≡ ownRemoval (flagsOf ours oes ocs) n → Incoming (flagsOf ours oes ocs) (flagsOf theirs tes tcs)
+      → removalOf x t ≡ valueRemoval (flagsOf ours oes ocs) n → Incoming (flagsOf ours oes ocs) (flagsOf theirs tes tcs)
       → ours .records ≤ length es → ours .records ≤ length cs
       → combinedRemoved ours oes ocs theirs tes tcs x t s es cs ≡ placed (rest (flagsOf ours oes ocs) n) es cs
   own-call p q r e w he hc =
@@ -136,16 +132,14 @@ module _ (ours : Head) (oes ocs : List ℕ) (theirs : Head) (tes tcs : List ℕ)
       ∙ ap (λ (y : Removal). placing (removed s y f (flagsOf theirs tes tcs)) es cs) e
       ∙ own-placed s f (flagsOf theirs tes tcs) n h w es cs (omega arith) (omega arith)
 
--- THE MERGE OF WHAT AN ACCEPTED SPLIT LEFT IS NEVER REFUSED: the value's state and rows are handed on as the split left them
-module _ (ours : Head) (oes ocs : List ℕ) (keyBytes valueBytes : ℕ) (kt vt : Tables) (t : Told) (theirs : Head) (tes tcs : List ℕ) (s : MergingOwnersStrategy) (es cs : List ℕ) where
-  pub split-merged : splitRemoved ours oes ocs keyBytes valueBytes kt vt .answer ≡ ok t → proper theirs tes tcs ≡ true
+-- THE MERGE OF WHAT AN ACCEPTED VALUE SPLIT LEFT IS NEVER REFUSED: state and rows are handed on as the split left them
+module _ (ours : Head) (oes ocs : List ℕ) (n : ℕ) (t : Tables) (u : Told) (theirs : Head) (tes tcs : List ℕ) (s : MergingOwnersStrategy) (es cs : List ℕ) where
+  pub split-merged : splitValue ours oes ocs n t .answer ≡ ok u → proper theirs tes tcs ≡ true
       → Incoming (flagsOf ours oes ocs) (flagsOf theirs tes tcs) → ours .records ≤ length es → ours .records ≤ length cs
-      → combinedRemoved ours oes ocs theirs tes tcs (t .value) (splitRemoved ours oes ocs keyBytes valueBytes kt vt .value-rows) s es cs
-      ≡ placed (rest (flagsOf ours oes ocs) valueBytes) es cs
+      → combinedRemoved ours oes ocs theirs tes tcs (u .removal) (splitValue ours oes ocs n t .rows) s es cs ≡ placed (rest (flagsOf ours oes ocs) n) es cs
   split-merged a q w he hc =
-      own-call ours oes ocs theirs tes tcs (t .value) (splitRemoved ours oes ocs keyBytes valueBytes kt vt .value-rows) s es cs valueBytes
-      (flags-proper ours oes ocs keyBytes valueBytes kt vt t a) q (accepted ours oes ocs keyBytes valueBytes kt vt t a .value-proper)
-      (value-stands ours oes ocs keyBytes valueBytes kt vt t a) w he hc
+      own-call ours oes ocs theirs tes tcs (u .removal) (splitValue ours oes ocs n t .rows) s es cs n
+      (flags-proper ours oes ocs n t u a) q (value-removes ours oes ocs n t u a .is-proper) (value-stands ours oes ocs n t u a) w he hc
 
 -- ---- no record left
 

@@ -8,7 +8,8 @@ mod writes;
 use wire::BEYOND;
 use wire::Verdict;
 
-// Makes the call of a number, 1 to 24; answers the place in the reply behind what it answers.
+// Makes the call of a number, 1 to 26; answers the place in the reply behind what it answers. 14 was the split of key and value bytes at once,
+// and is not used again.
 fn make(call: u8, question: &[u8], reply: &[u8]) -> usize {
     match call {
         1..=5 => reads::deserialize(call, question, reply),
@@ -18,7 +19,6 @@ fn make(call: u8, question: &[u8], reply: &[u8]) -> usize {
         9 => owners::combine_owner_id(question, reply),
         10..=11 => replay_merges::add(call, question, reply),
         12..=13 => replay_merges::remove(call, question, reply),
-        14 => replay_removals::split(question, reply),
         15 => replay_removals::add_assign(question, reply),
         16..=17 => replay_removals::count(call, question, reply),
         18 => heads::new_single_epoch(question, reply),
@@ -28,6 +28,7 @@ fn make(call: u8, question: &[u8], reply: &[u8]) -> usize {
         22 => heads::type_byte(question, reply),
         23 => repairs::repair(question, reply),
         24 => replay_totals::totals_replace(question, reply),
+        25..=26 => replay_removals::split(call, question, reply),
         _ => BEYOND,
     }
 }

@@ -1,4 +1,4 @@
-// Replaying the calls on removals: the split and the sums.
+// Replaying the calls on removals: the splits and the sums.
 mod removals;
 mod splits;
 

@@ -1,27 +1,16 @@
 // Replaying removal sums: 15 to 17.
+use crate::splits::tell_answered;
 use rows_spec::HasRemoval;
 use rows_spec::Total;
-use sums_spec::Summed;
 use wire::byte_of;
 use wire::take_counts;
 use wire::take_epochs;
 use wire::take_ids;
 use wire::take_removal;
 use wire::take_u16;
-use wire::tell_no_removal;
 use wire::tell_number;
-use wire::tell_removal;
 use wire::tell_rows;
-use wire::tell_u8;
 use wire::turn;
-
-// A removal, or a refusal.
-fn tell_summed(reply: &[u8], at: usize, summed: Summed) -> usize {
-    match summed {
-        Summed::Sum(removal) => tell_removal(reply, tell_u8(reply, at, 0), removal),
-        Summed::Refused(refusal) => tell_no_removal(reply, tell_u8(reply, at, byte_of(refusal))),
-    }
-}
 
 // The sum of two removals.
 pub fn add_assign(question: &[u8], reply: &[u8]) -> usize {
@@ -52,7 +41,7 @@ pub fn add_assign(question: &[u8], reply: &[u8]) -> usize {
         rhs_bytes,
         version,
     );
-    let to = tell_summed(reply, turn(question, at), summed);
+    let to = tell_answered(reply, turn(question, at), summed);
     tell_rows(reply, to, ids, epochs, bytes)
 }
 

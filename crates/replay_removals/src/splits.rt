@@ -1,4 +1,5 @@
-// Replaying the split of a removal: 14.
+// Replaying the splits of a removal: 25 of key bytes, 26 of value bytes.
+use rows_spec::AnsweredRemoval;
 use splitting_spec::Splitting;
 use wire::byte_of;
 use wire::take_counts;
@@ -13,60 +14,72 @@ use wire::tell_rows;
 use wire::tell_u8;
 use wire::turn;
 
-// Two removals and the number of records visited, or a refusal.
-fn tell_splitting(reply: &[u8], at: usize, splitting: Splitting) -> usize {
-    match splitting {
-        Splitting::Done(split) => {
-            let value = tell_removal(reply, tell_u8(reply, at, 0), split.key);
-            tell_len(
-                reply,
-                tell_removal(reply, value, split.value),
-                split.visited,
-            )
-        }
-        Splitting::Refused(refusal) => {
-            let value = tell_no_removal(reply, tell_u8(reply, at, byte_of(refusal)));
-            tell_len(reply, tell_no_removal(reply, value), 0)
+// A removal, or a refusal.
+pub fn tell_answered(reply: &[u8], at: usize, answered: AnsweredRemoval) -> usize {
+    match answered {
+        AnsweredRemoval::Done(removal) => tell_removal(reply, tell_u8(reply, at, 0), removal),
+        AnsweredRemoval::Refused(refusal) => {
+            tell_no_removal(reply, tell_u8(reply, at, byte_of(refusal)))
         }
     }
 }
 
-// The split: flags, the bytes of key and value, and the tables that are lent for each.
-pub fn split(question: &[u8], reply: &[u8]) -> usize {
+// A removal and the number of records visited, or a refusal.
+fn tell_splitting(reply: &[u8], at: usize, splitting: Splitting) -> usize {
+    match splitting {
+        Splitting::Done(split) => {
+            let visited = tell_removal(reply, tell_u8(reply, at, 0), split.removal);
+            tell_len(reply, visited, split.visited)
+        }
+        Splitting::Refused(refusal) => {
+            let visited = tell_no_removal(reply, tell_u8(reply, at, byte_of(refusal)));
+            tell_len(reply, visited, 0)
+        }
+    }
+}
+
+// A split: flags, the bytes of the key (25) or the value (26), and the tables that are lent for its rows.
+pub fn split(call: u8, question: &[u8], reply: &[u8]) -> usize {
     let mut at: usize = 1;
     let flags = take_head(question, &mut at);
     let mut epochs = [0u16; 16];
     let epochs = take_epochs(question, &mut at, &mut epochs);
     let mut counts = [0u32; 16];
     let counts = take_counts(question, &mut at, &mut counts);
-    let key = take_u32(question, &mut at);
-    let value = take_u32(question, &mut at);
-    let mut key_ids = [[0u8; 32]; 16];
-    let key_ids = take_ids(question, &mut at, &mut key_ids);
-    let mut key_epochs = [0u16; 16];
-    let key_epochs = take_epochs(question, &mut at, &mut key_epochs);
-    let mut key_bytes = [0u32; 16];
-    let key_bytes = take_counts(question, &mut at, &mut key_bytes);
-    let mut value_ids = [[0u8; 32]; 16];
-    let value_ids = take_ids(question, &mut at, &mut value_ids);
-    let mut value_epochs = [0u16; 16];
-    let value_epochs = take_epochs(question, &mut at, &mut value_epochs);
-    let mut value_bytes = [0u32; 16];
-    let value_bytes = take_counts(question, &mut at, &mut value_bytes);
-    let splitting = splitting::split_storage_removed_bytes(
+    let removed = take_u32(question, &mut at);
+    let mut ids = [[0u8; 32]; 16];
+    let ids = take_ids(question, &mut at, &mut ids);
+    let mut row_epochs = [0u16; 16];
+    let row_epochs = take_epochs(question, &mut at, &mut row_epochs);
+    let mut bytes = [0u32; 16];
+    let bytes = take_counts(question, &mut at, &mut bytes);
+    let to = turn(question, at);
+    if call == 25 {
+        let key = splitting::split_key_removed_bytes(
+            flags,
+            epochs,
+            counts,
+            removed,
+            ids,
+            row_epochs,
+            bytes,
+        );
+        return tell_rows(reply, tell_answered(reply, to, key), ids, row_epochs, bytes);
+    }
+    let value = splitting::split_value_removed_bytes(
         flags,
         epochs,
         counts,
-        key,
-        value,
-        key_ids,
-        key_epochs,
-        key_bytes,
-        value_ids,
-        value_epochs,
-        value_bytes,
+        removed,
+        ids,
+        row_epochs,
+        bytes,
     );
-    let to = tell_splitting(reply, turn(question, at), splitting);
-    let rows = tell_rows(reply, to, key_ids, key_epochs, key_bytes);
-    tell_rows(reply, rows, value_ids, value_epochs, value_bytes)
+    tell_rows(
+        reply,
+        tell_splitting(reply, to, value),
+        ids,
+        row_epochs,
+        bytes,
+    )
 }

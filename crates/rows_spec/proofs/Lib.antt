@@ -7,5 +7,6 @@ pub mod Backing
 pub mod Only
 pub mod Under
 pub mod Over
+pub mod Outcomes
 pub mod Parts
 pub mod Marked

@@ -1,4 +1,5 @@
 pub mod Order
 pub mod Rows
 pub mod Removals
+pub mod Outcomes
 pub mod Calls

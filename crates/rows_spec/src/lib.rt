@@ -4,6 +4,7 @@ mod order;
 mod removed;
 
 pub use order::Order;
+pub use removed::AnsweredRemoval;
 pub use removed::HasRemoval;
 pub use removed::Removed;
 pub use removed::StorageRemovedBytes;

@@ -13,6 +13,12 @@ pub struct StorageRemovedBytes {
     pub removed: Removed,
 }
 
+// A removal whose rows stand in lent tables, or a refusal.
+pub enum AnsweredRemoval {
+    Done(StorageRemovedBytes),
+    Refused(Refusal),
+}
+
 // Whether something was removed, or a refusal.
 pub enum HasRemoval {
     Yes,

@@ -1,146 +1,149 @@
--- What an accepted split leaves, read back from what the call answers: both removals are proper, they come to what was removed, and so many
--- records were visited as the value's has sections beside the base. And with which numbers a split is refused.
+-- What accepted calls leave, read back: the removals are proper and come to what was removed, and so many records were visited as the value's has
+-- sections beside the base. And when the calls are refused: never for an amount.
 -- Assumes nothing.
 use mathlib.Core.Path.{_≡_, refl, sym, ap, _∙_}
-use mathlib.Core.Bool.{Bool, true, false, cond, _&&_}
-use mathlib.Core.Logic.{_⊎_, inl, inr}
-use mathlib.Core.List.{List, []}
-use Prim.Native.Nat.{ℕ, zero, suc}
+use mathlib.Core.Bool.{true}
+use mathlib.Core.Logic.{_⊎_}
+use mathlib.Core.List.{List}
+use Prim.Native.Nat.{ℕ, _+_}
+use native.Mathlib.Omega.{arith}
 use lib.ListN.{length}
 use Rattle.records_spec.specs.Tables.{At, epochsOf, ascending}
-use Rattle.records_spec.specs.Flags.{idOf, ownerOf, flagsOf, proper}
-use Rattle.records_spec.specs.Answers.{ok, refused}
+use Rattle.records_spec.specs.Flags.{Flags, idOf, flagsOf, proper}
+use Rattle.records_spec.specs.Answers.{Answer, ok, refused}
 use Rattle.records_spec.specs.declared.head.Head.{Head}
 use Rattle.records_spec.proofs.Answers.{refused-not-ok}
 use Rattle.records_spec.proofs.Proper.{proper-inv, proper-ascends}
-use Rattle.rows_spec.specs.Rows.{Tables, row, partsOf, ascends, roomIn, overRows}
-use Rattle.rows_spec.specs.Removals.{Removal, rowsOfRemoval, stateOf, removalOf, total, proper as properRemoval}
-use Rattle.rows_spec.proofs.Rows.{asc-none, asc-cons}
-use Rattle.rows_spec.proofs.Under.{under-one}
-use Rattle.rows_spec.proofs.Over.{removal-over, proper-over}
+use Rattle.rows_spec.specs.Rows.{Tables, partsOf, Room}
+use Rattle.rows_spec.specs.Removals.{Removal, nothing, rowsOfRemoval, stateOf, removalOf, total, proper as properRemoval}
+use Rattle.rows_spec.specs.Outcomes.{After as AfterRemoval, placing, whereProper}
+use Rattle.rows_spec.specs.declared.removed.Removed.{Removed}
+use Rattle.rows_spec.specs.declared.removed.Removed.the-variants.{None}
+use Rattle.rows_spec.proofs.Rows.{has-room, room-less}
+use Rattle.rows_spec.proofs.Outcomes.{Accepted, done, accepted, refusals, placing-room, placing-nothing}
 use Rattle.splitting_spec.specs.Sections.{besideBase}
-use Rattle.splitting_spec.specs.Calls.{Split, parted, splitOf, Told, After, kept, placing, splitRemoved}
+use Rattle.splitting_spec.specs.Calls.{keyRemoval, valueRemoval, visitedFor, Told, After, toldWith, visiting, splitKey, splitValue}
+use Rattle.splitting_spec.proofs.Sections.{sections-none}
+use Rattle.splitting_spec.proofs.Counting.{base-short, split-short, key-rows, value-rows}
 use Rattle.splitting_spec.proofs.Sums.{key-sum, value-sum}
-use Rattle.splitting_spec.proofs.Ascending.{rows-ascend, visited-beside}
+use Rattle.splitting_spec.proofs.Ascending.{key-ascends, value-ascends, visited-beside}
+use Rattle.splitting_spec.proofs.Calls.{key-proper, value-proper}
 
--- ---- both removals ascend
+-- a proper removal of so many bytes
+pub record Removes (n : ℕ) (x : Removed) (t : Tables) : Type 0 where
+  pub is-proper : properRemoval x t ≡ true
+  pub comes-to : total (removalOf x t) ≡ n
 
-key-ascends : (i : List ℕ) (base : ℕ) (rs : List At) (m n : ℕ) → ascends (rowsOfRemoval (parted i base rs m n .key)) ≡ true
-key-ascends i base rs zero n = asc-none
-key-ascends i base rs (suc m) n = rw (under-one i base (suc m)) (asc-cons (row i base (suc m)) [] tt asc-none)
+-- a state was answered, and beside it how many records were visited
+with-visited : (v : ℕ) (a : Answer Removed) (t : Told) → toldWith v a ≡ ok t → (a ≡ ok (t .removal)) × (t .visited ≡ v)
+with-visited v (ok x) t e = (cc, cc)
+with-visited v (refused n) t e = absurd (refused-not-ok n t e)
 
-value-ascends : (i : List ℕ) (base : ℕ) (rs : List At) (m n : ℕ) → ascending base (epochsOf rs) ≡ true → ascends (rowsOfRemoval (parted i base rs m n .value)) ≡ true
-value-ascends i base rs m zero h = asc-none
-value-ascends i base rs m (suc n) h = rows-ascend base rs (suc n) h i
+-- a refusal is one of the removal's
+with-refusal : (v : ℕ) (a : Answer Removed) (n : ℕ) → toldWith v a ≡ refused n → a ≡ refused n
+with-refusal v (ok x) n e = absurd (refused-not-ok n (record { removal = x; visited = v }) (sym e))
+with-refusal v (refused m) n e = let z : m ≡ n = cc in ap refused z
 
--- ---- the tests of a call that was accepted
+module _ (h : Head) (es cs : List ℕ) (n : ℕ) (t : Tables) where
+  abbrev f : Flags
+  f = flagsOf h es cs
 
--- what the call answers of a split that has room
-abbrev toldOf : Split → Told
-toldOf s = record { key = stateOf (s .key); value = stateOf (s .value); visited = s .visited }
+  rises : proper h es cs ≡ true → ascending (h .base) (epochsOf (f .records)) ≡ true
+  rises p = proper-ascends (proper-inv h es cs p)
 
--- the removals' rows at the start of the tables
-record Left (s : Split) (kt vt : Tables) (t : Told) (a : After) : Type 0 where
-  pub answer : t ≡ toldOf s
-  pub key : a .key-rows ≡ overRows (rowsOfRemoval (s .key)) kt
-  pub value : a .value-rows ≡ overRows (rowsOfRemoval (s .value)) vt
+  -- ---- accepted calls
 
--- the split that a call of these makes
-abbrev pub splitFor : Head → List ℕ → List ℕ → ℕ → ℕ → Split
-splitFor h es cs keyBytes valueBytes = splitOf (flagsOf h es cs) keyBytes valueBytes
+  -- the key's
+  module _ (x : Removed) (e : splitKey h es cs n t .answer ≡ ok x) where
+    key-left : Accepted (proper h es cs) (keyRemoval f n) x (splitKey h es cs n t)
+    unfolding splitKey
+    key-left = accepted (keyRemoval f n) t x (proper h es cs) e
 
--- all that is left of a split that has room
-abbrev filled : Split → Tables → Tables → After
-filled s kt vt =
-    record { answer = ok (toldOf s); key-rows = overRows (rowsOfRemoval (s .key)) kt; value-rows = overRows (rowsOfRemoval (s .value)) vt }
+    -- the state, and the rows beside it, stand for the key's removal
+    pub key-stands : removalOf x (splitKey h es cs n t .rows) ≡ keyRemoval f n
+    key-stands = key-left .stands
 
-module _ (s : Split) (kt vt : Tables) (t : Told) where
-  by-room : (b : Bool) → cond b (filled s kt vt) (kept 10 kt vt) .answer ≡ ok t → Left s kt vt t (cond b (filled s kt vt) (kept 10 kt vt))
-  by-room true e = record { answer = let z : toldOf s ≡ t = cc in sym z; key = refl; value = refl }
-  by-room false e = absurd (refused-not-ok 10 t e)
+    pub key-removes : Removes n x (splitKey h es cs n t .rows)
+    key-removes =
+        record {
+          is-proper = key-left .is-proper (key-ascends (idOf (f .owner)) (h .base) n);
+          comes-to = ap total key-stands ∙ key-sum (idOf (f .owner)) (h .base) n;
+        }
 
-  placed-left : placing s kt vt .answer ≡ ok t → Left s kt vt t (placing s kt vt)
-  unfolding placing
-  placed-left e = by-room (roomIn (length (rowsOfRemoval (s .key))) kt && roomIn (length (rowsOfRemoval (s .value))) vt) e
+  -- the value's
+  module _ (u : Told) (e : splitValue h es cs n t .answer ≡ ok u) where
+    value-told : (whereProper (proper h es cs) (valueRemoval f n) t .answer ≡ ok (u .removal)) × (u .visited ≡ visitedFor f n)
+    unfolding splitValue
+    value-told = with-visited (visitedFor f n) (whereProper (proper h es cs) (valueRemoval f n) t .answer) u e
 
-module _ (h : Head) (es cs : List ℕ) (keyBytes valueBytes : ℕ) (kt vt : Tables) (t : Told) where
-  -- the flags are proper, and the rows stand in the tables
-  by-proper : (b : Bool) → proper h es cs ≡ b → cond b (placing (splitFor h es cs keyBytes valueBytes) kt vt) (kept 11 kt vt) .answer ≡ ok t
-      → (proper h es cs ≡ true) × Left (splitFor h es cs keyBytes valueBytes) kt vt t (cond b (placing (splitFor h es cs keyBytes valueBytes) kt vt) (kept 11 kt vt))
-  by-proper true p e = (p, placed-left (splitFor h es cs keyBytes valueBytes) kt vt t e)
-  by-proper false p e = absurd (refused-not-ok 11 t e)
+    value-left : Accepted (proper h es cs) (valueRemoval f n) (u .removal) (whereProper (proper h es cs) (valueRemoval f n) t)
+    value-left = accepted (valueRemoval f n) t (u .removal) (proper h es cs) (value-told .0)
 
-  accepted-left : splitRemoved h es cs keyBytes valueBytes kt vt .answer ≡ ok t
-      → (proper h es cs ≡ true) × Left (splitFor h es cs keyBytes valueBytes) kt vt t (splitRemoved h es cs keyBytes valueBytes kt vt)
-  unfolding splitRemoved
-  accepted-left e = by-proper (proper h es cs) refl e
+    pub flags-proper : proper h es cs ≡ true
+    flags-proper = value-left .given-proper
 
--- ---- the numbers of a call that was refused
+    -- the state, and the rows beside it, stand for the value's removal
+    pub value-stands : removalOf (u .removal) (splitValue h es cs n t .rows) ≡ valueRemoval f n
+    unfolding splitValue
+    value-stands = value-left .stands
 
-module _ (s : Split) (kt vt : Tables) (n : ℕ) where
-  without-room : (b : Bool) → cond b (filled s kt vt) (kept 10 kt vt) .answer ≡ refused n → n ≡ 10
-  without-room true e = absurd (refused-not-ok n (toldOf s) (sym e))
-  without-room false e = let z : 10 ≡ n = cc in sym z
+    pub value-removes : Removes n (u .removal) (splitValue h es cs n t .rows)
+    unfolding splitValue
+    value-removes =
+        record {
+          is-proper = value-left .is-proper (value-ascends (idOf (f .owner)) (h .base) (f .records) n (rises flags-proper));
+          comes-to = ap total value-stands ∙ value-sum (idOf (f .owner)) (h .base) (f .records) n;
+        }
 
-  placing-refuses : placing s kt vt .answer ≡ refused n → n ≡ 10
-  unfolding placing
-  placing-refuses e = without-room (roomIn (length (rowsOfRemoval (s .key))) kt && roomIn (length (rowsOfRemoval (s .value))) vt) e
+    -- SO MANY RECORDS WERE VISITED AS THE REMOVAL HAS SECTIONS BESIDE THE BASE
+    pub visited-are : u .visited ≡ length (besideBase (h .base) (partsOf (rowsOfRemoval (removalOf (u .removal) (splitValue h es cs n t .rows)))))
+    visited-are =
+        value-told .1 ∙ visited-beside (idOf (f .owner)) (h .base) (f .records) n (rises flags-proper)
+        ∙ ap (λ (r : Removal). length (besideBase (h .base) (partsOf (rowsOfRemoval r)))) (sym value-stands)
 
-module _ (h : Head) (es cs : List ℕ) (keyBytes valueBytes : ℕ) (kt vt : Tables) (n : ℕ) where
-  either-number : (b : Bool) → cond b (placing (splitFor h es cs keyBytes valueBytes) kt vt) (kept 11 kt vt) .answer ≡ refused n → (n ≡ 11) ⊎ (n ≡ 10)
-  either-number true e = inr (placing-refuses (splitFor h es cs keyBytes valueBytes) kt vt n e)
-  either-number false e = let z : 11 ≡ n = cc in inl (sym z)
+  -- ---- refused calls
 
-  -- A SPLIT IS REFUSED WITH 11 OR 10 ONLY, WHATEVER THE AMOUNTS ARE
-  pub split-refusals : splitRemoved h es cs keyBytes valueBytes kt vt .answer ≡ refused n → (n ≡ 11) ⊎ (n ≡ 10)
-  unfolding splitRemoved
-  split-refusals e = either-number (proper h es cs) e
+  -- BOTH ARE REFUSED WITH 11 OR 10 ONLY, WHATEVER THE AMOUNT IS
+  pub key-refusals : (r : ℕ) → splitKey h es cs n t .answer ≡ refused r → (r ≡ 11) ⊎ (r ≡ 10)
+  unfolding splitKey
+  key-refusals r e = refusals (keyRemoval f n) t r (proper h es cs) e
 
--- ---- what is left
+  pub value-refusals : (r : ℕ) → splitValue h es cs n t .answer ≡ refused r → (r ≡ 11) ⊎ (r ≡ 10)
+  unfolding splitValue
+  value-refusals r e =
+      refusals (valueRemoval f n) t r (proper h es cs) (with-refusal (visitedFor f n) (whereProper (proper h es cs) (valueRemoval f n) t .answer) r e)
 
--- both removals are proper and come to what was removed, and the records visited are the value's sections beside the base
-pub record Accepted (base keyBytes valueBytes : ℕ) (t : Told) (a : After) : Type 0 where
-  pub key-proper : properRemoval (t .key) (a .key-rows) ≡ true
-  pub value-proper : properRemoval (t .value) (a .value-rows) ≡ true
-  pub key-comes-to : total (removalOf (t .key) (a .key-rows)) ≡ keyBytes
-  pub value-comes-to : total (removalOf (t .value) (a .value-rows)) ≡ valueBytes
-  pub visited-are : t .visited ≡ length (besideBase base (partsOf (rowsOfRemoval (removalOf (t .value) (a .value-rows)))))
+  -- ---- room enough for any amount
 
-module _ (h : Head) (es cs : List ℕ) (keyBytes valueBytes : ℕ) (kt vt : Tables) (t : Told)
-    (e : splitRemoved h es cs keyBytes valueBytes kt vt .answer ≡ ok t) where
-  abbrev s : Split
-  s = splitFor h es cs keyBytes valueBytes
+  -- what the value's call answers where there is room
+  abbrev pub valueTold : Told
+  valueTold = record { removal = stateOf (valueRemoval f n); visited = visitedFor f n }
 
-  abbrev left : After
-  left = splitRemoved h es cs keyBytes valueBytes kt vt
+  module _ (p : proper h es cs ≡ true) where
+    -- A ROW IS ROOM ENOUGH FOR ANY KEY BYTES
+    pub key-accepted : Room 1 t → splitKey h es cs n t .answer ≡ ok (stateOf (keyRemoval f n))
+    key-accepted r =
+        let k = key-rows (idOf (f .owner)) (h .base) n in
+        ap (λ (a : AfterRemoval). a .answer)
+        (sym (key-proper h es cs n t (idOf (f .owner)) refl p)
+        ∙ placing-room (keyRemoval f n) t (has-room (room-less (length (rowsOfRemoval (keyRemoval f n))) (omega (arith, k, base-short n)) r)))
 
-  pub flags-proper : proper h es cs ≡ true
-  flags-proper = accepted-left h es cs keyBytes valueBytes kt vt t e .0
+    -- A ROW MORE THAN THERE ARE RECORDS IS ROOM ENOUGH FOR ANY VALUE BYTES
+    pub value-accepted : Room (length (f .records) + 1) t → splitValue h es cs n t .answer ≡ ok valueTold
+    value-accepted r =
+        let k = value-rows (idOf (f .owner)) (h .base) (f .records) n in
+        let l = split-short (h .base) (f .records) n in
+        ap (λ (a : After). a .answer)
+        (sym (value-proper h es cs n t (idOf (f .owner)) refl p)
+        ∙ ap (visiting (visitedFor f n))
+        (placing-room (valueRemoval f n) t (has-room (room-less (length (rowsOfRemoval (valueRemoval f n))) (omega (arith, k, l)) r))))
 
-  rises : ascending (h .base) (epochsOf (flagsOf h es cs .records)) ≡ true
-  rises = proper-ascends (proper-inv h es cs flags-proper)
+-- NO BYTES GIVE NO REMOVAL, AND NEED NO ROOM
+module _ (h : Head) (es cs : List ℕ) (t : Tables) (p : proper h es cs ≡ true) where
+  pub no-key-bytes : splitKey h es cs 0 t ≡ done None t
+  no-key-bytes = sym (placing-nothing t ∙ key-proper h es cs 0 t (idOf (flagsOf h es cs .owner)) refl p)
 
-  -- the states, and the rows beside them, stand for the removals of the split
-  pub key-stands : removalOf (t .key) (left .key-rows) ≡ s .key
-  key-stands =
-      let l = accepted-left h es cs keyBytes valueBytes kt vt t e .1 in
-      (λ z. removalOf (l .answer z .key) (l .key z)) ∙ removal-over (s .key) kt
-
-  pub value-stands : removalOf (t .value) (left .value-rows) ≡ s .value
-  value-stands =
-      let l = accepted-left h es cs keyBytes valueBytes kt vt t e .1 in
-      (λ z. removalOf (l .answer z .value) (l .value z)) ∙ removal-over (s .value) vt
-
-  pub accepted : Accepted (h .base) keyBytes valueBytes t left
-  accepted =
-      let l = accepted-left h es cs keyBytes valueBytes kt vt t e .1 in
-      let i = idOf (ownerOf h) in
-      let rs = flagsOf h es cs .records in
-      record {
-        key-proper = (λ z. properRemoval (l .answer z .key) (l .key z)) ∙ proper-over (s .key) kt (key-ascends i (h .base) rs keyBytes valueBytes);
-        value-proper = (λ z. properRemoval (l .answer z .value) (l .value z)) ∙ proper-over (s .value) vt (value-ascends i (h .base) rs keyBytes valueBytes rises);
-        key-comes-to = ap total key-stands ∙ key-sum i (h .base) rs keyBytes valueBytes;
-        value-comes-to = ap total value-stands ∙ value-sum i (h .base) rs keyBytes valueBytes;
-        visited-are = ap (λ (u : Told). u .visited) (l .answer) ∙ visited-beside i (h .base) rs keyBytes valueBytes rises
-            ∙ ap (λ (r : Removal). length (besideBase (h .base) (partsOf (rowsOfRemoval r)))) (sym value-stands);
-      }
+  pub no-value-bytes : splitValue h es cs 0 t ≡ visiting 0 (done None t)
+  no-value-bytes =
+      sym (value-proper h es cs 0 t (idOf (flagsOf h es cs .owner)) refl p)
+      ∙ ap (λ (ss : List At). visiting (length ss) (placing nothing t)) (sections-none (flagsOf h es cs .records)) ∙ ap (visiting 0) (sym (placing-nothing t))

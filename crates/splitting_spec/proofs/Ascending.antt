@@ -10,11 +10,12 @@ use lib.ListN.{length}
 use borrow.Author.Tests.{eq-eqb, ne-eqb}
 use Rattle.records_spec.specs.Tables.{At, epochsOf, ascending, rising}
 use Rattle.records_spec.proofs.Rising.{asc-none, asc-head, asc-tail, asc-cons, asc-lower, asc-rises}
-use Rattle.rows_spec.specs.Rows.{partsOf, rowsUnder, ascends}
+use Rattle.rows_spec.specs.Rows.{row, partsOf, rowsUnder, ascends}
 use Rattle.rows_spec.specs.Removals.{rowsOfRemoval}
-use Rattle.rows_spec.proofs.Under.{parts-under, asc-under}
+use Rattle.rows_spec.proofs.Rows.{asc-none as asc-no-rows, asc-cons as asc-row}
+use Rattle.rows_spec.proofs.Under.{under-one, parts-under, asc-under}
 use Rattle.splitting_spec.specs.Sections.{above, asked, section, sections, split, besideBase}
-use Rattle.splitting_spec.specs.Calls.{parted}
+use Rattle.splitting_spec.specs.Calls.{keyPart, valuePart}
 use Rattle.splitting_spec.proofs.Sections.{split-none}
 
 -- a section before sections that ascend from its epoch
@@ -63,13 +64,23 @@ module _ (base : ℕ) (rs : List At) (n : ℕ) (h : ascending base (epochsOf rs)
   unfolding split
   split-beside = beside-section base (asked n rs) (asked n rs) (sections rs n) ∙ beside-all base base (sections rs n) (omega arith) (sections-ascend base rs n h)
 
--- the sections of the value's removal
-pub value-parts : (i : List ℕ) (base : ℕ) (rs : List At) (m n : ℕ) → partsOf (rowsOfRemoval (parted i base rs m n .value)) ≡ split base rs n
-unfolding partsOf
-value-parts i base rs m zero = sym (split-none base rs)
-value-parts i base rs m (suc n) = parts-under i (split base rs (suc n))
+-- ---- the two removals
 
--- so many records were visited as it has sections beside the base
-pub visited-beside : (i : List ℕ) (base : ℕ) (rs : List At) (m n : ℕ) → ascending base (epochsOf rs) ≡ true
-    → parted i base rs m n .visited ≡ length (besideBase base (partsOf (rowsOfRemoval (parted i base rs m n .value))))
-visited-beside i base rs m n h = ap (length {A = At}) (sym (ap (besideBase base) (value-parts i base rs m n) ∙ split-beside base rs n h))
+pub key-ascends : (i : List ℕ) (base n : ℕ) → ascends (rowsOfRemoval (keyPart i base n)) ≡ true
+key-ascends i base zero = asc-no-rows
+key-ascends i base (suc n) = rw (under-one i base (suc n)) (asc-row (row i base (suc n)) [] tt asc-no-rows)
+
+pub value-ascends : (i : List ℕ) (base : ℕ) (rs : List At) (n : ℕ) → ascending base (epochsOf rs) ≡ true → ascends (rowsOfRemoval (valuePart i base rs n)) ≡ true
+value-ascends i base rs zero h = asc-no-rows
+value-ascends i base rs (suc n) h = rows-ascend base rs (suc n) h i
+
+-- the sections of the value's
+pub value-parts : (i : List ℕ) (base : ℕ) (rs : List At) (n : ℕ) → partsOf (rowsOfRemoval (valuePart i base rs n)) ≡ split base rs n
+unfolding partsOf
+value-parts i base rs zero = sym (split-none base rs)
+value-parts i base rs (suc n) = parts-under i (split base rs (suc n))
+
+-- so many records are visited as it has sections beside the base
+pub visited-beside : (i : List ℕ) (base : ℕ) (rs : List At) (n : ℕ) → ascending base (epochsOf rs) ≡ true
+    → length (sections rs n) ≡ length (besideBase base (partsOf (rowsOfRemoval (valuePart i base rs n))))
+visited-beside i base rs n h = ap (length {A = At}) (sym (ap (besideBase base) (value-parts i base rs n) ∙ split-beside base rs n h))

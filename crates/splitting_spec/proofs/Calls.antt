@@ -1,23 +1,27 @@
--- The call by its tests, one law for each way out of the code.
+-- The two calls by their tests, one law for each way out of the code.
 -- Assumes nothing.
-use mathlib.Core.Path.{_≡_, sym, ap, subst, _∙_}
+use mathlib.Core.Path.{_≡_, refl, sym, ap, subst, _∙_}
 use mathlib.Core.Bool.{true, false}
-use mathlib.Core.List.{List}
-use Prim.Native.Nat.{ℕ, _+_}
+use mathlib.Core.List.{List, [], _∷_}
+use Prim.Native.Nat.{ℕ, _+_, _<_}
 use lib.ListN.{length}
 use Rattle.records_spec.specs.Tables.{At}
 use Rattle.records_spec.specs.Flags.{idOf, ownerOf, flagsOf, proper}
 use Rattle.records_spec.specs.Answers.{ok}
 use Rattle.records_spec.specs.declared.head.Head.{Head}
-use Rattle.rows_spec.specs.Rows.{Tables, roomIn, Room}
-use Rattle.rows_spec.specs.Removals.{rowsOfRemoval}
+use Rattle.rows_spec.specs.Rows.{row, Tables, roomIn, setRow, Room}
+use Rattle.rows_spec.specs.Removals.{Removal, rowsOfRemoval}
+use Rattle.rows_spec.specs.Outcomes.{kept, placing}
 use Rattle.rows_spec.specs.declared.removed.Removed.{Removed}
+use Rattle.rows_spec.specs.declared.removed.Removed.the-variants.{None, Sectioned}
 use Rattle.rows_spec.proofs.Rows.{room-in}
+use Rattle.rows_spec.proofs.Outcomes.{done, placing-room, placing-none, placing-nothing}
 use Rattle.splitting_spec.specs.Sections.{sections, split}
 use Rattle.splitting_spec.specs.Visits.{visits, rowsAtBase}
-use Rattle.splitting_spec.specs.Calls.{Split, parted, After, PlacedRemoval, kept, placing, splitRemoved}
+use Rattle.splitting_spec.specs.Calls.{keyPart, valuePart, PlacedRemoval, After, kept as keptValue, visiting, splitKey, splitValue}
 use Rattle.splitting_spec.specs.declared.giving.Visited.{Visited}
-use Rattle.splitting_spec.proofs.Counting.{split-long, key-rows, value-rows}
+use Rattle.splitting_spec.proofs.Counting.{base-some, split-long, key-rows, value-rows}
+use Rattle.splitting_spec.proofs.Placing.{removal-none, single-placed}
 
 -- ---- room
 
@@ -30,41 +34,59 @@ rows-told base rs n b v e h =
 pub fits : (k n : ℕ) (t : Tables) → k ≡ n → roomIn k t ≡ true → Room n t
 fits k n t e h = subst (λ (m : ℕ). Room m t) e (room-in k t h)
 
-module _ (i : List ℕ) (base : ℕ) (rs : List At) (keyBytes valueBytes : ℕ) (kt vt : Tables) where
-  abbrev both : Split
-  both = parted i base rs keyBytes valueBytes
+-- a removal that makes so many rows, by whether they have room
+module _ (r : Removal) (k : ℕ) (t : Tables) (e : k ≡ length (rowsOfRemoval r)) where
+  pub was-placed : {x : Removed} {t′ : Tables} → roomIn k t ≡ true → PlacedRemoval r x t t′ → done x t′ ≡ placing r t
+  was-placed h p = (λ z. done (p .state z) (p .rows z)) ∙ sym (placing-room r t (ap (λ (m : ℕ). roomIn m t) (sym e) ∙ h))
 
-  module _ (k m : ℕ) (ek : k ≡ rowsAtBase keyBytes) (em : m ≡ length (split base rs valueBytes)) where
-    key-room : roomIn (length (rowsOfRemoval (both .key))) kt ≡ roomIn k kt
-    key-room = ap (λ (n : ℕ). roomIn n kt) (key-rows i base keyBytes ∙ sym ek)
+  pub was-short : roomIn k t ≡ false → kept 10 t ≡ placing r t
+  was-short h = sym (placing-none r t (ap (λ (m : ℕ). roomIn m t) (sym e) ∙ h))
 
-    value-room : roomIn (length (rowsOfRemoval (both .value))) vt ≡ roomIn m vt
-    value-room = ap (λ (n : ℕ). roomIn n vt) (value-rows i base rs valueBytes ∙ sym em)
+-- ---- the key's bytes
 
-    pub key-short : roomIn k kt ≡ false → kept 10 kt vt ≡ placing both kt vt
-    unfolding placing
-    key-short h = rw (key-room ∙ h)
+module _ (i : List ℕ) (base n : ℕ) (t : Tables) where
+  pub key-none : n ≡ 0 → done None t ≡ placing (keyPart i base n) t
+  key-none h = placing-nothing t ∙ ap (λ (r : Removal). placing r t) (sym (removal-none i n _ h))
 
-    pub value-short : roomIn k kt ≡ true → roomIn m vt ≡ false → kept 10 kt vt ≡ placing both kt vt
-    unfolding placing
-    value-short h g = rw (key-room ∙ h, value-room ∙ g)
+  module _ (h : 0 < n) where
+    one-row : 1 ≡ length (rowsOfRemoval (keyPart i base n))
+    one-row = sym (key-rows i base n ∙ base-some n h)
 
-    pub both-placed : {x y : Removed} {kt′ vt′ : Tables} (v : ℕ) → roomIn k kt ≡ true → roomIn m vt ≡ true → PlacedRemoval (both .key) x kt kt′
-        → PlacedRemoval (both .value) y vt vt′ → v ≡ length (sections rs valueBytes)
-        → _≡_ {A = After} (record { answer = ok (record { key = x; value = y; visited = v }); key-rows = kt′; value-rows = vt′ }) (placing both kt vt)
-    unfolding placing
-    both-placed v h g p q e =
-        rw (key-room ∙ h, value-room ∙ g)
-        (λ z. record { answer = ok (record { key = p .state z; value = q .state z; visited = e z }); key-rows = p .rows z; value-rows = q .rows z })
+    pub key-put : {t′ : Tables} → roomIn 1 t ≡ true → t′ ≡ setRow t 0 (row i base n) → done (Sectioned 1) t′ ≡ placing (keyPart i base n) t
+    key-put r s = was-placed (keyPart i base n) 1 t one-row r (single-placed i base n t h (room-in 1 t r) s)
 
--- ---- the call
+    pub key-short : roomIn 1 t ≡ false → kept 10 t ≡ placing (keyPart i base n) t
+    key-short = was-short (keyPart i base n) 1 t one-row
 
-module _ (h : Head) (es cs : List ℕ) (keyBytes valueBytes : ℕ) (kt vt : Tables) where
-  pub split-bad : proper h es cs ≡ false → kept 11 kt vt ≡ splitRemoved h es cs keyBytes valueBytes kt vt
-  unfolding splitRemoved
-  split-bad p = rw p
+module _ (h : Head) (es cs : List ℕ) (n : ℕ) (t : Tables) where
+  pub key-bad : proper h es cs ≡ false → kept 11 t ≡ splitKey h es cs n t
+  unfolding splitKey
+  key-bad p = rw p
 
-  pub split-proper : (i : List ℕ) → i ≡ idOf (ownerOf h) → proper h es cs ≡ true
-      → placing (parted i (h .base) (flagsOf h es cs .records) keyBytes valueBytes) kt vt ≡ splitRemoved h es cs keyBytes valueBytes kt vt
-  unfolding splitRemoved
-  split-proper i e p = rw p (ap (λ (j : List ℕ). placing (parted j (h .base) (flagsOf h es cs .records) keyBytes valueBytes) kt vt) e)
+  pub key-proper : (i : List ℕ) → i ≡ idOf (ownerOf h) → proper h es cs ≡ true → placing (keyPart i (h .base) n) t ≡ splitKey h es cs n t
+  unfolding splitKey
+  key-proper i e p = rw p (ap (λ (j : List ℕ). placing (keyPart j (h .base) n) t) e)
+
+-- ---- the value's bytes
+
+module _ (i : List ℕ) (base : ℕ) (rs : List At) (n k v : ℕ) (t : Tables) (e : k ≡ length (split base rs n)) (w : v ≡ length (sections rs n)) where
+  so-long : k ≡ length (rowsOfRemoval (valuePart i base rs n))
+  so-long = e ∙ sym (value-rows i base rs n)
+
+  pub value-placed : {x : Removed} {t′ : Tables} → roomIn k t ≡ true → PlacedRemoval (valuePart i base rs n) x t t′
+      → visiting v (done x t′) ≡ visiting (length (sections rs n)) (placing (valuePart i base rs n) t)
+  value-placed h p = λ z. visiting (w z) (was-placed (valuePart i base rs n) k t so-long h p z)
+
+  pub value-short : roomIn k t ≡ false → keptValue 10 t ≡ visiting (length (sections rs n)) (placing (valuePart i base rs n) t)
+  value-short h = ap (visiting (length (sections rs n))) (was-short (valuePart i base rs n) k t so-long h)
+
+module _ (h : Head) (es cs : List ℕ) (n : ℕ) (t : Tables) where
+  pub value-bad : proper h es cs ≡ false → keptValue 11 t ≡ splitValue h es cs n t
+  unfolding splitValue
+  value-bad p = rw p
+
+  pub value-proper : (i : List ℕ) → i ≡ idOf (ownerOf h) → proper h es cs ≡ true
+      → visiting (length (sections (flagsOf h es cs .records) n)) (placing (valuePart i (h .base) (flagsOf h es cs .records) n) t) ≡ splitValue h es cs n t
+  unfolding splitValue
+  value-proper i e p =
+      rw p (ap (λ (j : List ℕ). visiting (length (sections (flagsOf h es cs .records) n)) (placing (valuePart j (h .base) (flagsOf h es cs .records) n) t)) e)

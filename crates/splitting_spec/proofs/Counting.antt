@@ -10,7 +10,7 @@ use Rattle.rows_spec.specs.Removals.{rowsOfRemoval}
 use Rattle.rows_spec.proofs.Under.{length-under}
 use Rattle.splitting_spec.specs.Sections.{above, asked, section, sections, split}
 use Rattle.splitting_spec.specs.Visits.{rowsAtBase}
-use Rattle.splitting_spec.specs.Calls.{removalOf}
+use Rattle.splitting_spec.specs.Calls.{keyPart, valuePart}
 use Rattle.splitting_spec.proofs.Sections.{split-none}
 
 -- ---- one section
@@ -50,10 +50,10 @@ split-short base rs n = omega (arith, split-long base rs n, sections-short rs n,
 
 -- ---- the rows of the two removals
 
-pub key-rows : (i : List ℕ) (base n : ℕ) → length (rowsOfRemoval (removalOf i n (base ⦂ n ∷ []))) ≡ rowsAtBase n
+pub key-rows : (i : List ℕ) (base n : ℕ) → length (rowsOfRemoval (keyPart i base n)) ≡ rowsAtBase n
 key-rows i base zero = refl
 key-rows i base (suc n) = length-under i (base ⦂ suc n ∷ [])
 
-pub value-rows : (i : List ℕ) (base : ℕ) (rs : List At) (n : ℕ) → length (rowsOfRemoval (removalOf i n (split base rs n))) ≡ length (split base rs n)
+pub value-rows : (i : List ℕ) (base : ℕ) (rs : List At) (n : ℕ) → length (rowsOfRemoval (valuePart i base rs n)) ≡ length (split base rs n)
 value-rows i base rs zero = sym (ap (length {A = At}) (split-none base rs))
 value-rows i base rs (suc n) = length-under i (split base rs (suc n))

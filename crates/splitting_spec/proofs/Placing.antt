@@ -15,26 +15,26 @@ use Rattle.rows_spec.proofs.Backing.{Backing, backing-start, backing-room, back
 use Rattle.rows_spec.proofs.Under.{under-none, under-one, under-last, length-under}
 use Rattle.splitting_spec.specs.Sections.{minimum, split}
 use Rattle.splitting_spec.specs.Visits.{rowsAtBase}
-use Rattle.splitting_spec.specs.Calls.{removalOf, PlacedRemoval}
+use Rattle.splitting_spec.specs.Calls.{removalUnder, keyPart, valuePart, PlacedRemoval}
 use Rattle.splitting_spec.proofs.Counting.{base-some}
 use Rattle.splitting_spec.proofs.Sections.{section-one, split-none, split-base, split-next, first-all}
 
 -- ---- removals
 
-pub removal-none : (i : List ℕ) (n : ℕ) (ss : List At) → n ≡ 0 → removalOf i n ss ≡ nothing
-removal-none i n ss h = ap (λ (m : ℕ). removalOf i m ss) h
+pub removal-none : (i : List ℕ) (n : ℕ) (ss : List At) → n ≡ 0 → removalUnder i n ss ≡ nothing
+removal-none i n ss h = ap (λ (m : ℕ). removalUnder i m ss) h
 
-pub removal-some : (i : List ℕ) (n : ℕ) (ss : List At) → 0 < n → removalOf i n ss ≡ sectioned (rowsUnder i ss)
+pub removal-some : (i : List ℕ) (n : ℕ) (ss : List At) → 0 < n → removalUnder i n ss ≡ sectioned (rowsUnder i ss)
 removal-some i zero ss h = absurd (omega arith)
 removal-some i (suc n) ss h = refl
 
 module _ (i : List ℕ) (n : ℕ) (ss : List At) (t : Tables) where
-  pub nothing-placed : n ≡ 0 → PlacedRemoval (removalOf i n ss) None t t
+  pub nothing-placed : n ≡ 0 → PlacedRemoval (removalUnder i n ss) None t t
   nothing-placed h =
       let e = removal-none i n ss h in
       record { state = sym (ap stateOf e); rows = sym (over-nothing t) ∙ ap (λ (r : Removal). overRows (rowsOfRemoval r) t) (sym e) }
 
-  pub rows-placed : {t′ : Tables} → 0 < n → (k : ℕ) → k ≡ length ss → t′ ≡ overRows (rowsUnder i ss) t → PlacedRemoval (removalOf i n ss) (Sectioned k) t t′
+  pub rows-placed : {t′ : Tables} → 0 < n → (k : ℕ) → k ≡ length ss → t′ ≡ overRows (rowsUnder i ss) t → PlacedRemoval (removalUnder i n ss) (Sectioned k) t t′
   rows-placed h k l p =
       let e = removal-some i n ss h in
       record {
@@ -49,7 +49,7 @@ pub base-row : (n : ℕ) {t : Tables} → Room (rowsAtBase n) t → 0 < n → Ro
 base-row n {t} r h = subst (λ (m : ℕ). Room m t) (base-some n h) r
 
 pub single-placed : (i : List ℕ) (base n : ℕ) (t : Tables) {t′ : Tables} → 0 < n → Room 1 t → t′ ≡ setRow t 0 (row i base n)
-    → PlacedRemoval (removalOf i n (base ⦂ n ∷ [])) (Sectioned 1) t t′
+    → PlacedRemoval (keyPart i base n) (Sectioned 1) t t′
 single-placed i base n t h r s =
     let b = backing-step (backing-start (row i base n ∷ []) t r) [] (row i base n) refl s in
     rows-placed i n (base ⦂ n ∷ []) t h 1 refl (backing-done b refl ∙ ap (λ (l : List Row). overRows l t) (sym (under-one i base n)))
@@ -96,7 +96,7 @@ module _ {i : List ℕ} {base : ℕ} {es cs : List ℕ} {n left j k : ℕ} {t t�
 
   -- nothing is left
   pub placing-none : 0 < n → (rows : ℕ) → rows ≡ length (split base (recordsOf es cs) n) → left ≡ 0
-      → PlacedRemoval (removalOf i n (split base (recordsOf es cs) n)) (Sectioned rows) t t′
+      → PlacedRemoval (valuePart i base (recordsOf es cs) n) (Sectioned rows) t t′
   placing-none h rows l z =
       let e = ap (λ (m : ℕ). rowsUnder i (split base (take j (recordsOf es cs)) m)) z ∙ ap (rowsUnder i) (split-none base (take j (recordsOf es cs))) ∙ under-none i in
       rows-placed i n (split base (recordsOf es cs) n) t h rows l (backing-done (p .backing) e)
@@ -116,7 +116,7 @@ module _ {i : List ℕ} {base : ℕ} {es cs : List ℕ} {n left j k : ℕ} {t t�
     base-room = let o = one in subst (λ (m : ℕ). Room m t′) (omega arith) (backing-room (p .backing) [] (row i base left) alone .1)
 
     pub base-placed : {u : Tables} → 0 < n → (rows : ℕ) → rows ≡ length (split base (recordsOf es cs) n) → u ≡ setRow t′ 0 (row i base left)
-        → PlacedRemoval (removalOf i n (split base (recordsOf es cs) n)) (Sectioned rows) t u
+        → PlacedRemoval (valuePart i base (recordsOf es cs) n) (Sectioned rows) t u
     base-placed {u} h rows l s =
         let o = one in
         let q : 0 ≡ k - 1 = omega arith in

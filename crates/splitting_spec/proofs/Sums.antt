@@ -12,7 +12,7 @@ use Rattle.rows_spec.specs.Rows.{rowsUnder}
 use Rattle.rows_spec.specs.Removals.{totalRows, total}
 use Rattle.rows_spec.proofs.Under.{total-none, total-one, total-append}
 use Rattle.splitting_spec.specs.Sections.{above, spare, asked, section, sections, split}
-use Rattle.splitting_spec.specs.Calls.{parted}
+use Rattle.splitting_spec.specs.Calls.{keyPart, valuePart}
 
 module _ (i : List ℕ) where
   section-sum : (e n most : ℕ) → totalRows (rowsUnder i (section e n most)) ≡ min n most
@@ -42,10 +42,10 @@ module _ (i : List ℕ) where
       by (no p) = le-ltb 0 (asked n rs) (omega arith) ∙ sym (le-ltb (totalRows (rowsUnder i (sections rs n))) n (omega (arith, sections-sum rs n)))
 
   -- both removals come to what was removed
-  pub key-sum : (base : ℕ) (rs : List At) (n m : ℕ) → total (parted i base rs n m .key) ≡ n
-  key-sum base rs zero m = refl
-  key-sum base rs (suc n) m = total-one i base (suc n)
+  pub key-sum : (base n : ℕ) → total (keyPart i base n) ≡ n
+  key-sum base zero = refl
+  key-sum base (suc n) = total-one i base (suc n)
 
-  pub value-sum : (base : ℕ) (rs : List At) (n m : ℕ) → total (parted i base rs n m .value) ≡ m
-  value-sum base rs n zero = refl
-  value-sum base rs n (suc m) = split-sum base rs (suc m)
+  pub value-sum : (base : ℕ) (rs : List At) (n : ℕ) → total (valuePart i base rs n) ≡ n
+  value-sum base rs zero = refl
+  value-sum base rs (suc n) = split-sum base rs (suc n)

@@ -4,5 +4,5 @@ mod giving;
 mod split;
 
 pub use giving::Visited;
-pub use split::Split;
 pub use split::Splitting;
+pub use split::ValueSplit;

@@ -1,16 +1,15 @@
-// What a split answers.
+// What a value split answers.
 use records_spec::Refusal;
 use rows_spec::StorageRemovedBytes;
 
-// The removals of the key's and the value's bytes, and how many records were visited for the value's.
-pub struct Split {
-    pub key: StorageRemovedBytes,
-    pub value: StorageRemovedBytes,
+// The removal of the value's bytes, and how many records were visited.
+pub struct ValueSplit {
+    pub removal: StorageRemovedBytes,
     pub visited: usize,
 }
 
-// A split, or a refusal.
+// A value split, or a refusal.
 pub enum Splitting {
-    Done(Split),
+    Done(ValueSplit),
     Refused(Refusal),
 }

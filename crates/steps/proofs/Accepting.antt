@@ -10,7 +10,7 @@ use lib.ListN.{length, take}
 use borrow.Author.Tests.{le-leb, eqb-true}
 use Rattle.fields_spec.specs.Varint.{largest}
 use Rattle.records_spec.specs.Tables.{At, _⦂_, recordsOf, held, put, union}
-use Rattle.records_spec.specs.Flags.{Flags, flags, multi, idOf, ownerOf, agrees}
+use Rattle.records_spec.specs.Flags.{Flags, flags, multi, idOf, agrees}
 use Rattle.records_spec.specs.Answers.{Answer, ok, After, placed, placing}
 use Rattle.records_spec.proofs.Unions.{union-none}
 use Rattle.records_spec.proofs.Answers.{after-placed}
@@ -19,15 +19,12 @@ use Rattle.flags_spec.specs.declared.owners.MergingOwnersStrategy.{MergingOwner
 use Rattle.flags_spec.specs.Merging.{added, raised, joined}
 use Rattle.flags_spec.proofs.Choosing.{owner-stays}
 use Rattle.flags_spec.proofs.Merging.{added-owned, raised-higher, combined-proper}
-use Rattle.rows_spec.specs.Rows.{Row, Tables, Room, rowsUnder}
-use Rattle.rows_spec.specs.Removals.{rowsOfRemoval, stateOf}
-use Rattle.rows_spec.proofs.Rows.{has-room, room-less}
+use Rattle.rows_spec.specs.Rows.{Row, Room, rowsUnder}
+use Rattle.rows_spec.specs.Removals.{rowsOfRemoval}
 use Rattle.splitting_spec.specs.Sections.{split}
-use Rattle.splitting_spec.specs.Calls.{Split, removalOf as removalOfSplit, Told, placing as placingSplit, splitRemoved}
+use Rattle.splitting_spec.specs.Calls.{valuePart, Told, splitValue}
 use Rattle.splitting_spec.proofs.Sections.{split-none}
-use Rattle.splitting_spec.proofs.Counting.{value-rows, split-short}
-use Rattle.splitting_spec.proofs.Calls.{split-proper}
-use Rattle.splitting_spec.proofs.Accepted.{splitFor, value-stands}
+use Rattle.splitting_spec.proofs.Accepted.{value-stands, valueTold, value-accepted}
 use Rattle.removal_spec.proofs.OwnSplit.{rest, Incoming, split-merged}
 use Rattle.steps.specs.Held.{Held, properHeld, flagsIn}
 use Rattle.steps.specs.History.{Edit, add, remove, State, state, leftBy, splitMerged, step}
@@ -45,37 +42,10 @@ bare t p k =
     let a : agrees (t .head .kind) (t .head .records) ≡ true = proper-inv (t .head) (t .epochs) (t .counts) p .agrees-kind in
     no-records (t .head .records) (t .epochs) (t .counts) (eqb-true (t .head .records) 0 (rw k at a))
 
--- ---- the split
-
--- with no key bytes the value's rows alone need room
-module _ (h : Held) (n : ℕ) (kt vt : Tables) where
-  abbrev s : Split
-  s = splitFor (h .head) (h .epochs) (h .counts) 0 n
-
-  abbrev rs : List At
-  rs = flagsIn h .records
-
-  -- both states, and the records visited
-  abbrev pub toldBy : Told
-  toldBy = record { key = stateOf (s .key); value = stateOf (s .value); visited = s .visited }
-
-  split-placed : Room 0 kt → Room (length (rowsOfRemoval (s .value))) vt → placingSplit s kt vt .answer ≡ ok toldBy
-  unfolding placingSplit
-  split-placed k v = simp (has-room k, has-room v)
-
-  -- whatever the amount is
-  pub split-accepted : properHeld h ≡ true → Room (length rs + 1) vt
-      → splitRemoved (h .head) (h .epochs) (h .counts) 0 n kt vt .answer ≡ ok toldBy
-  split-accepted p r =
-      let l = value-rows (idOf (ownerOf (h .head))) (h .head .base) rs n in
-      let v = room-less (length (rowsOfRemoval (s .value))) (omega (arith, l, split-short (h .head .base) rs n)) r in
-      ap (λ a. a .answer) (sym (split-proper (h .head) (h .epochs) (h .counts) 0 n kt vt (idOf (ownerOf (h .head))) refl p))
-      ∙ split-placed (record { ids-long = omega arith; epochs-long = omega arith; bytes-long = omega arith }) v
-
 -- ---- a removal
 
 -- the rows of the split's own removal
-own-rows : (i : List ℕ) (base : ℕ) (rs : List At) (n : ℕ) → rowsOfRemoval (removalOfSplit i n (split base rs n)) ≡ rowsUnder i (split base rs n)
+own-rows : (i : List ℕ) (base : ℕ) (rs : List At) (n : ℕ) → rowsOfRemoval (valuePart i base rs n) ≡ rowsUnder i (split base rs n)
 unfolding rowsUnder
 own-rows i base rs zero = sym (ap (rowsUnder i) (split-none base rs))
 own-rows i base rs (suc n) = refl
@@ -88,27 +58,26 @@ afterRemoval f rows x =
 module _ (h : Held) (rows : List Row) (x : Edit) (s : properHeld h ≡ true) (t : properHeld (x .incoming) ≡ true) where
   -- the merge of what the split left
   own-step : Incoming (flagsIn h) (flagsIn (x .incoming)) → h .head .records ≤ length (x .epochs) → h .head .records ≤ length (x .counts)
-      → Room (length (flagsIn h .records) + 1) (x .value-rows) → step (state h rows) (remove x) ≡ ok (afterRemoval (flagsIn h) rows x)
+      → Room (length (flagsIn h .records) + 1) (x .rows) → step (state h rows) (remove x) ≡ ok (afterRemoval (flagsIn h) rows x)
   unfolding step
   own-step w he hc r =
       let n = x .amount in
-      let kt = x .key-rows in
-      let vt = x .value-rows in
-      let a = split-accepted h n kt vt s r in
-      let m = split-merged (h .head) (h .epochs) (h .counts) 0 n kt vt (toldBy h n kt vt) (x .incoming .head) (x .incoming .epochs) (x .incoming .counts) (x .strategy) (x .epochs) (x .counts) a t w he hc in
-      let v = value-stands (h .head) (h .epochs) (h .counts) 0 n kt vt (toldBy h n kt vt) a in
       let f = flagsIn h in
-      ap (λ (y : Answer Told). splitMerged (state h rows) x y (splitRemoved (h .head) (h .epochs) (h .counts) 0 n kt vt .value-rows)) a
+      let u = valueTold (h .head) (h .epochs) (h .counts) n (x .rows) in
+      let a = value-accepted (h .head) (h .epochs) (h .counts) n (x .rows) s r in
+      let m = split-merged (h .head) (h .epochs) (h .counts) n (x .rows) u (x .incoming .head) (x .incoming .epochs) (x .incoming .counts) (x .strategy) (x .epochs) (x .counts) a t w he hc in
+      let v = value-stands (h .head) (h .epochs) (h .counts) n (x .rows) u a in
+      ap (λ (y : Answer Told). splitMerged (state h rows) x y (splitValue (h .head) (h .epochs) (h .counts) n (x .rows) .rows)) a
       ∙ (λ i. leftBy (m i) (rows ++ rowsOfRemoval (v i)))
       ∙ ap (λ (l : List Row). ok (state (heldIn (placed (rest f n) (x .epochs) (x .counts))) (rows ++ l))) (own-rows (idOf (f .owner)) (f .base) (f .records) n)
 
 -- A REMOVAL IS ACCEPTED, AND LEAVES WHAT ITS SPLIT LEAVES
 pub removal-step : (h : Held) (f : Flags) (rows : List Row) (x : Edit) → Stands h f → properHeld (x .incoming) ≡ true → Incoming f (flagsIn (x .incoming))
-    → length (f .records) ≤ length (x .epochs) → length (f .records) ≤ length (x .counts) → Room (length (f .records) + 1) (x .value-rows)
+    → length (f .records) ≤ length (x .epochs) → length (f .records) ≤ length (x .counts) → Room (length (f .records) + 1) (x .rows)
     → step (state h rows) (remove x) ≡ ok (afterRemoval f rows x)
 removal-step h f rows x s t w he hc r =
     let l = stands-long s in
-    subst (λ (g : Flags). Incoming g (flagsIn (x .incoming)) → Room (length (g .records) + 1) (x .value-rows) → step (state h rows) (remove x) ≡ ok (afterRemoval g rows x)) (s .are)
+    subst (λ (g : Flags). Incoming g (flagsIn (x .incoming)) → Room (length (g .records) + 1) (x .rows) → step (state h rows) (remove x) ≡ ok (afterRemoval g rows x)) (s .are)
     (λ w r. own-step h rows x (s .are-proper) t w (omega arith) (omega arith) r) w r
 
 -- ---- an addition

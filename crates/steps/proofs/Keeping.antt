@@ -1,6 +1,6 @@
 -- A REFUSAL RETURNS ITS NUMBER ONLY AND CHANGES NOTHING THAT WAS LENT, of each public call. By the tests of its definition.
 -- Assumes nothing.
-use mathlib.Core.Path.{_≡_, refl}
+use mathlib.Core.Path.{_≡_, refl, sym, ap, _∙_}
 use mathlib.Core.Bool.{Bool, true, false, cond, _&&_}
 use mathlib.Core.Option.{Option, none, some}
 use mathlib.Core.List.{List}
@@ -16,14 +16,15 @@ use Rattle.flags_spec.specs.Merging.{added}
 use Rattle.flags_spec.specs.Calls.{handedOn, combinedAdded}
 use Rattle.rows_spec.specs.Rows.{Tables, roomIn}
 use Rattle.rows_spec.specs.Removals.{Removal, removalOf, rowsOfRemoval, proper as properRemoval}
+use Rattle.rows_spec.specs.Outcomes.{After as AfterRemoval, kept as keptRemoval, placing as placingRows, whereProper}
 use Rattle.rows_spec.specs.declared.removed.Removed.{Removed}
 use Rattle.sums_spec.specs.Sums.{sum}
-use Rattle.sums_spec.specs.Calls.{After as AfterSum, kept as keptSum, placing as placingSum, summed}
-use Rattle.splitting_spec.specs.Calls.{Split, After as AfterSplit, kept as keptSplit, placing as placingSplit, splitOf, splitRemoved}
+use Rattle.sums_spec.specs.Calls.{summed}
+use Rattle.splitting_spec.specs.Calls.{keyRemoval, valueRemoval, visitedFor, After as AfterSplit, kept as keptSplit, toldWith, visiting, splitKey, splitValue}
 use Rattle.removal_spec.specs.Removing.{removed}
 use Rattle.removal_spec.specs.Calls.{combinedRemoved}
 use Rattle.steps.specs.Held.{Held, properHeld, flagsIn, addedInto, removedInto}
-use Rattle.steps.specs.Calls.{Keeps, Merge, numberIn, PublicCall, deserialize, deserialize-single-epoch, deserialize-multi-epoch, deserialize-single-epoch-owned, deserialize-multi-epoch-owned, judge, judge-as, serialize, serialized-size, approximate-size, list, new-single-epoch, set-owner-id, base-epoch, owner-id, type-byte, choose-owner, combine-owners, combine-owner-id, choose-owner-id, combine-added-bytes, optional-combine-added-bytes, combine-removed-bytes, optional-combine-removed-bytes, has-removal, total-removed-bytes, add-assign, split-storage-removed-bytes, contract}
+use Rattle.steps.specs.Calls.{Keeps, Merge, numberIn, PublicCall, deserialize, deserialize-single-epoch, deserialize-multi-epoch, deserialize-single-epoch-owned, deserialize-multi-epoch-owned, judge, judge-as, serialize, serialized-size, approximate-size, list, new-single-epoch, set-owner-id, base-epoch, owner-id, type-byte, choose-owner, combine-owners, combine-owner-id, choose-owner-id, combine-added-bytes, optional-combine-added-bytes, combine-removed-bytes, optional-combine-removed-bytes, has-removal, total-removed-bytes, add-assign, split-key-removed-bytes, split-value-removed-bytes, contract}
 
 -- ---- one law: what is shown is an answer, or the refusal with its number
 
@@ -37,9 +38,9 @@ module _ {S : Type 0} (number : S → ℕ) (refusal : ℕ → S) where
   tested true s t p q = p
   tested false s t p q = q
 
-value-kept : {A : Type 0} (x : Answer A) → Kept numberIn refused x
-value-kept (ok a) h = absurd (h refl)
-value-kept (refused n) h = refl
+answer-kept : {A : Type 0} (x : Answer A) → Kept numberIn refused x
+answer-kept (ok a) h = absurd (h refl)
+answer-kept (refused n) h = refl
 
 -- ---- flags
 
@@ -112,41 +113,45 @@ module _ (out : List ℕ) where
 
 -- ---- rows
 
+-- what is told beside an answer does not change its number
+same-number : (v : ℕ) (x : Answer Removed) → numberIn (toldWith v x) ≡ numberIn x
+same-number v (ok x) = refl
+same-number v (refused n) = refl
+
 module _ (t : Tables) where
-  abbrev RowsKept : AfterSum → Type 0
-  RowsKept = Kept (λ (a : AfterSum). numberIn (a .answer)) (λ n. keptSum n t)
+  abbrev RowsKept : AfterRemoval → Type 0
+  RowsKept = Kept (λ (a : AfterRemoval). numberIn (a .answer)) (λ n. keptRemoval n t)
 
-  rows-either : (b : Bool) (s t : AfterSum) → RowsKept s → RowsKept t → RowsKept (cond b s t)
-  rows-either = tested (λ (a : AfterSum). numberIn (a .answer)) (λ n. keptSum n t)
+  rows-either : (b : Bool) (s t : AfterRemoval) → RowsKept s → RowsKept t → RowsKept (cond b s t)
+  rows-either = tested (λ (a : AfterRemoval). numberIn (a .answer)) (λ n. keptRemoval n t)
 
-  sum-placed : (r : Removal) → RowsKept (placingSum r t)
-  unfolding placingSum
-  sum-placed r =
+  rows-placed : (r : Removal) → RowsKept (placingRows r t)
+  unfolding placingRows
+  rows-placed r =
       rows-either (roomIn (length (rowsOfRemoval r)) t) _ _ (λ h. absurd (h refl)) (λ h. refl)
+
+  proper-kept : (b : Bool) (r : Removal) → RowsKept (whereProper b r t)
+  proper-kept b r = rows-either b _ _ (rows-placed r) (λ h. refl)
 
   summed-kept : (version : ℕ) (x y : Removed) (u : Tables) → RowsKept (summed version x t y u)
   unfolding summed
-  summed-kept version x y u =
-      rows-either (properRemoval x t && properRemoval y u) _ _
-      (sum-placed (sum version (removalOf x t) (removalOf y u))) (λ h. refl)
+  summed-kept version x y u = proper-kept (properRemoval x t && properRemoval y u) (sum version (removalOf x t) (removalOf y u))
 
-module _ (kt vt : Tables) where
+  key-kept : (f : Held) (n : ℕ) → RowsKept (splitKey (f .head) (f .epochs) (f .counts) n t)
+  unfolding splitKey
+  key-kept f n = proper-kept (properHeld f) (keyRemoval (flagsIn f) n)
+
   abbrev SplitKept : AfterSplit → Type 0
-  SplitKept = Kept (λ (a : AfterSplit). numberIn (a .answer)) (λ n. keptSplit n kt vt)
+  SplitKept = Kept (λ (a : AfterSplit). numberIn (a .answer)) (λ n. keptSplit n t)
 
-  split-either : (b : Bool) (s t : AfterSplit) → SplitKept s → SplitKept t → SplitKept (cond b s t)
-  split-either = tested (λ (a : AfterSplit). numberIn (a .answer)) (λ n. keptSplit n kt vt)
+  -- the number of records visited beside it
+  visiting-kept : (v : ℕ) (a : AfterRemoval) → RowsKept a → SplitKept (visiting v a)
+  visiting-kept v a k h =
+      ap (visiting v) (k (λ e. h (same-number v (a .answer) ∙ e))) ∙ ap (λ (n : ℕ). keptSplit n t) (sym (same-number v (a .answer)))
 
-  split-placed : (s : Split) → SplitKept (placingSplit s kt vt)
-  unfolding placingSplit
-  split-placed s =
-      split-either
-      (roomIn (length (rowsOfRemoval (s .key))) kt && roomIn (length (rowsOfRemoval (s .value))) vt) _ _ (λ h. absurd (h refl)) (λ h. refl)
-
-  split-kept : (f : Head) (es cs : List ℕ) (k v : ℕ) → SplitKept (splitRemoved f es cs k v kt vt)
-  unfolding splitRemoved
-  split-kept f es cs k v =
-      split-either (proper f es cs) _ _ (split-placed (splitOf (flagsOf f es cs) k v)) (λ h. refl)
+  value-kept : (f : Held) (n : ℕ) → SplitKept (splitValue (f .head) (f .epochs) (f .counts) n t)
+  unfolding splitValue
+  value-kept f n = visiting-kept (visitedFor (flagsIn f) n) _ (proper-kept (properHeld f) (valueRemoval (flagsIn f) n))
 
 -- ---- each call
 
@@ -159,7 +164,7 @@ keeps deserialize-multi-epoch-owned i = after-kept _ _ _
 keeps judge i = λ h. refl
 keeps judge-as i = λ h. refl
 keeps serialize i = serialized-kept (i .1) (i .0 .head) (i .0 .epochs) (i .0 .counts)
-keeps serialized-size i = value-kept _
+keeps serialized-size i = answer-kept _
 keeps approximate-size i = λ h. refl
 keeps list i = writing-kept (i .1) _
 keeps new-single-epoch i = λ h. refl
@@ -177,7 +182,8 @@ keeps combine-removed-bytes i = removed-kept (i .0) (i .1 .state) (i .1 .tables)
 keeps optional-combine-removed-bytes i =
     either (i .0) (i .0 .present) _ _ (removed-kept (i .0) (i .1 .state) (i .1 .tables))
     (either (i .0) (properRemoval (i .1 .state) (i .1 .tables)) _ _ (absent-kept (i .0)) (λ h. refl))
-keeps has-removal i = value-kept _
-keeps total-removed-bytes i = value-kept _
+keeps has-removal i = answer-kept _
+keeps total-removed-bytes i = answer-kept _
 keeps add-assign i = summed-kept (i .1 .tables) (i .0) (i .1 .state) (i .2 .state) (i .2 .tables)
-keeps split-storage-removed-bytes i = split-kept (i .1 .1) (i .2 .1) (i .0 .head) (i .0 .epochs) (i .0 .counts) (i .1 .0) (i .2 .0)
+keeps split-key-removed-bytes i = key-kept (i .2) (i .0) (i .1)
+keeps split-value-removed-bytes i = value-kept (i .2) (i .0) (i .1)

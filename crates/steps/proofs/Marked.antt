@@ -12,16 +12,17 @@ use Rattle.flags_spec.specs.Merging.{added}
 use Rattle.flags_spec.specs.Calls.{combinedAdded}
 use Rattle.rows_spec.specs.Order.{order}
 use Rattle.rows_spec.specs.Rows.{ascends, idsOf, partsOf, rowsUnder, rowsOf, properRows}
+use Rattle.rows_spec.specs.Outcomes.{placing}
 use Rattle.sums_spec.specs.Joins.{addRow}
 use Rattle.sums_spec.specs.Sums.{anyOfZeros, withoutZeros, basicPlus}
-use Rattle.sums_spec.specs.Calls.{placing as placingSum, summed}
+use Rattle.sums_spec.specs.Calls.{summed}
 use Rattle.splitting_spec.specs.Sections.{spare, section, sections, split}
-use Rattle.splitting_spec.specs.Calls.{placing as placingSplit, splitRemoved}
+use Rattle.splitting_spec.specs.Calls.{splitValue}
 use Rattle.removal_spec.specs.Removing.{allUnder, fault, minus, removed}
 use Rattle.removal_spec.specs.Calls.{combinedRemoved}
 use Rattle.steps.specs.History.{step}
 use Rattle.steps.specs.Marked.{tell, Example, examples}
 
 pub marked : map (λ (x : Example). tell (x .0)) examples ≡ map (λ (x : Example). x .1) examples
-unfolding examples tell step saidAfter groups varint high value found recordsOf epochsOf countsOf ascending has held put union same proper after next parse readAs read added combinedAdded order ascends idsOf partsOf rowsUnder rowsOf properRows addRow anyOfZeros withoutZeros basicPlus placingSum summed spare section sections split placingSplit splitRemoved allUnder fault minus removed combinedRemoved
+unfolding examples tell step saidAfter groups varint high value found recordsOf epochsOf countsOf ascending has held put union same proper after next parse readAs read added combinedAdded order ascends idsOf partsOf rowsUnder rowsOf properRows addRow anyOfZeros withoutZeros basicPlus placing summed spare section sections split splitValue allUnder fault minus removed combinedRemoved
 marked = refl

@@ -11,8 +11,9 @@ use Rattle.flags_spec.specs.Merging.{added}
 use Rattle.flags_spec.specs.Calls.{combinedAdded}
 use Rattle.rows_spec.specs.Order.{order}
 use Rattle.rows_spec.specs.Rows.{ascends, idsOf, partsOf, rowsUnder, tables, rowsOf, properRows}
+use Rattle.rows_spec.specs.Outcomes.{placing}
 use Rattle.splitting_spec.specs.Sections.{spare, section, sections, split}
-use Rattle.splitting_spec.specs.Calls.{placing, splitRemoved}
+use Rattle.splitting_spec.specs.Calls.{splitValue}
 use Rattle.removal_spec.specs.Removing.{allUnder, fault, minus, removed}
 use Rattle.removal_spec.specs.Calls.{combinedRemoved}
 use Rattle.steps.specs.History.{Edit, Step, add, remove, state, step, run}
@@ -31,8 +32,7 @@ narrow x =
       amount = x .amount;
       epochs = x .epochs;
       counts = x .counts;
-      key-rows = x .key-rows;
-      value-rows = tables (zeros ∷ zeros ∷ []) (0 ∷ 0 ∷ []) (0 ∷ 0 ∷ []);
+      rows = tables (zeros ∷ zeros ∷ []) (0 ∷ 0 ∷ []) (0 ∷ 0 ∷ []);
     }
 
 pub examples : List Example
@@ -50,5 +50,5 @@ examples =
     ∷ []
 
 pub needed : map (λ (x : Example). toldOfStep (run (state (unowned 5 (x .0)) []) (x .1))) examples ≡ map (λ (x : Example). x .2) examples
-unfolding examples run step recordsOf epochsOf countsOf ascending has held put union same proper after added combinedAdded order ascends idsOf partsOf rowsUnder rowsOf properRows spare section sections split placing splitRemoved allUnder fault minus removed combinedRemoved
+unfolding examples run step recordsOf epochsOf countsOf ascending has held put union same proper after added combinedAdded order ascends idsOf partsOf rowsUnder rowsOf properRows spare section sections split placing splitValue allUnder fault minus removed combinedRemoved
 needed = refl

@@ -8,14 +8,13 @@ use Rattle.records_spec.specs.declared.answer.Answered.{Answered}
 use Rattle.records_spec.specs.declared.answer.Counted.{Counted}
 use Rattle.records_spec.proofs.Only.{same-only, counted-only, wrote-only, shown-only}
 use Rattle.rows_spec.specs.Rows.{Tables}
-use Rattle.sums_spec.specs.Calls.{After as AfterSum, shown as shownSum}
-use Rattle.sums_spec.specs.declared.sum.Summed.{Summed}
+use Rattle.rows_spec.specs.Outcomes.{After as AfterRemoval, shown as shownRemoval}
+use Rattle.rows_spec.specs.declared.removed.AnsweredRemoval.{AnsweredRemoval}
 use Rattle.splitting_spec.specs.Calls.{After as AfterSplit, shown as shownSplit}
 use Rattle.splitting_spec.specs.declared.split.Splitting.{Splitting}
-use Rattle.rows_spec.proofs.Only.{told-only, totalled-only}
-use Rattle.sums_spec.proofs.Only as sums
-use Rattle.splitting_spec.proofs.Only as splits
-use Rattle.steps.specs.Calls.{Only, PublicCall, deserialize, deserialize-single-epoch, deserialize-multi-epoch, deserialize-single-epoch-owned, deserialize-multi-epoch-owned, judge, judge-as, serialize, serialized-size, approximate-size, list, new-single-epoch, set-owner-id, base-epoch, owner-id, type-byte, choose-owner, combine-owners, combine-owner-id, choose-owner-id, combine-added-bytes, optional-combine-added-bytes, combine-removed-bytes, optional-combine-removed-bytes, has-removal, total-removed-bytes, add-assign, split-storage-removed-bytes, contract}
+use Rattle.rows_spec.proofs.Only.{told-only, totalled-only, shown-only as removal-only}
+use Rattle.splitting_spec.proofs.Only.{shown-only as split-only}
+use Rattle.steps.specs.Calls.{Only, PublicCall, deserialize, deserialize-single-epoch, deserialize-multi-epoch, deserialize-single-epoch-owned, deserialize-multi-epoch-owned, judge, judge-as, serialize, serialized-size, approximate-size, list, new-single-epoch, set-owner-id, base-epoch, owner-id, type-byte, choose-owner, combine-owners, combine-owner-id, choose-owner-id, combine-added-bytes, optional-combine-added-bytes, combine-removed-bytes, optional-combine-removed-bytes, has-removal, total-removed-bytes, add-assign, split-key-removed-bytes, split-value-removed-bytes, contract}
 
 -- outcomes of which x is shown, form by form
 flagged-only : (x : After) (a b : Answered × List ℕ × List ℕ) → shown (a .0) (a .1) (a .2) ≡ x → shown (b .0) (b .1) (b .2) ≡ x → a ≡ b
@@ -28,15 +27,15 @@ written-only x a b p q =
     let e = wrote-only (a .0) (b .0) (a .1) (b .1) x p q in
     λ z. (e .0 z, e .1 z)
 
-summing-only : (x : AfterSum) (a b : Summed × Tables) → shownSum (a .0) (a .1) ≡ x → shownSum (b .0) (b .1) ≡ x → a ≡ b
-summing-only x a b p q =
-    let e = sums.shown-only (a .0) (b .0) (a .1) (b .1) x p q in
+removing-only : (x : AfterRemoval) (a b : AnsweredRemoval × Tables) → shownRemoval (a .0) (a .1) ≡ x → shownRemoval (b .0) (b .1) ≡ x → a ≡ b
+removing-only x a b p q =
+    let e = removal-only (a .0) (b .0) (a .1) (b .1) x p q in
     λ z. (e .0 z, e .1 z)
 
-splitting-only : (x : AfterSplit) (a b : Splitting × Tables × Tables) → shownSplit (a .0) (a .1) (a .2) ≡ x → shownSplit (b .0) (b .1) (b .2) ≡ x → a ≡ b
+splitting-only : (x : AfterSplit) (a b : Splitting × Tables) → shownSplit (a .0) (a .1) ≡ x → shownSplit (b .0) (b .1) ≡ x → a ≡ b
 splitting-only x a b p q =
-    let e = splits.shown-only (a .0) (b .0) (a .1) (a .2) (b .1) (b .2) x p q in
-    λ z. (e .0 z, e .1 z, e .2 z)
+    let e = split-only (a .0) (b .0) (a .1) (b .1) x p q in
+    λ z. (e .0 z, e .1 z)
 
 pub only : (c : PublicCall) → Only (contract c)
 only deserialize i a b = flagged-only _ a b
@@ -65,5 +64,6 @@ only combine-removed-bytes i a b = flagged-only _ a b
 only optional-combine-removed-bytes i a b = flagged-only _ a b
 only has-removal i a b = told-only a b _
 only total-removed-bytes i a b = totalled-only a b _
-only add-assign i a b = summing-only _ a b
-only split-storage-removed-bytes i a b = splitting-only _ a b
+only add-assign i a b = removing-only _ a b
+only split-key-removed-bytes i a b = removing-only _ a b
+only split-value-removed-bytes i a b = splitting-only _ a b

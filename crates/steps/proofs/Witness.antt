@@ -21,8 +21,9 @@ use Rattle.flags_spec.specs.declared.owners.MergingOwnersStrategy.{MergingOwner
 use Rattle.flags_spec.specs.declared.owners.MergingOwnersStrategy.the-variants.{RaiseIssue, UseOurs, UseTheirs}
 use Rattle.rows_spec.specs.Order.{order}
 use Rattle.rows_spec.specs.Rows.{ascends, idsOf, partsOf, rowsUnder, Tables, tables, rowsOf, properRows}
+use Rattle.rows_spec.specs.Outcomes.{placing}
 use Rattle.splitting_spec.specs.Sections.{spare, section, sections, split}
-use Rattle.splitting_spec.specs.Calls.{placing, splitRemoved}
+use Rattle.splitting_spec.specs.Calls.{splitValue}
 use Rattle.removal_spec.specs.Removing.{allUnder, fault, minus, removed}
 use Rattle.removal_spec.specs.Calls.{combinedRemoved}
 use Rattle.steps.specs.Held.{Held, holding, flagsIn}
@@ -41,13 +42,13 @@ abbrev start : Held
 start = exactly (flags 5 owner (7 ⦂ 10 ∷ 9 ⦂ 5 ∷ []))
 
 -- room for n rows
-abbrev rows : ℕ → Tables
-rows n = tables (replicate n []) (replicate n 0) (replicate n 0)
+abbrev room : ℕ → Tables
+room n = tables (replicate n []) (replicate n 0) (replicate n 0)
 
 -- incoming flags of an owner or none, at an epoch; a strategy; an amount; room for two records and three rows
 abbrev edit : Option (List ℕ) → ℕ → MergingOwnersStrategy → ℕ → Edit
 edit o e s n =
-    record { incoming = exactly (flags e o []); strategy = s; amount = n; epochs = replicate 2 0; counts = replicate 2 0; key-rows = rows 0; value-rows = rows 3 }
+    record { incoming = exactly (flags e o []); strategy = s; amount = n; epochs = replicate 2 0; counts = replicate 2 0; rows = room 3 }
 
 abbrev firsts : List Step
 firsts = add (edit none 9 UseTheirs 5) ∷ remove (edit owner 6 RaiseIssue 3) ∷ add (edit owner 9 RaiseIssue 3) ∷ remove (edit none 65535 UseOurs 5) ∷ []
@@ -158,11 +159,11 @@ ended (ok st) = some (flagsIn (st .flags), refundAt (replicate 32 1) 5 (st .rows
 -- BOTH LEAVE {7:5}; ALL STEPS TOGETHER REFUND 8 MORE AT 9
 pub ended-alike : map ended (run (state start []) (firsts ++ laters) ∷ run (state start []) (remove one ∷ []) ∷ [])
     ≡ some (flags 5 owner (7 ⦂ 5 ∷ []), 0, 5, 10) ∷ some (flags 5 owner (7 ⦂ 5 ∷ []), 0, 5, 2) ∷ []
-unfolding run step allAdded allRemoved refundAt recordsOf epochsOf countsOf ascending has held put union same proper after added combinedAdded order ascends idsOf partsOf rowsUnder rowsOf properRows spare section sections split placing splitRemoved allUnder fault minus removed combinedRemoved
+unfolding run step allAdded allRemoved refundAt recordsOf epochsOf countsOf ascending has held put union same proper after added combinedAdded order ascends idsOf partsOf rowsUnder rowsOf properRows spare section sections split placing splitValue allUnder fault minus removed combinedRemoved
 ended-alike = refl
 
 -- BOTH LEAVE NO RECORD; ALL STEPS TOGETHER REFUND 4,294,967,290 MORE AT 9
 pub ended-most : map ended (run (state start []) (firsts-most ++ laters-most) ∷ run (state start []) (remove one-most ∷ []) ∷ [])
     ≡ some (flags 5 owner [], 4294967286, 7, 4294967292) ∷ some (flags 5 owner [], 4294967286, 7, 2) ∷ []
-unfolding run step allAdded allRemoved refundAt recordsOf epochsOf countsOf ascending has held put union same proper after added combinedAdded order ascends idsOf partsOf rowsUnder rowsOf properRows spare section sections split placing splitRemoved allUnder fault minus removed combinedRemoved
+unfolding run step allAdded allRemoved refundAt recordsOf epochsOf countsOf ascending has held put union same proper after added combinedAdded order ascends idsOf partsOf rowsUnder rowsOf properRows spare section sections split placing splitValue allUnder fault minus removed combinedRemoved
 ended-most = refl

@@ -26,9 +26,10 @@ use Rattle.rows_spec.specs.Calls.{told, totalled, hasRemoval, totalRemoved}
 use Rattle.rows_spec.specs.declared.removed.Removed.{Removed}
 use Rattle.rows_spec.specs.declared.removed.HasRemoval.{HasRemoval}
 use Rattle.rows_spec.specs.declared.removed.Total.{Total}
-use Rattle.sums_spec.specs.Calls.{After as AfterSum, shown as shownSum, kept as keptSum, summed}
-use Rattle.sums_spec.specs.declared.sum.Summed.{Summed}
-use Rattle.splitting_spec.specs.Calls.{After as AfterSplit, shown as shownSplit, kept as keptSplit, splitRemoved}
+use Rattle.rows_spec.specs.Outcomes.{After as AfterRemoval, shown as shownRemoval, kept as keptRemoval}
+use Rattle.rows_spec.specs.declared.removed.AnsweredRemoval.{AnsweredRemoval}
+use Rattle.sums_spec.specs.Calls.{summed}
+use Rattle.splitting_spec.specs.Calls.{After as AfterSplit, shown as shownSplit, kept as keptSplit, splitKey, splitValue}
 use Rattle.splitting_spec.specs.declared.split.Splitting.{Splitting}
 use Rattle.removal_spec.specs.Calls.{combinedRemoved, optionalCombinedRemoved}
 use Rattle.listing_spec.specs.Listed.{listed}
@@ -132,29 +133,29 @@ abbrev pub totalling : {I : Type 0} → (I → Answer ℕ) → Call
 totalling {I} f = record { Input = I; Outcome = Total; Shown = Answer ℕ; shows = totalled; says = f; refusal = numberIn; refuses = λ n i. refused n }
 
 -- a removal's state or a refusal, and its tables
-abbrev pub summing : {I : Type 0} → (I → Tables) → (I → AfterSum) → Call
-summing {I} out f =
+abbrev pub removing : {I : Type 0} → (I → Tables) → (I → AfterRemoval) → Call
+removing {I} out f =
     record {
       Input = I;
-      Outcome = Summed × Tables;
-      Shown = AfterSum;
-      shows = λ o. shownSum (o .0) (o .1);
+      Outcome = AnsweredRemoval × Tables;
+      Shown = AfterRemoval;
+      shows = λ o. shownRemoval (o .0) (o .1);
       says = f;
       refusal = λ a. numberIn (a .answer);
-      refuses = λ n i. keptSum n (out i);
+      refuses = λ n i. keptRemoval n (out i);
     }
 
--- two removals' states and a number, or a refusal, and the tables of both
-abbrev pub splitting : {I : Type 0} → (I → Tables) → (I → Tables) → (I → AfterSplit) → Call
-splitting {I} keys values f =
+-- a removal's state with the number of records visited, or a refusal, and its tables
+abbrev pub splitting : {I : Type 0} → (I → Tables) → (I → AfterSplit) → Call
+splitting {I} out f =
     record {
       Input = I;
-      Outcome = Splitting × Tables × Tables;
+      Outcome = Splitting × Tables;
       Shown = AfterSplit;
-      shows = λ o. shownSplit (o .0) (o .1) (o .2);
+      shows = λ o. shownSplit (o .0) (o .1);
       says = f;
       refusal = λ a. numberIn (a .answer);
-      refuses = λ n i. keptSplit n (keys i) (values i);
+      refuses = λ n i. keptSplit n (out i);
     }
 
 -- ---- the calls
@@ -166,7 +167,7 @@ pub data PublicCall : Type 0 where
   new-single-epoch set-owner-id base-epoch owner-id type-byte : PublicCall
   choose-owner combine-owners combine-owner-id choose-owner-id : PublicCall
   combine-added-bytes optional-combine-added-bytes combine-removed-bytes optional-combine-removed-bytes : PublicCall
-  has-removal total-removed-bytes add-assign split-storage-removed-bytes : PublicCall
+  has-removal total-removed-bytes add-assign split-key-removed-bytes split-value-removed-bytes : PublicCall
 
 -- what each contract states
 abbrev pub contract : PublicCall → Call
@@ -210,7 +211,9 @@ contract optional-combine-removed-bytes =
 contract has-removal = decided (λ (i : Rows). hasRemoval (i .state) (i .tables))
 contract total-removed-bytes = totalling (λ (i : Rows). totalRemoved (i .state) (i .tables))
 -- the version, and both removals; it works in the tables of the left one
-contract add-assign = summing (λ (i : ℕ × Rows × Rows). i .1 .tables) (λ i. summed (i .0) (i .1 .state) (i .1 .tables) (i .2 .state) (i .2 .tables))
--- flags; the key's bytes and the tables lent for its rows; the value's
-contract split-storage-removed-bytes =
-    splitting (λ (i : Held × (ℕ × Tables) × (ℕ × Tables)). i .1 .1) (λ i. i .2 .1) (λ i. splitRemoved (i .0 .head) (i .0 .epochs) (i .0 .counts) (i .1 .0) (i .2 .0) (i .1 .1) (i .2 .1))
+contract add-assign = removing (λ (i : ℕ × Rows × Rows). i .1 .tables) (λ i. summed (i .0) (i .1 .state) (i .1 .tables) (i .2 .state) (i .2 .tables))
+-- flags, the bytes, and the tables lent for their rows
+contract split-key-removed-bytes =
+    removing (λ (i : Held × ℕ × Tables). i .2) (λ i. splitKey (i .0 .head) (i .0 .epochs) (i .0 .counts) (i .1) (i .2))
+contract split-value-removed-bytes =
+    splitting (λ (i : Held × ℕ × Tables). i .2) (λ i. splitValue (i .0 .head) (i .0 .epochs) (i .0 .counts) (i .1) (i .2))

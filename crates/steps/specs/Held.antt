@@ -11,7 +11,7 @@ use Rattle.flags_spec.specs.Calls.{combinedAdded}
 use Rattle.flags_spec.specs.declared.owners.MergingOwnersStrategy.{MergingOwnersStrategy}
 use Rattle.rows_spec.specs.Rows.{Tables}
 use Rattle.rows_spec.specs.declared.removed.Removed.{Removed}
-use Rattle.splitting_spec.specs.Calls.{After as AfterSplit, splitRemoved}
+use Rattle.splitting_spec.specs.Calls.{After as AfterSplit, splitValue}
 use Rattle.removal_spec.specs.Calls.{combinedRemoved}
 
 -- a head and its two tables
@@ -40,9 +40,9 @@ bytesInto f out = serialized (f .head) (f .epochs) (f .counts) out
 abbrev pub addedInto : Held → Held → ℕ → MergingOwnersStrategy → List ℕ → List ℕ → After
 addedInto f t n s es cs = combinedAdded (f .head) (f .epochs) (f .counts) (t .head) (t .epochs) (t .counts) n s es cs
 
--- what `split_storage_removed_bytes` leaves in the tables for the key's and the value's rows
-abbrev pub splitInto : Held → ℕ → ℕ → Tables → Tables → AfterSplit
-splitInto f keyBytes valueBytes kt vt = splitRemoved (f .head) (f .epochs) (f .counts) keyBytes valueBytes kt vt
+-- what `split_value_removed_bytes` leaves in the tables for its rows
+abbrev pub splitInto : Held → ℕ → Tables → AfterSplit
+splitInto f n t = splitValue (f .head) (f .epochs) (f .counts) n t
 
 -- what `combine_removed_bytes` leaves of ours and theirs in two tables
 abbrev pub removedInto : Held → Held → Removed → Tables → MergingOwnersStrategy → List ℕ → List ℕ → After

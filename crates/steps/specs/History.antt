@@ -21,8 +21,7 @@ pub record Edit : Type 0 where
   pub amount : ℕ
   pub epochs : List ℕ
   pub counts : List ℕ
-  pub key-rows : Tables
-  pub value-rows : Tables
+  pub rows : Tables
 
 -- an addition, or a removal
 pub data Step : Type 0 where
@@ -48,14 +47,14 @@ addition st x = leftBy (addedInto (st .flags) (x .incoming) (x .amount) (x .stra
 -- the merge of what a value split left; its rows come to those of the earlier removals
 abbrev pub splitMerged : State → Edit → Answer Told → Tables → Answer State
 splitMerged st x (refused n) t = refused n
-splitMerged st x (ok s) t =
-    leftBy (removedInto (st .flags) (x .incoming) (s .value) t (x .strategy) (x .epochs) (x .counts)) (st .rows ++ rowsOfRemoval (removalOf (s .value) t))
+splitMerged st x (ok u) t =
+    leftBy (removedInto (st .flags) (x .incoming) (u .removal) t (x .strategy) (x .epochs) (x .counts)) (st .rows ++ rowsOfRemoval (removalOf (u .removal) t))
 
--- a removal is a value split without key bytes, then its merge
+-- a removal is a value split, then its merge
 abbrev pub removal : State → Edit → Answer State
 removal st x =
-    let a = splitInto (st .flags) 0 (x .amount) (x .key-rows) (x .value-rows) in
-    splitMerged st x (a .answer) (a .value-rows)
+    let a = splitInto (st .flags) (x .amount) (x .rows) in
+    splitMerged st x (a .answer) (a .rows)
 
 -- a step
 unfoldable pub step : State → Step → Answer State

@@ -51,7 +51,7 @@ unowned base rs = holding (headOf (flags base none rs)) (epochsOf rs) (countsOf 
 -- incoming flags of kind 0 at an epoch, and an amount
 abbrev pub edit : ℕ → ℕ → Edit
 edit e n =
-    record { incoming = unowned e []; strategy = RaiseIssue; amount = n; epochs = places; counts = places; key-rows = rowPlaces; value-rows = rowPlaces }
+    record { incoming = unowned e []; strategy = RaiseIssue; amount = n; epochs = places; counts = places; rows = rowPlaces }
 
 -- ---- what is told
 
@@ -62,7 +62,7 @@ toldOfReader a = cond (a .present) (someFlags (flagsOf (a .head) (a .epochs) (a 
 -- by a split
 abbrev pub toldOfSplit : Answer Told → Tables → Reply
 toldOfSplit (refused n) t = refusal n
-toldOfSplit (ok s) t = inSections (partsOf (rowsOfRemoval (removalOf (s .value) t))) (s .visited)
+toldOfSplit (ok u) t = inSections (partsOf (rowsOfRemoval (removalOf (u .removal) t))) (u .visited)
 
 -- by a step of a history
 abbrev pub toldOfStep : Answer State → Reply
@@ -78,8 +78,8 @@ toldOfSum (ok x) t = someRemoval (removalOf x t)
 unfoldable pub tell : Question → Reply
 tell (reads bytes) = toldOfReader (deserialized bytes places places)
 tell (splits rs n) =
-    let a = splitInto (unowned 5 rs) 0 n rowPlaces rowPlaces in
-    toldOfSplit (a .answer) (a .value-rows)
+    let a = splitInto (unowned 5 rs) n rowPlaces in
+    toldOfSplit (a .answer) (a .rows)
 tell (merges rs n) = toldOfStep (step (state (unowned 5 rs) []) (remove (edit 9 n)))
 tell (adds rs e n) = toldOfStep (step (state (unowned 5 rs) []) (add (edit e n)))
 tell (sums version x y) =

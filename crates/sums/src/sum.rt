@@ -3,14 +3,15 @@ ghost use mathlib.Core.Path.{_≡_};
 ghost use mathlib.Core.Bool.{true};
 ghost use Rattle.rows_spec.specs.Rows.{tables, rowsIn, Proper};
 ghost use Rattle.rows_spec.specs.Removals.{nothing, basic, sectioned, removalOf, proper};
+ghost use Rattle.rows_spec.specs.Outcomes.{shown, placing};
 ghost use Rattle.sums_spec.specs.Joins.{addRow, joined};
 ghost use Rattle.sums_spec.specs.Sums.{unknown, basicPlus, sum, Lost};
-ghost use Rattle.sums_spec.specs.Calls.{shown, placing, summed};
+ghost use Rattle.sums_spec.specs.Calls.{summed};
 use records_spec::Refusal;
+use rows_spec::AnsweredRemoval;
 use rows_spec::Order;
 use rows_spec::Removed;
 use rows_spec::StorageRemovedBytes;
-use sums_spec::Summed;
 
 // The epoch of bytes of which none is known.
 const UNKNOWN_EPOCH: u16 = 65535;
@@ -25,7 +26,7 @@ fn add_rows(
     rhs_epochs: &[u16],
     rhs_bytes: &[u32],
     m: usize,
-) -> Summed
+) -> AnsweredRemoval
     requires { ⌜ Proper n (tables (now ids) (now epochs) (now bytes)) ⌝ }
     requires { ⌜ Proper m (tables (now «rhs_ids») (now «rhs_epochs») (now «rhs_bytes»)) ⌝ }
     ensures { λ r. ⌜ shown r (tables (now (ids .exit)) (now (epochs .exit)) (now (bytes .exit))) ≡ placing (sectioned (joined (rowsIn n (tables (now (ids .entry)) (now (epochs .entry)) (now (bytes .entry)))) (rowsIn m (tables (now («rhs_ids» .entry)) (now («rhs_epochs» .entry)) (now («rhs_bytes» .entry)))))) (tables (now (ids .entry)) (now (epochs .entry)) (now (bytes .entry))) ⌝ }
@@ -52,11 +53,11 @@ fn add_rows(
             m,
             count,
         );
-        return Summed::Sum(StorageRemovedBytes {
+        return AnsweredRemoval::Done(StorageRemovedBytes {
             removed: Removed::Sectioned(count),
         });
     }
-    Summed::Refused(Refusal::NoRoom)
+    AnsweredRemoval::Refused(Refusal::NoRoom)
 }
 
 // Adds a number to our first n rows, at 32 zero bytes and epoch 65,535.
@@ -66,7 +67,7 @@ fn add_basic(
     bytes: &mut [u32],
     n: usize,
     removed_bytes: u32,
-) -> Summed
+) -> AnsweredRemoval
     requires { ⌜ Proper n (tables (now ids) (now epochs) (now bytes)) ⌝ }
     ensures { λ r. ⌜ shown r (tables (now (ids .exit)) (now (epochs .exit)) (now (bytes .exit))) ≡ placing (sectioned (addRow (unknown «removed_bytes») (rowsIn n (tables (now (ids .entry)) (now (epochs .entry)) (now (bytes .entry)))))) (tables (now (ids .entry)) (now (epochs .entry)) (now (bytes .entry))) ⌝ }
 {
@@ -87,7 +88,7 @@ fn add_rows_to_basic(
     rhs_epochs: &[u16],
     rhs_bytes: &[u32],
     m: usize,
-) -> Summed
+) -> AnsweredRemoval
     requires { ⌜ Proper m (tables (now «rhs_ids») (now «rhs_epochs») (now «rhs_bytes»)) ⌝ }
     ensures { λ r. ⌜ shown r (tables (now (ids .exit)) (now (epochs .exit)) (now (bytes .exit))) ≡ placing (sectioned (addRow (unknown «removed_bytes») (rowsIn m (tables (now («rhs_ids» .entry)) (now («rhs_epochs» .entry)) (now («rhs_bytes» .entry)))))) (tables (now (ids .entry)) (now (epochs .entry)) (now (bytes .entry))) ⌝ }
 {
@@ -118,11 +119,11 @@ fn add_rows_to_basic(
             1,
             count,
         );
-        return Summed::Sum(StorageRemovedBytes {
+        return AnsweredRemoval::Done(StorageRemovedBytes {
             removed: Removed::Sectioned(count),
         });
     }
-    Summed::Refused(Refusal::NoRoom)
+    AnsweredRemoval::Refused(Refusal::NoRoom)
 }
 
 // How many of the first n rows have the zero identifier. They are the first.
@@ -159,7 +160,7 @@ fn add_rows_to_basic_for_version(
     rhs_bytes: &[u32],
     m: usize,
     version: u16,
-) -> Summed
+) -> AnsweredRemoval
     requires { ⌜ Proper m (tables (now «rhs_ids») (now «rhs_epochs») (now «rhs_bytes»)) ⌝ }
     ensures { λ r. ⌜ shown r (tables (now (ids .exit)) (now (epochs .exit)) (now (bytes .exit))) ≡ placing (sectioned (basicPlus version «removed_bytes» (rowsIn m (tables (now («rhs_ids» .entry)) (now («rhs_epochs» .entry)) (now («rhs_bytes» .entry)))))) (tables (now (ids .entry)) (now (epochs .entry)) (now (bytes .entry))) ⌝ }
 {
@@ -210,15 +211,15 @@ fn add_to_none(
     rhs_epochs: &[u16],
     rhs_bytes: &[u32],
     version: u16,
-) -> Summed
+) -> AnsweredRemoval
     requires { ⌜ proper rhs (tables (now «rhs_ids») (now «rhs_epochs») (now «rhs_bytes»)) ≡ true ⌝ }
     ensures { λ r. ⌜ shown r (tables (now (ids .exit)) (now (epochs .exit)) (now (bytes .exit))) ≡ placing (sum version nothing (removalOf rhs (tables (now («rhs_ids» .entry)) (now («rhs_epochs» .entry)) (now («rhs_bytes» .entry))))) (tables (now (ids .entry)) (now (epochs .entry)) (now (bytes .entry))) ⌝ }
 {
     match rhs {
-        Removed::None => Summed::Sum(StorageRemovedBytes {
+        Removed::None => AnsweredRemoval::Done(StorageRemovedBytes {
             removed: Removed::None,
         }),
-        Removed::Basic(n) => Summed::Sum(StorageRemovedBytes {
+        Removed::Basic(n) => AnsweredRemoval::Done(StorageRemovedBytes {
             removed: Removed::Basic(n),
         }),
         Removed::Sectioned(m) => add_rows(ids, epochs, bytes, 0, rhs_ids, rhs_epochs, rhs_bytes, m),
@@ -236,15 +237,15 @@ fn add_to_basic(
     rhs_epochs: &[u16],
     rhs_bytes: &[u32],
     version: u16,
-) -> Summed
+) -> AnsweredRemoval
     requires { ⌜ proper rhs (tables (now «rhs_ids») (now «rhs_epochs») (now «rhs_bytes»)) ≡ true ⌝ }
     ensures { λ r. ⌜ shown r (tables (now (ids .exit)) (now (epochs .exit)) (now (bytes .exit))) ≡ placing (sum version (basic «removed_bytes») (removalOf rhs (tables (now («rhs_ids» .entry)) (now («rhs_epochs» .entry)) (now («rhs_bytes» .entry))))) (tables (now (ids .entry)) (now (epochs .entry)) (now (bytes .entry))) ⌝ }
 {
     match rhs {
-        Removed::None => Summed::Sum(StorageRemovedBytes {
+        Removed::None => AnsweredRemoval::Done(StorageRemovedBytes {
             removed: Removed::Basic(removed_bytes),
         }),
-        Removed::Basic(n) => Summed::Sum(StorageRemovedBytes {
+        Removed::Basic(n) => AnsweredRemoval::Done(StorageRemovedBytes {
             removed: Removed::Basic(sums_joining::saturating_add(removed_bytes, n)),
         }),
         Removed::Sectioned(m) => add_rows_to_basic_for_version(
@@ -272,13 +273,13 @@ fn add_to_sectioned(
     rhs_epochs: &[u16],
     rhs_bytes: &[u32],
     version: u16,
-) -> Summed
+) -> AnsweredRemoval
     requires { ⌜ Proper n (tables (now ids) (now epochs) (now bytes)) ⌝ }
     requires { ⌜ proper rhs (tables (now «rhs_ids») (now «rhs_epochs») (now «rhs_bytes»)) ≡ true ⌝ }
     ensures { λ r. ⌜ shown r (tables (now (ids .exit)) (now (epochs .exit)) (now (bytes .exit))) ≡ placing (sum version (sectioned (rowsIn n (tables (now (ids .entry)) (now (epochs .entry)) (now (bytes .entry))))) (removalOf rhs (tables (now («rhs_ids» .entry)) (now («rhs_epochs» .entry)) (now («rhs_bytes» .entry))))) (tables (now (ids .entry)) (now (epochs .entry)) (now (bytes .entry))) ⌝ }
 {
     match rhs {
-        Removed::None => Summed::Sum(StorageRemovedBytes {
+        Removed::None => AnsweredRemoval::Done(StorageRemovedBytes {
             removed: Removed::Sectioned(n),
         }),
         Removed::Basic(more) => add_basic(ids, epochs, bytes, n, more),
@@ -297,7 +298,7 @@ fn add_proper(
     rhs_epochs: &[u16],
     rhs_bytes: &[u32],
     version: u16,
-) -> Summed
+) -> AnsweredRemoval
     requires { ⌜ proper lhs (tables (now ids) (now epochs) (now bytes)) ≡ true ⌝ }
     requires { ⌜ proper rhs (tables (now «rhs_ids») (now «rhs_epochs») (now «rhs_bytes»)) ≡ true ⌝ }
     ensures { λ r. ⌜ shown r (tables (now (ids .exit)) (now (epochs .exit)) (now (bytes .exit))) ≡ placing (sum version (removalOf lhs (tables (now (ids .entry)) (now (epochs .entry)) (now (bytes .entry)))) (removalOf rhs (tables (now («rhs_ids» .entry)) (now («rhs_epochs» .entry)) (now («rhs_bytes» .entry))))) (tables (now (ids .entry)) (now (epochs .entry)) (now (bytes .entry))) ⌝ }
@@ -349,7 +350,7 @@ pub fn add_assign(
     rhs_epochs: &[u16],
     rhs_bytes: &[u32],
     version: u16,
-) -> Summed
+) -> AnsweredRemoval
     ensures { λ r. ⌜ shown r (tables (now (ids .exit)) (now (epochs .exit)) (now (bytes .exit))) ≡ summed version (lhs .removed) (tables (now (ids .entry)) (now (epochs .entry)) (now (bytes .entry))) (rhs .removed) (tables (now («rhs_ids» .entry)) (now («rhs_epochs» .entry)) (now («rhs_bytes» .entry))) ⌝ }
 {
     let left = lhs.removed;
@@ -368,7 +369,7 @@ pub fn add_assign(
                 version,
             );
         }
-        return Summed::Refused(Refusal::BadTable);
+        return AnsweredRemoval::Refused(Refusal::BadTable);
     }
-    Summed::Refused(Refusal::BadTable)
+    AnsweredRemoval::Refused(Refusal::BadTable)
 }

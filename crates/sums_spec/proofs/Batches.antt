@@ -11,16 +11,17 @@ use Rattle.records_spec.specs.Answers.{Answer, refused}
 use Rattle.records_spec.proofs.Answers.{refused-not-ok}
 use Rattle.rows_spec.specs.Rows.{Tables, roomIn, overRows, Room}
 use Rattle.rows_spec.specs.Removals.{Removal, nothing, basic, sectioned, removalOf, proper, rowsOfRemoval, stateOf}
+use Rattle.rows_spec.specs.Outcomes.{After, kept, placing}
 use Rattle.rows_spec.specs.declared.removed.Removed.{Removed}
 use Rattle.rows_spec.proofs.Rows.{room-in, has-room, room-less}
 use Rattle.rows_spec.proofs.Over.{removal-over, proper-over}
 use Rattle.rows_spec.proofs.Columns.{over-room, room-over, over-over}
+use Rattle.rows_spec.proofs.Outcomes.{done, placing-room, placing-none, placing-self}
 use Rattle.sums_spec.specs.Sums.{unknown, sum}
-use Rattle.sums_spec.specs.Calls.{After, kept, placing}
 use Rattle.sums_spec.specs.AnyOrder.{ProperRemoval}
 use Rattle.sums_spec.specs.Batches.{Each, Operand, ProperOperand, onward, addAll, SameSheet, AnyBatch}
 use Rattle.sums_spec.proofs.Joining.{more-add, more-left}
-use Rattle.sums_spec.proofs.Answering.{done, placing-room, placing-none, placing-self, summed-proper}
+use Rattle.sums_spec.proofs.Answering.{summed-proper}
 use Rattle.sums_spec.proofs.Reading.{sum-ascends, proper-ascends}
 use Rattle.sums_spec.proofs.Grouping.{sumAll, sum-first, each-perm, sum-perm}
 

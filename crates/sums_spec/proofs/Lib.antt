@@ -12,5 +12,4 @@ pub mod VersionZero
 pub mod Reading
 pub mod Grouping
 pub mod Batches
-pub mod Only
 pub mod Marked

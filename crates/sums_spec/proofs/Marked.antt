@@ -13,11 +13,12 @@ use Rattle.records_spec.specs.Answers.{ok}
 use Rattle.rows_spec.specs.Order.{order}
 use Rattle.rows_spec.specs.Rows.{Row, row, ascends, idsOf, partsOf, Tables, tables, rowsOf, properRows, overRows}
 use Rattle.rows_spec.specs.Removals.{Removal, nothing, basic, sectioned, rowsOfRemoval, stateOf}
+use Rattle.rows_spec.specs.Outcomes.{After, kept, placing}
 use Rattle.rows_spec.specs.declared.removed.Removed.{Removed}
 use Rattle.rows_spec.specs.declared.removed.Removed.the-variants.{None}
 use Rattle.sums_spec.specs.Joins.{addRow, joined}
 use Rattle.sums_spec.specs.Sums.{anyOfZeros, withoutZeros, basicPlus, bytesAt, fits, exact}
-use Rattle.sums_spec.specs.Calls.{After, kept, placing, summed}
+use Rattle.sums_spec.specs.Calls.{summed}
 use Rattle.sums_spec.specs.Batches.{Operand, addAll}
 
 -- a version, two removals in their tables, and what is left

@@ -1,7 +1,7 @@
 -- What an accepted `add_assign` leaves reads back as the sum, and is proper again.
 -- Assumes nothing.
 use mathlib.Core.Path.{_≡_, refl, sym, ap, _∙_}
-use mathlib.Core.Bool.{Bool, true, false, cond, _&&_}
+use mathlib.Core.Bool.{Bool, true, false, cond, _&&_, and-eq-true-iff}
 use mathlib.Core.List.{List, [], _∷_}
 use Prim.Native.Nat.{ℕ}
 use lib.ListN.{length}
@@ -9,12 +9,13 @@ use Rattle.records_spec.specs.Answers.{Answer, ok}
 use Rattle.records_spec.proofs.Answers.{refused-not-ok}
 use Rattle.rows_spec.specs.Rows.{Row, ascends, Tables, roomIn, overRows}
 use Rattle.rows_spec.specs.Removals.{Removal, nothing, basic, sectioned, removalOf, proper, rowsOfRemoval, stateOf}
+use Rattle.rows_spec.specs.Outcomes.{After}
 use Rattle.rows_spec.specs.declared.removed.Removed.{Removed}
 use Rattle.rows_spec.specs.declared.removed.Removed.the-variants.{None, Basic, Sectioned}
 use Rattle.rows_spec.proofs.Rows.{Before, before-trans, asc-none, asc-before, asc-tail, asc-cons, proper-rows}
-use Rattle.rows_spec.proofs.Over.{removal-over, proper-over}
+use Rattle.rows_spec.proofs.Outcomes.{accepted}
 use Rattle.sums_spec.specs.Sums.{unknown, ofZeros, withoutZeros, sum}
-use Rattle.sums_spec.specs.Calls.{After, kept, placing, summed}
+use Rattle.sums_spec.specs.Calls.{summed}
 use Rattle.sums_spec.proofs.Adding.{add-ascends}
 use Rattle.sums_spec.proofs.Joining.{joined-ascends}
 use Rattle.sums_spec.proofs.Losing.{basic-cases}
@@ -56,9 +57,6 @@ proper-ascends None t h = asc-none
 proper-ascends (Basic n) t h = asc-none
 proper-ascends (Sectioned n) t h = proper-rows n t h .rises
 
-ok-same : (x y : Removed) → _≡_ {A = Answer Removed} (ok x) (ok y) → x ≡ y
-ok-same x y e = cc
-
 -- an accepted call: the state and the tables are the sum, and proper
 pub record Read (v : ℕ) (x : Removed) (t : Tables) (y : Removed) (u : Tables) (s : Removed) (a : After) : Type 0 where
   pub is-sum : removalOf s (a .rows) ≡ sum v (removalOf x t) (removalOf y u)
@@ -67,25 +65,11 @@ pub record Read (v : ℕ) (x : Removed) (t : Tables) (y : Removed) (u : Tables) 
 -- WHAT IS LEFT IS THE SUM, AND PROPER
 pub sum-read : (v : ℕ) (x : Removed) (t : Tables) (y : Removed) (u : Tables) (s : Removed) → summed v x t y u .answer ≡ ok s
     → Read v x t y u s (summed v x t y u)
-unfolding summed placing
-sum-read v x t y u s h = go (proper x t) refl (proper y u) refl (roomIn (length (rowsOfRemoval all)) t) h
-  where
-    all : Removal
-    all = sum v (removalOf x t) (removalOf y u)
-
-    placed : After
-    placed = record { answer = ok (stateOf all); rows = overRows (rowsOfRemoval all) t }
-
-    go : (p : Bool) → proper x t ≡ p → (q : Bool) → proper y u ≡ q → (f : Bool)
-        → cond (p && q) (cond f placed (kept 10 t)) (kept 11 t) .answer ≡ ok s
-        → Read v x t y u s (cond (p && q) (cond f placed (kept 10 t)) (kept 11 t))
-    go true ep true eq true k =
-        let e : stateOf all ≡ s = ok-same (stateOf all) s k in
-        record {
-          is-sum = ap (λ (z : Removed). removalOf z (placed .rows)) (sym e) ∙ removal-over all t;
-          is-proper = ap (λ (z : Removed). proper z (placed .rows)) (sym e)
-              ∙ proper-over all t (sum-ascends v (removalOf x t) (removalOf y u) (proper-ascends x t ep) (proper-ascends y u eq));
-        }
-    go true ep true eq false k = absurd (refused-not-ok 10 s k)
-    go true ep false eq f k = absurd (refused-not-ok 11 s k)
-    go false ep q eq f k = absurd (refused-not-ok 11 s k)
+unfolding summed
+sum-read v x t y u s h =
+    let a = accepted (sum v (removalOf x t) (removalOf y u)) t s (proper x t && proper y u) h in
+    let p = and-eq-true-iff (proper x t) (proper y u) .0 (a .given-proper) in
+    record {
+      is-sum = a .stands;
+      is-proper = a .is-proper (sum-ascends v (removalOf x t) (removalOf y u) (proper-ascends x t (p .0)) (proper-ascends y u (p .1)));
+    }

@@ -7,9 +7,10 @@ use mathlib.Core.List.{List, [], _∷_, _++_, List·Permᴰ}
 use Rattle.records_spec.specs.Answers.{Answer, ok, refused}
 use Rattle.rows_spec.specs.Rows.{Tables}
 use Rattle.rows_spec.specs.Removals.{Removal, removalOf, proper}
+use Rattle.rows_spec.specs.Outcomes.{After, kept}
 use Rattle.rows_spec.specs.declared.removed.Removed.{Removed}
 use Rattle.sums_spec.specs.Sums.{sum}
-use Rattle.sums_spec.specs.Calls.{After, kept, summed}
+use Rattle.sums_spec.specs.Calls.{summed}
 use Rattle.sums_spec.specs.AnyOrder.{ProperRemoval}
 
 -- each of some has a property

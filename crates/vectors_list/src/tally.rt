@@ -5,10 +5,13 @@ use libc::STDOUT_FILENO;
 use wire::Verdict;
 
 // One more than the largest call number.
-const CALLS: usize = 25;
+const CALLS: usize = 27;
 
 // The places of a tally.
-pub const PLACES: usize = 50;
+pub const PLACES: usize = 54;
+
+// The number of a call that is there no more.
+const RETIRED: usize = 14;
 
 // The most faults that are named.
 const NAMED: u64 = 10;
@@ -94,7 +97,9 @@ fn print_call(call: usize, tally: &[u64]) {
 pub fn print(tally: &[u64]) {
     let mut call: usize = 1;
     while call < CALLS {
-        print_call(call, tally);
+        if call != RETIRED {
+            print_call(call, tally);
+        }
         call += 1;
     }
     print_share(total(tally, 0, CALLS), total(tally, CALLS, PLACES));

@@ -1,6 +1,6 @@
 -- `capi_removals::add_assign` meets its contract: the call's own answer is told, or 11. Assumes nothing.
 use Rattle.records_spec.specs.declared.refusal.Refusal.the-variants.{BadTable}
-use Rattle.sums_spec.specs.declared.sum.Summed.the-variants.{Refused}
+use Rattle.rows_spec.specs.declared.removed.AnsweredRemoval.the-variants.{Refused}
 use mathlib.Core.Path.{refl, sym, _∙_}
 use Rattle.capi_spec.proofs.Telling.{when-true, when-false, sum-told}
 use borrow.Author.Needs.{needs}

@@ -1,4 +1,4 @@
--- `capi_told::sum` meets its contract: a sum is told by its state, and a refusal by its number. Assumes nothing.
+-- `capi_told::sum` meets its contract: a removal is told by its state, and a refusal by its number. Assumes nothing.
 use borrow.Author.Needs.{needs}
 use Rattle.capi_told.proofs.sum.Statement.{statement}
 use Rattle.capi_told.proofs.sum.Tie as tie
@@ -12,5 +12,5 @@ sum-spec =
     (λ c. search needs)
     (λ c κs. search needs)
     (λ c κs. search needs)
-    (λ c. simp (c .before .before .summed .given .1, c .removal .ensures))
-    (λ c. simp (c .before .before .before .summed2 .given .1, c .before .number .ensures, c .no-removal .ensures)))
+    (λ c. simp (c .before .before .answered .given .1, c .removal .ensures))
+    (λ c. simp (c .before .before .before .answered2 .given .1, c .before .number .ensures, c .no-removal .ensures)))

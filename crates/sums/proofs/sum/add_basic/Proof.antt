@@ -4,7 +4,7 @@ use mathlib.Core.List.{List}
 use borrow.Author.Needs.{needs}
 use Rattle.rows_spec.specs.Rows.{Row, tables}
 use Rattle.rows_spec.specs.Removals.{sectioned}
-use Rattle.sums_spec.specs.Calls.{placing}
+use Rattle.rows_spec.specs.Outcomes.{placing}
 use Rattle.sums_spec.proofs.Basics.{one-proper, one-joined}
 use Rattle.sums.proofs.sum.add_basic.Statement.{statement}
 use Rattle.sums.proofs.sum.add_basic.Tie as tie

@@ -6,7 +6,7 @@ use Rattle.rows_spec.specs.Removals.{removalOf}
 use Rattle.rows_spec.specs.declared.removed.Removed.{Removed}
 use Rattle.rows_spec.proofs.Removals.{proper-sectioned}
 use Rattle.sums_spec.specs.Sums.{sum}
-use Rattle.sums_spec.specs.Calls.{After, placing}
+use Rattle.rows_spec.specs.Outcomes.{After, placing}
 use Rattle.sums.proofs.sum.add_proper.Statement.{statement}
 use Rattle.sums.proofs.sum.add_proper.Tie as tie
 

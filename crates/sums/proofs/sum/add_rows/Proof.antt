@@ -4,7 +4,7 @@ use borrow.Author.Needs.{needs}
 use Rattle.rows_spec.specs.Rows.{Tables, tables, rowsIn}
 use Rattle.rows_spec.proofs.Rows.{room-in}
 use Rattle.sums_spec.specs.Joins.{joined}
-use Rattle.sums_spec.proofs.Answering.{placing-fits, placing-short}
+use Rattle.rows_spec.proofs.Outcomes.{placing-fits, placing-short}
 use Rattle.sums.proofs.sum.add_rows.Statement.{statement}
 use Rattle.sums.proofs.sum.add_rows.Tie as tie
 

@@ -7,7 +7,7 @@ use Rattle.rows_spec.proofs.Rows.{length-rows, room-in, proper-none}
 use Rattle.sums_spec.specs.Joins.{addRow}
 use Rattle.sums_spec.specs.Sums.{unknown}
 use Rattle.sums_spec.proofs.Joining.{joined-nothing}
-use Rattle.sums_spec.proofs.Answering.{placing-fits, placing-short}
+use Rattle.rows_spec.proofs.Outcomes.{placing-fits, placing-short}
 use Rattle.sums_spec.proofs.Basics.{one-proper, one-joined, first-room, then-proper, then-counted, then-room, then-over}
 use Rattle.sums.proofs.sum.add_rows_to_basic.Statement.{statement}
 use Rattle.sums.proofs.sum.add_rows_to_basic.Tie as tie

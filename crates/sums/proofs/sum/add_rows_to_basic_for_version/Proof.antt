@@ -7,7 +7,7 @@ use Rattle.rows_spec.specs.Rows.{Row, Tables, tables}
 use Rattle.rows_spec.specs.Removals.{sectioned}
 use Rattle.rows_spec.proofs.Rows.{proper-none}
 use Rattle.rows_spec.proofs.Columns.{part-rows, part-proper}
-use Rattle.sums_spec.specs.Calls.{After, placing}
+use Rattle.rows_spec.specs.Outcomes.{After, placing}
 use Rattle.sums_spec.proofs.Joining.{joined-nothing}
 use Rattle.sums_spec.proofs.Losing.{basic-later, basic-made, basic-lost}
 use Rattle.sums.proofs.sum.add_rows_to_basic_for_version.Statement.{statement}

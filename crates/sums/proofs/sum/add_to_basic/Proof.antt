@@ -8,8 +8,8 @@ use Rattle.rows_spec.specs.declared.removed.Removed.{Removed}
 use Rattle.rows_spec.specs.declared.removed.Removed.the-variants.{Basic}
 use Rattle.rows_spec.proofs.Removals.{proper-sectioned}
 use Rattle.sums_spec.specs.Sums.{sum}
-use Rattle.sums_spec.specs.Calls.{After, placing}
-use Rattle.sums_spec.proofs.Answering.{done, placing-basic}
+use Rattle.rows_spec.specs.Outcomes.{After, placing}
+use Rattle.rows_spec.proofs.Outcomes.{done, placing-basic}
 use Rattle.sums.proofs.sum.add_to_basic.Statement.{statement}
 use Rattle.sums.proofs.sum.add_to_basic.Tie as tie
 

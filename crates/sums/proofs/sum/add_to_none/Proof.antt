@@ -8,9 +8,9 @@ use Rattle.rows_spec.specs.declared.removed.Removed.{Removed}
 use Rattle.rows_spec.proofs.Rows.{proper-none}
 use Rattle.rows_spec.proofs.Removals.{proper-sectioned}
 use Rattle.sums_spec.specs.Sums.{sum}
-use Rattle.sums_spec.specs.Calls.{After, placing}
+use Rattle.rows_spec.specs.Outcomes.{After, placing}
 use Rattle.sums_spec.proofs.Joining.{joined-nothing}
-use Rattle.sums_spec.proofs.Answering.{placing-nothing, placing-basic}
+use Rattle.rows_spec.proofs.Outcomes.{placing-nothing, placing-basic}
 use Rattle.sums.proofs.sum.add_to_none.Statement.{statement}
 use Rattle.sums.proofs.sum.add_to_none.Tie as tie
 

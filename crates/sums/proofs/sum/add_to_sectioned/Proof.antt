@@ -6,8 +6,8 @@ use Rattle.rows_spec.specs.Removals.{sectioned, removalOf}
 use Rattle.rows_spec.specs.declared.removed.Removed.{Removed}
 use Rattle.rows_spec.proofs.Removals.{proper-sectioned}
 use Rattle.sums_spec.specs.Sums.{sum}
-use Rattle.sums_spec.specs.Calls.{After, placing}
-use Rattle.sums_spec.proofs.Answering.{placing-stays}
+use Rattle.rows_spec.specs.Outcomes.{After, placing}
+use Rattle.rows_spec.proofs.Outcomes.{placing-stays}
 use Rattle.sums.proofs.sum.add_to_sectioned.Statement.{statement}
 use Rattle.sums.proofs.sum.add_to_sectioned.Tie as tie
 

@@ -8,7 +8,7 @@ abbrev Inv-loop : tie.InvT-loop
 Inv-loop tally call₀ t4 call = Unit {0}
 
 abbrev μ-loop : tie.MeasureT-loop
-μ-loop tally call₀ t4 call = 25 - call
+μ-loop tally call₀ t4 call = 27 - call
 
 pub print-spec : {M : Type 1} → statement M
 print-spec =

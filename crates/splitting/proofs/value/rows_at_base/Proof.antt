@@ -1,9 +1,9 @@
--- `splitting::split::rows_at_base` meets its contract, by whether there are bytes. Assumes nothing.
+-- `splitting::value::rows_at_base` meets its contract, by whether there are bytes. Assumes nothing.
 use mathlib.Core.Path.{sym}
 use native.Mathlib.Omega.{arith}
 use Rattle.splitting_spec.proofs.Counting.{base-none, base-some}
-use Rattle.splitting.proofs.split.rows_at_base.Statement.{statement}
-use Rattle.splitting.proofs.split.rows_at_base.Tie as tie
+use Rattle.splitting.proofs.value.rows_at_base.Statement.{statement}
+use Rattle.splitting.proofs.value.rows_at_base.Tie as tie
 
 pub rows-at-base-spec : {M : Type 1} → statement M
 rows-at-base-spec =

@@ -1,4 +1,4 @@
--- `splitting::split::sectioned_storage_removal` meets its contract: what is still to be placed is the split of what is left over the
+-- `splitting::value::sectioned_storage_removal` meets its contract: what is still to be placed is the split of what is left over the
 -- records that were not asked yet. Assumes nothing.
 use mathlib.Core.Path.{refl, _∙_}
 use Prim.Native.Nat.{_-_, min}
@@ -9,8 +9,8 @@ use Rattle.rows_spec.specs.Rows.{tables}
 use Rattle.rows_spec.proofs.Backing.{backing-long}
 use Rattle.splitting_spec.specs.Sections.{minimum}
 use Rattle.splitting_spec.proofs.Placing.{nothing-placed, Placing, placing-start, placing-room, placing-step, placing-none, base-room, base-placed}
-use Rattle.splitting.proofs.split.sectioned_storage_removal.Statement.{statement}
-use Rattle.splitting.proofs.split.sectioned_storage_removal.Tie as tie
+use Rattle.splitting.proofs.value.sectioned_storage_removal.Statement.{statement}
+use Rattle.splitting.proofs.value.sectioned_storage_removal.Tie as tie
 
 abbrev Inv-loop : tie.InvT-loop
 Inv-loop removed-bytes base id epochs counts rows ids₀ row-epochs₀ row-bytes₀ left₀ j₀ k₀ ids row-epochs row-bytes left j k =

@@ -1,9 +1,0 @@
-// What a sum answers.
-use records_spec::Refusal;
-use rows_spec::StorageRemovedBytes;
-
-// A sum, or a refusal.
-pub enum Summed {
-    Sum(StorageRemovedBytes),
-    Refused(Refusal),
-}
