@@ -5,7 +5,7 @@
 const size_t widths[PARTS] = {
     [BYTES] = 1, [OTHER_BYTES] = 1, [OURS_EPOCHS] = 2, [OURS_COUNTS] = 4, [THEIRS_EPOCHS] = 2, [THEIRS_COUNTS] = 4,
     [REMOVAL_IDS] = 32, [REMOVAL_EPOCHS] = 2, [REMOVAL_BYTES] = 4, [OUT] = 1, [EPOCHS] = 2, [COUNTS] = 4,
-    [LEFT_IDS] = 32, [LEFT_EPOCHS] = 2, [LEFT_BYTES] = 4, [VALUE_IDS] = 32, [VALUE_EPOCHS] = 2, [VALUE_BYTES] = 4,
+    [LEFT_IDS] = 32, [LEFT_EPOCHS] = 2, [LEFT_BYTES] = 4,
     [OFFSETS] = sizeof(size_t), [CHANGES] = 1, [TOTAL_OWNERS] = 32, [TOTAL_EPOCHS] = 2, [TOTALS] = 8,
     [TOTAL_STRUCTS] = sizeof(petasunok_total), [WORK_OWNERS] = 32, [WORK_EPOCHS] = 2, [WORK_TOTALS] = 8,
 };
@@ -22,7 +22,7 @@ OF(size, uint32_t, .count = a)
 OF(owner, petasunok_owner, .refusal = a.refusal, .which = a.which)
 OF(maybe_owner, petasunok_maybe_owner, .refusal = a.refusal, .present = a.present, .id = a.id)
 OF(sum, petasunok_sum, .refusal = a.refusal, .removal = a.removal)
-OF(split, petasunok_split, .refusal = a.refusal, .removal = a.key, .value = a.value, .visited = a.visited)
+OF(value_split, petasunok_value_split, .refusal = a.refusal, .removal = a.removal, .visited = a.visited)
 OF(repaired, petasunok_repaired, .refusal = a.refusal, .count = a.bytes, .lines = a.lines)
 
 /* ---- the calls */
@@ -32,7 +32,6 @@ OF(repaired, petasunok_repaired, .refusal = a.refusal, .count = a.bytes, .lines 
 #define THEIRS g->theirs, PART(THEIRS_EPOCHS), PART(THEIRS_COUNTS)
 #define REMOVAL g->removal, PART(REMOVAL_IDS), PART(REMOVAL_EPOCHS), PART(REMOVAL_BYTES)
 #define LEFT PART(LEFT_IDS), PART(LEFT_EPOCHS), PART(LEFT_BYTES)
-#define VALUE PART(VALUE_IDS), PART(VALUE_EPOCHS), PART(VALUE_BYTES)
 #define ROOM PART(EPOCHS), PART(COUNTS)
 #define TABLE_OF_TOTALS g->rows, PART(TOTAL_OWNERS), PART(TOTAL_EPOCHS), PART(TOTALS)
 #define TABLE_OF_STRUCTS g->rows, PART(TOTAL_STRUCTS), PART(WORK_OWNERS), PART(WORK_EPOCHS), PART(WORK_TOTALS)
@@ -53,7 +52,8 @@ CALL(combine_added_bytes, of_flags, (OURS, THEIRS, g->amount, g->strategy, ROOM)
 CALL(optional_combine_added_bytes, of_flags, (g->present, OURS, THEIRS, g->amount, g->strategy, ROOM))
 CALL(combine_removed_bytes, of_flags, (OURS, THEIRS, REMOVAL, g->strategy, ROOM))
 CALL(optional_combine_removed_bytes, of_flags, (g->present, OURS, THEIRS, REMOVAL, g->strategy, ROOM))
-CALL(split_storage_removed_bytes, of_split, (OURS, g->key, g->amount, LEFT, VALUE))
+CALL(split_key_removed_bytes, of_sum, (OURS, g->amount, LEFT))
+CALL(split_value_removed_bytes, of_value_split, (OURS, g->amount, LEFT))
 CALL(add_assign, of_sum, (g->left, LEFT, REMOVAL, g->version))
 CALL(has_removal, of_count, (REMOVAL))
 CALL(total_removed_bytes, of_count, (REMOVAL))
@@ -98,8 +98,8 @@ const call calls[CALLS] = {
     {"combine_removed_bytes", combine_removed_bytes, FLAGS, MERGES | REMOVAL_TABLES, TAKES_MERGE | TAKES_REMOVAL, REMOVING_REFUSALS},
     {"optional_combine_removed_bytes", optional_combine_removed_bytes, FLAGS, MERGES | REMOVAL_TABLES,
      TAKES_MERGE | TAKES_REMOVAL | TAKES_PRESENT, REMOVING_REFUSALS},
-    {"split_storage_removed_bytes", split_storage_removed_bytes, SPLIT, OURS_TABLES | LEFT_TABLES | VALUE_TABLES, TAKES_OURS,
-     BIT(10) | BIT(11)},
+    {"split_key_removed_bytes", split_key_removed_bytes, SUM, OURS_TABLES | LEFT_TABLES, TAKES_OURS, BIT(10) | BIT(11)},
+    {"split_value_removed_bytes", split_value_removed_bytes, SPLIT, OURS_TABLES | LEFT_TABLES, TAKES_OURS, BIT(10) | BIT(11)},
     {"add_assign", add_assign, SUM, LEFT_TABLES | REMOVAL_TABLES, TAKES_LEFT | TAKES_REMOVAL, BIT(10) | BIT(11)},
     {"has_removal", has_removal, NUMBER, REMOVAL_TABLES, TAKES_REMOVAL, BIT(11)},
     {"total_removed_bytes", total_removed_bytes, NUMBER, REMOVAL_TABLES, TAKES_REMOVAL, BIT(9) | BIT(11)},
@@ -125,8 +125,8 @@ int same_removal(const petasunok_removal *a, const petasunok_removal *b) {
 
 int same_told(const told *a, const told *b) {
     return a->refusal == b->refusal && a->present == b->present && a->which == b->which && a->count == b->count
-        && same_head(&a->head, &b->head) && same_removal(&a->removal, &b->removal) && same_removal(&a->value, &b->value)
-        && a->visited == b->visited && a->lines == b->lines && a->worked == b->worked && memcmp(a->id.bytes, b->id.bytes, 32) == 0;
+        && same_head(&a->head, &b->head) && same_removal(&a->removal, &b->removal) && a->visited == b->visited && a->lines == b->lines
+        && a->worked == b->worked && memcmp(a->id.bytes, b->id.bytes, 32) == 0;
 }
 
 int same_places(int part, const void *a, const void *b, size_t places) {
@@ -144,7 +144,6 @@ size_t places(const told *answer, int part) {
     if (BIT(part) & WORK_TABLES) return answer->worked;
     if (BIT(part) & ROOM_TABLES) return answer->head.records;
     if (BIT(part) & LEFT_TABLES) return answer->removal.rows;
-    if (BIT(part) & VALUE_TABLES) return answer->value.rows;
     if (BIT(part) & LINE_TABLES) return answer->lines;
     return 0;
 }
@@ -160,7 +159,7 @@ const char *malformed(const call *c, const given *g, const told *answer) {
     }
     if (holds_flags && !answer->present && !same_told(answer, &nothing)) return "more than nothing in an answer that holds none";
     if (answer->present > 1 || answer->which > 2) return "a truth value or an owner that does not exist";
-    if (answer->head.kind > 3 || answer->removal.kind > 2 || answer->value.kind > 2) return "a kind that does not exist";
+    if (answer->head.kind > 3 || answer->removal.kind > 2) return "a kind that does not exist";
     for (i = 0; i < PARTS; i++)
         if ((c->parts & WRITTEN_TABLES & BIT(i)) && places(answer, i) > g->parts[i].len) return "an answer that passes its room";
     return NULL;

@@ -12,8 +12,7 @@ enum {
     REMOVAL_IDS, REMOVAL_EPOCHS, REMOVAL_BYTES,
     OUT,
     EPOCHS, COUNTS,
-    LEFT_IDS, LEFT_EPOCHS, LEFT_BYTES, /* the key's rows of a split, and the left removal of a sum */
-    VALUE_IDS, VALUE_EPOCHS, VALUE_BYTES,
+    LEFT_IDS, LEFT_EPOCHS, LEFT_BYTES, /* the rows of a split, and the left removal of a sum */
     OFFSETS, CHANGES,
     TOTAL_OWNERS, TOTAL_EPOCHS, TOTALS,
     TOTAL_STRUCTS,
@@ -28,11 +27,10 @@ enum {
 #define REMOVAL_TABLES (BIT(REMOVAL_IDS) | BIT(REMOVAL_EPOCHS) | BIT(REMOVAL_BYTES))
 #define ROOM_TABLES (BIT(EPOCHS) | BIT(COUNTS))
 #define LEFT_TABLES (BIT(LEFT_IDS) | BIT(LEFT_EPOCHS) | BIT(LEFT_BYTES))
-#define VALUE_TABLES (BIT(VALUE_IDS) | BIT(VALUE_EPOCHS) | BIT(VALUE_BYTES))
 #define LINE_TABLES (BIT(OFFSETS) | BIT(CHANGES))
 #define TOTAL_TABLES (BIT(TOTAL_OWNERS) | BIT(TOTAL_EPOCHS) | BIT(TOTALS))
 #define WORK_TABLES (BIT(WORK_OWNERS) | BIT(WORK_EPOCHS) | BIT(WORK_TOTALS))
-#define WRITTEN_TABLES (BIT(OUT) | ROOM_TABLES | LEFT_TABLES | VALUE_TABLES | LINE_TABLES | TOTAL_TABLES | BIT(TOTAL_STRUCTS) | WORK_TABLES)
+#define WRITTEN_TABLES (BIT(OUT) | ROOM_TABLES | LEFT_TABLES | LINE_TABLES | TOTAL_TABLES | BIT(TOTAL_STRUCTS) | WORK_TABLES)
 
 /* The values that a call takes beside its tables. */
 #define TAKES_STRATEGY 1u
@@ -59,7 +57,7 @@ typedef struct {
     petasunok_removal removal, left;
     size_t rows; /* of a table of totals */
     petasunok_id id;
-    uint32_t amount, key;  /* amount: also the value's bytes of a split */
+    uint32_t amount; /* also the bytes of a split */
     uint16_t epoch, version; /* epoch: also the number of changes */
     uint8_t strategy, present, yes, size; /* yes: has_owner and owned; present: also whether changes are given */
     uint8_t theirs_present;
@@ -71,7 +69,7 @@ typedef struct {
     uint8_t present, which;
     uint64_t count; /* also the bytes of a repair, and the rows of a table of totals */
     petasunok_head head;
-    petasunok_removal removal, value; /* removal: a sum, or the key's of a split */
+    petasunok_removal removal;
     size_t visited, lines;
     size_t worked; /* how many places of a work area hold rows before or after */
     petasunok_id id;
@@ -85,7 +83,7 @@ enum {
     DESERIALIZE, READ_SINGLE, READ_MULTI, READ_SINGLE_OWNED, READ_MULTI_OWNED,
     SERIALIZE, SERIALIZED_SIZE, APPROXIMATE_SIZE,
     COMBINE_OWNER_ID, COMBINE_ADDED, OPTIONAL_ADDED, COMBINE_REMOVED, OPTIONAL_REMOVED,
-    SPLIT_REMOVED, ADD_ASSIGN, HAS_REMOVAL, TOTAL_REMOVED,
+    SPLIT_KEY, SPLIT_VALUE, ADD_ASSIGN, HAS_REMOVAL, TOTAL_REMOVED,
     NEW_SINGLE_EPOCH, SET_OWNER_ID, BASE_EPOCH, OWNER_ID, TYPE_BYTE,
     REPAIR,
     TOTALS_REPLACE, TOTALS_REPLACE_STRUCTS,

@@ -38,12 +38,12 @@ int main(void) {
     if (refused("adding", answer.refusal)) return 1;
     grown.head = answer.head;
 
-    petasunok_split split = petasunok_split_storage_removed_bytes(grown.head, grown.epochs, ROOM, grown.counts, ROOM, 0, 100, NULL, 0, NULL,
-                                                                  0, NULL, 0, ids, ROOM, epochs, ROOM, refunds, ROOM);
+    petasunok_value_split split =
+        petasunok_split_value_removed_bytes(grown.head, grown.epochs, ROOM, grown.counts, ROOM, 100, ids, ROOM, epochs, ROOM, refunds, ROOM);
     if (refused("splitting", split.refusal)) return 1;
-    for (size_t i = 0; i < split.value.rows; i++) printf("refund epoch %u bytes %u\n", epochs[i], refunds[i]);
+    for (size_t i = 0; i < split.removal.rows; i++) printf("refund epoch %u bytes %u\n", epochs[i], refunds[i]);
 
-    answer = petasunok_combine_removed_bytes(grown.head, grown.epochs, ROOM, grown.counts, ROOM, at_9, NULL, 0, NULL, 0, split.value,
+    answer = petasunok_combine_removed_bytes(grown.head, grown.epochs, ROOM, grown.counts, ROOM, at_9, NULL, 0, NULL, 0, split.removal,
                                              (const uint8_t(*)[32])ids, ROOM, epochs, ROOM, refunds, ROOM, PETASUNOK_RAISE_ISSUE,
                                              shortened.epochs, ROOM, shortened.counts, ROOM);
     if (refused("removing", answer.refusal)) return 1;

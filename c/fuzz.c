@@ -50,8 +50,8 @@ static void found(const char *what) {
     if (c->takes & TAKES_REMOVAL) print_removal("removal", &input.removal);
     if (c->takes & TAKES_LEFT) print_removal("left", &input.left);
     if (c->takes & TAKES_ROWS) fprintf(stderr, "  rows %zu, theirs present %u\n", input.rows, input.theirs_present);
-    fprintf(stderr, "  amount %u key %u strategy %u present %u version %u epoch %u\n", input.amount, input.key, input.strategy,
-            input.present, input.version, input.epoch);
+    fprintf(stderr, "  amount %u strategy %u present %u version %u epoch %u\n", input.amount, input.strategy, input.present, input.version,
+            input.epoch);
     for (i = 0; i < PARTS; i++)
         if (c->parts & BIT(i)) print_part(i);
     fflush(stderr);

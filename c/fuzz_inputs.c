@@ -397,7 +397,6 @@ void make_input(given *g, int which) {
     if (c->takes & TAKES_ROWS) give_change(g);
     if (c->parts & BIT(TOTAL_STRUCTS)) give_structs(g);
     g->amount = some_count();
-    g->key = once_in(2) ? 0 : some_count();
     g->epoch = some_epoch();
     g->version = (uint16_t)(once_in(16) ? any() : below(2));
     g->strategy = some_byte(3);
@@ -410,15 +409,15 @@ void make_input(given *g, int which) {
 
 /* ---- keeping answers */
 
-/* Keeps the removal that stands in three tables, with the flags that it was split from, if it was. */
-static void keep_removal(const given *g, const petasunok_removal *removal, int ids, int split) {
+/* Keeps the removal that stands in the left tables, with the flags that it was split from, if it was. */
+static void keep_removal(const given *g, const petasunok_removal *removal, int split) {
     held_removal *r = &removals[below(STORED)];
     if (removal->rows > 8 && !once_in(8)) return;
     if (removal->rows > MOST || (split && g->ours.records > MOST)) return;
     r->removal = *removal;
-    memcpy(r->ids, g->parts[ids].at, removal->rows * 32);
-    memcpy(r->epochs, g->parts[ids + 1].at, removal->rows * 2);
-    memcpy(r->bytes, g->parts[ids + 2].at, removal->rows * 4);
+    memcpy(r->ids, g->parts[LEFT_IDS].at, removal->rows * 32);
+    memcpy(r->epochs, g->parts[LEFT_EPOCHS].at, removal->rows * 2);
+    memcpy(r->bytes, g->parts[LEFT_BYTES].at, removal->rows * 4);
     if (!split) return;
     r->of.head = g->ours;
     if (g->ours.records == 0) return;
@@ -442,8 +441,8 @@ void keep_answer(int which, const given *g, const told *answer) {
     if (once_in(8)) random_removal(&removals[below(STORED)]);
     if (once_in(400)) random_totals(&tables[below(STORED)]);
     if (calls[which].answer == TABLE) keep_totals(g, which == TOTALS_REPLACE ? TOTAL_OWNERS : WORK_OWNERS, (size_t)answer->count);
-    if (calls[which].answer == SPLIT) keep_removal(g, &answer->value, VALUE_IDS, 1);
-    if (calls[which].answer == SUM) keep_removal(g, &answer->removal, LEFT_IDS, 0);
+    if (which == SPLIT_KEY || which == SPLIT_VALUE) keep_removal(g, &answer->removal, 1);
+    if (which == ADD_ASSIGN) keep_removal(g, &answer->removal, 0);
     if (calls[which].answer == FLAGS && answer->present && answer->head.records <= MOST) {
         flags[slot].head = answer->head;
         memcpy(flags[slot].epochs, g->parts[EPOCHS].at, answer->head.records * 2);

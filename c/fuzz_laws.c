@@ -202,21 +202,21 @@ static const char *merging(int which, const given *g, const told *answer) {
     return memcmp(g->parts[COUNTS].at, g->parts[THEIRS_COUNTS].at, from->records * 4) == 0 ? NULL : "other counts than theirs";
 }
 
-/* Sections stand under our owner, sum to what was asked, and as many as were visited are above the base. */
-static const char *splitting(const given *g, const told *answer) {
+/* Sections stand under our owner and sum to what was asked; of a key all stand at the base, of a value as many beside it as were visited. */
+static const char *splitting(int which, const given *g, const told *answer) {
     static const uint8_t zeros[32];
-    uint8_t(*ids)[32] = g->parts[VALUE_IDS].at;
-    const uint16_t *epochs = g->parts[VALUE_EPOCHS].at;
+    uint8_t(*ids)[32] = g->parts[LEFT_IDS].at;
+    const uint16_t *epochs = g->parts[LEFT_EPOCHS].at;
     size_t i, above = 0;
     int full = 0;
-    if (!proper_rows(g, &answer->removal, LEFT_IDS) || !proper_rows(g, &answer->value, VALUE_IDS)) return "sections are not proper";
-    if (total(g, &answer->removal, LEFT_IDS, &full) != g->key) return "the key's sections have another sum";
-    if (total(g, &answer->value, VALUE_IDS, &full) != g->amount) return "the value's sections have another sum";
-    if (answer->value.kind != (g->amount == 0 ? 0 : 2) || answer->removal.kind != (g->key == 0 ? 0 : 2)) return "a removal of another kind";
-    for (i = 0; i < answer->value.rows; i++) {
+    if (!proper_rows(g, &answer->removal, LEFT_IDS)) return "sections are not proper";
+    if (total(g, &answer->removal, LEFT_IDS, &full) != g->amount) return "the sections have another sum";
+    if (answer->removal.kind != (g->amount == 0 ? 0 : 2)) return "a removal of another kind";
+    for (i = 0; i < answer->removal.rows; i++) {
         above += epochs[i] > g->ours.base;
         if (memcmp(ids[i], owned(&g->ours) ? g->ours.owner : zeros, 32) != 0) return "a section under another owner";
     }
+    if (which == SPLIT_KEY) return above == 0 ? NULL : "a section of a key's bytes that is not at the base";
     return above == answer->visited ? NULL : "another number of records was visited than gave";
 }
 
@@ -411,7 +411,7 @@ const char *broken_law(int which, const given *g, const told *answer) {
     if (which == APPROXIMATE_SIZE) return sizing(g, answer);
     if (which == COMBINE_OWNER_ID) return owning(g, answer);
     if (which >= COMBINE_ADDED && which <= OPTIONAL_REMOVED) return merging(which, g, answer);
-    if (which == SPLIT_REMOVED) return splitting(g, answer);
+    if (which == SPLIT_KEY || which == SPLIT_VALUE) return splitting(which, g, answer);
     if (which == ADD_ASSIGN) return adding_up(g, answer);
     if (which == HAS_REMOVAL || which == TOTAL_REMOVED) return telling(which, g, answer);
     if (which == REPAIR) return repairing(g, answer);

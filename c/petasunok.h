@@ -96,13 +96,12 @@ typedef struct {
     petasunok_removal removal;
 } petasunok_sum;
 
-/* The removals of the key's and the value's bytes, and how many records were visited for the value's; or a refusal. */
+/* The removal of a value's bytes, and how many records were visited: the number of its rows that are not at the base; or a refusal. */
 typedef struct {
     uint32_t refusal;
-    petasunok_removal key;
-    petasunok_removal value;
+    petasunok_removal removal;
     size_t visited;
-} petasunok_split;
+} petasunok_value_split;
 
 /* Whose owner stands: 0 none, 1 ours, 2 theirs; or a refusal. */
 typedef struct {
@@ -213,15 +212,19 @@ petasunok_flags petasunok_optional_combine_removed_bytes(
 
 /* ---- removals */
 
-/* Splits a removal, whatever the amounts are: the key's bytes at the base, the value's from the latest record down, each of which keeps 3,
- * or all it has where that is less: 11, 10. No other division of the value's bytes is "latest first, three kept": docs/DIVISION.md. */
-petasunok_split petasunok_split_storage_removed_bytes(
+/* Splits a removal of a key's bytes, whatever their number is: one row at the base, and no removal of 0 bytes: 11, 10. */
+petasunok_sum petasunok_split_key_removed_bytes(
     petasunok_head flags, const uint16_t *flags_epochs, size_t flags_epochs_len, const uint32_t *flags_counts, size_t flags_counts_len,
-    uint32_t key, uint32_t value,
-    uint8_t (*key_ids)[32], size_t key_ids_len,
-    uint16_t *key_epochs, size_t key_epochs_len, uint32_t *key_bytes, size_t key_bytes_len,
-    uint8_t (*value_ids)[32], size_t value_ids_len,
-    uint16_t *value_epochs, size_t value_epochs_len, uint32_t *value_bytes, size_t value_bytes_len);
+    uint32_t key,
+    uint8_t (*ids)[32], size_t ids_len, uint16_t *epochs, size_t epochs_len, uint32_t *bytes, size_t bytes_len);
+
+/* Splits a removal of a value's bytes, whatever their number is: from the latest record down, each of which keeps 3, or all it has where that
+ * is less, and the rest at the base; no removal of 0 bytes: 11, 10. One row more than there are records is room enough. No other division is
+ * "latest first, three kept": docs/DIVISION.md. */
+petasunok_value_split petasunok_split_value_removed_bytes(
+    petasunok_head flags, const uint16_t *flags_epochs, size_t flags_epochs_len, const uint32_t *flags_counts, size_t flags_counts_len,
+    uint32_t value,
+    uint8_t (*ids)[32], size_t ids_len, uint16_t *epochs, size_t epochs_len, uint32_t *bytes, size_t bytes_len);
 
 /* Adds the right removal to the left one, in the left one's tables: 11, 10. At version 0 a basic number plus rows loses what the
  * original's first versions lose; from version 1 on removals can be added in any order. */

@@ -69,8 +69,8 @@ static const struct {
     SIZE(petasunok_count, 16), FIELD(petasunok_count, refusal, 0), FIELD(petasunok_count, count, 8),
     SIZE(petasunok_removal, 16), FIELD(petasunok_removal, kind, 0), FIELD(petasunok_removal, bytes, 4), FIELD(petasunok_removal, rows, 8),
     SIZE(petasunok_sum, 24), FIELD(petasunok_sum, refusal, 0), FIELD(petasunok_sum, removal, 8),
-    SIZE(petasunok_split, 48), FIELD(petasunok_split, refusal, 0), FIELD(petasunok_split, key, 8), FIELD(petasunok_split, value, 24),
-    FIELD(petasunok_split, visited, 40),
+    SIZE(petasunok_value_split, 32), FIELD(petasunok_value_split, refusal, 0), FIELD(petasunok_value_split, removal, 8),
+    FIELD(petasunok_value_split, visited, 24),
     SIZE(petasunok_owner, 8), FIELD(petasunok_owner, refusal, 0), FIELD(petasunok_owner, which, 4),
     SIZE(petasunok_id, 32), FIELD(petasunok_id, bytes, 0),
     SIZE(petasunok_maybe_owner, 40), FIELD(petasunok_maybe_owner, refusal, 0), FIELD(petasunok_maybe_owner, present, 4),
@@ -136,7 +136,6 @@ static void build(const example *e, given *g, const lending *l) {
     int i;
     memset(g, 0, sizeof *g);
     g->amount = e->amount;
-    g->key = e->key;
     g->version = e->version;
     g->strategy = e->strategy;
     if (c->parts & BIT(BYTES)) give_bytes(g, BYTES, e->ours, l->side);
@@ -304,7 +303,7 @@ static const char *const with_nulls[CALLS] = {
     [DESERIALIZE] = "none", [READ_SINGLE] = "refused 2", [READ_MULTI] = "refused 2", [READ_SINGLE_OWNED] = "refused 2",
     [READ_MULTI_OWNED] = "refused 2", [SERIALIZE] = "refused 10", [SERIALIZED_SIZE] = "3",
     [COMBINE_OWNER_ID] = "whose 0", [COMBINE_ADDED] = "0@5", [OPTIONAL_ADDED] = "0@5", [COMBINE_REMOVED] = "0@5",
-    [OPTIONAL_REMOVED] = "0@5", [SPLIT_REMOVED] = "none, none, visited 0", [ADD_ASSIGN] = "none", [HAS_REMOVAL] = "0",
+    [OPTIONAL_REMOVED] = "0@5", [SPLIT_KEY] = "none", [SPLIT_VALUE] = "none, visited 0", [ADD_ASSIGN] = "none", [HAS_REMOVAL] = "0",
     [TOTAL_REMOVED] = "0", [REPAIR] = "", [TOTALS_REPLACE] = "totals", [TOTALS_REPLACE_STRUCTS] = "totals",
 };
 

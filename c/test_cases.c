@@ -10,7 +10,7 @@
 #define IMPROPER(flags) \
     WRITE(flags, "refused 11", "refused 11"), ADD(flags, "0@9", 1, 0, "refused 11"), ADD("0@0", flags, 1, 0, "refused 11"), \
     ABSENT_ADD(flags, "refused 11"), TAKE(flags, "0@9", "none", 0, "refused 11"), TAKE("0@0", flags, "none", 0, "refused 11"), \
-    ABSENT_TAKE(flags, "none", "refused 11"), PART_OFF(flags, 0, 0, "refused 11"), \
+    ABSENT_TAKE(flags, "none", "refused 11"), OF_KEY(flags, 0, "refused 11"), OF_VALUE(flags, 0, "refused 11"), \
     REPLACE("totals", flags, "0@9", "refused 11"), REPLACE("totals", "0@0", flags, "refused 11"), \
     REPLACE("totals", "none", flags, "refused 11"), REPLACE("totals", flags, "none", "refused 11")
 #define OWNER(first, second, rule, answer) \
@@ -23,8 +23,8 @@
     {LINE, .call = OPTIONAL_ADDED, .ours = "none", .theirs = second, .amount = 9, .told = answer}
 #define ABSENT_TAKE(second, rows, answer) \
     {LINE, .call = OPTIONAL_REMOVED, .ours = "none", .theirs = second, .removal = rows, .told = answer}
-#define PART_OFF(flags, of_key, of_value, answer) \
-    {LINE, .call = SPLIT_REMOVED, .ours = flags, .key = of_key, .amount = of_value, .told = answer}
+#define OF_KEY(flags, bytes, answer) {LINE, .call = SPLIT_KEY, .ours = flags, .amount = bytes, .told = answer}
+#define OF_VALUE(flags, bytes, answer) {LINE, .call = SPLIT_VALUE, .ours = flags, .amount = bytes, .told = answer}
 #define PLUS(first, second, at, answer) {LINE, .call = ADD_ASSIGN, .left = first, .removal = second, .version = at, .told = answer}
 #define PLUS_BOTH(first, second, answer) PLUS(first, second, 0, answer), PLUS(first, second, 1, answer)
 #define TOTAL(rows, has, total) \
@@ -55,11 +55,11 @@ const example examples[] = {
     READ(DESERIALIZE, "010005000780", "refused 2"),
     READ(DESERIALIZE, "04", "refused 1"),
     /* P10 to P12: a split, and its merge */
-    PART_OFF("1@5 7:10 9:5", 0, 6, "none, rows 0/7:4 0/9:2, visited 2"),
+    OF_VALUE("1@5 7:10 9:5", 6, "rows 0/7:4 0/9:2, visited 2"),
     TAKE("1@5 7:10 9:5", "0@9", "rows 0/7:4 0/9:2", 0, "1@5 7:6"),
-    PART_OFF("1@5 7:10 9:5", 0, 20, "none, rows 0/5:11 0/7:7 0/9:2, visited 2"),
+    OF_VALUE("1@5 7:10 9:5", 20, "rows 0/5:11 0/7:7 0/9:2, visited 2"),
     TAKE("1@5 7:10 9:5", "0@9", "rows 0/5:11 0/7:7 0/9:2", 0, "0@5"),
-    PART_OFF("1@5 7:10 9:3", 0, 1, "none, rows 0/7:1 0/9:0, visited 2"),
+    OF_VALUE("1@5 7:10 9:3", 1, "rows 0/7:1 0/9:0, visited 2"),
     TAKE("1@5 7:10 9:3", "0@9", "rows 0/7:1 0/9:0", 0, "1@5 7:9"),
     /* P13, P14 */
     ADD("1@5 7:300", "0@7", 50, 0, "1@5 7:350"),
@@ -177,22 +177,32 @@ const example examples[] = {
     TAKE("1@5 7:9", "1@8 9:8", "rows 0/9:4", 0, "1@5 7:9 9:4"),
     ABSENT_TAKE("1@5 7:9", "rows 0/8:1", "1@5 7:9"),
 
-    /* splitting */
-    PART_OFF("1@5 7:10 9:5", 0, 0, "none, none, visited 0"),
-    PART_OFF("0@5", 3, 0, "rows 0/5:3, none, visited 0"),
-    PART_OFF("0@5/A", 0, 4294967295, "none, rows 0/5:4294967295, visited 0"),
-    PART_OFF("2@5/A", 3, 4294967295, "rows A/5:3, rows A/5:4294967295, visited 0"),
-    PART_OFF("3@5/z 7:10 9:5", 3, 20, "rows z/5:3, rows z/5:11 z/7:7 z/9:2, visited 2"),
-    PART_OFF("1@5 7:4", 0, 1, "none, rows 0/7:1, visited 1"),
-    PART_OFF("1@5 7:3", 0, 4294967292, "none, rows 0/5:4294967292 0/7:0, visited 1"),
-    PART_OFF("1@5 7:4294967295", 0, 4294967292, "none, rows 0/7:4294967292, visited 1"),
+    /* splitting a key's bytes: at the base, whatever their number is */
+    OF_KEY("1@5 7:10 9:5", 0, "none"),
+    OF_KEY("0@5", 3, "rows 0/5:3"),
+    OF_KEY("0@5/A", 3, "rows 0/5:3"),
+    OF_KEY("2@5/A", 3, "rows A/5:3"),
+    OF_KEY("3@5/z 7:10 9:5", 20, "rows z/5:20"),
+    OF_KEY("1@5 7:1", 4294967292, "rows 0/5:4294967292"),
+    OF_KEY("1@5 7:1", 4294967293, "rows 0/5:4294967293"),
+    OF_KEY("3@5/A 7:1", 4294967295, "rows A/5:4294967295"),
+
+    /* splitting a value's bytes */
+    OF_VALUE("1@5 7:10 9:5", 0, "none, visited 0"),
+    OF_VALUE("0@5", 0, "none, visited 0"),
+    OF_VALUE("0@5/A", 4294967295, "rows 0/5:4294967295, visited 0"),
+    OF_VALUE("2@5/A", 4294967295, "rows A/5:4294967295, visited 0"),
+    OF_VALUE("3@5/z 7:10 9:5", 20, "rows z/5:11 z/7:7 z/9:2, visited 2"),
+    OF_VALUE("1@5 7:4", 1, "rows 0/7:1, visited 1"),
+    OF_VALUE("1@5 7:3", 4294967292, "rows 0/5:4294967292 0/7:0, visited 1"),
+    OF_VALUE("1@5 7:4294967295", 4294967292, "rows 0/7:4294967292, visited 1"),
     /* the top three amounts, which the original cannot split */
-    PART_OFF("1@5 7:1", 0, 4294967293, "none, rows 0/5:4294967293 0/7:0, visited 1"),
-    PART_OFF("1@5 7:1", 0, 4294967294, "none, rows 0/5:4294967294 0/7:0, visited 1"),
-    PART_OFF("1@5 7:1", 0, 4294967295, "none, rows 0/5:4294967295 0/7:0, visited 1"),
-    PART_OFF("1@5 7:4294967295", 0, 4294967293, "none, rows 0/5:1 0/7:4294967292, visited 1"),
-    PART_OFF("1@5 7:10 9:4294967295", 0, 4294967294, "none, rows 0/7:2 0/9:4294967292, visited 2"),
-    PART_OFF("3@5/A 7:1", 4294967295, 4294967295, "rows A/5:4294967295, rows A/5:4294967295 A/7:0, visited 1"),
+    OF_VALUE("1@5 7:1", 4294967293, "rows 0/5:4294967293 0/7:0, visited 1"),
+    OF_VALUE("1@5 7:1", 4294967294, "rows 0/5:4294967294 0/7:0, visited 1"),
+    OF_VALUE("1@5 7:1", 4294967295, "rows 0/5:4294967295 0/7:0, visited 1"),
+    OF_VALUE("1@5 7:4294967295", 4294967293, "rows 0/5:1 0/7:4294967292, visited 1"),
+    OF_VALUE("1@5 7:10 9:4294967295", 4294967294, "rows 0/7:2 0/9:4294967292, visited 2"),
+    OF_VALUE("3@5/A 7:1", 4294967295, "rows A/5:4294967295 A/7:0, visited 1"),
     TAKE("1@5 7:1", "0@9", "rows 0/5:4294967293 0/7:0", 0, "0@5"),
     TAKE("1@5 7:10 9:4294967295", "0@9", "rows 0/7:2 0/9:4294967292", 0, "1@5 7:8"),
 

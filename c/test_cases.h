@@ -15,7 +15,7 @@ typedef struct {
     const char *removal; /* the right one of a sum */
     const char *left;
     const char *totals;
-    uint32_t amount, key;
+    uint32_t amount;
     uint16_t version;
     uint8_t strategy;
     const char *told;

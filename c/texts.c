@@ -210,22 +210,16 @@ static void put_totals(const call *c, const given *g, const told *answer) {
     }
 }
 
-/* The removals of a split, and the number of records visited. */
-static void put_split(const given *g, const told *answer) {
-    put_removal(g, &answer->removal, LEFT_IDS);
-    put(", ");
-    put_removal(g, &answer->value, VALUE_IDS);
-    put(", visited %zu", answer->visited);
-}
-
 const char *text_of(const call *c, const given *g, const told *answer) {
     used = 0;
     text[0] = 0;
     if (answer->refusal != 0) put("refused %u", answer->refusal);
     else if (c->answer == NUMBER) put_number(c, g, answer);
     else if (c->answer == WHOSE) put("whose %u", answer->which);
-    else if (c->answer == SUM) put_removal(g, &answer->removal, LEFT_IDS);
-    else if (c->answer == SPLIT) put_split(g, answer);
+    else if (c->answer == SUM || c->answer == SPLIT) {
+        put_removal(g, &answer->removal, LEFT_IDS);
+        if (c->answer == SPLIT) put(", visited %zu", answer->visited);
+    }
     else if (c->answer == REPAIRED) put_repaired(g, answer);
     else if (c->answer == TABLE) put_totals(c, g, answer);
     else if (!answer->present) put("none");

@@ -8,7 +8,7 @@ usage: differential [--rounds N] [--seed S] [--only CALL] [--first]
 
 Compares every call of the static library, and of the crate over it, with the original Rust: boundaries, random questions, histories, and
 all strings of up to 3 bytes by all five readers. The original has no repair and no totals; these calls are compared with models.
-  --rounds N   so many rounds of random questions; a round has 29 of them, and every eighth a history and one of totals
+  --rounds N   so many rounds of random questions; a round has 32 of them, and every eighth a history and one of totals
   --seed S     the number that decides them; `time` takes the clock's
   --only CALL  compares only this call (totals_replace with its histories), or only `histories`
   --first      stops at the first difference
@@ -72,6 +72,7 @@ fn call(given: &str) -> Result<Only, String> {
     if given == "histories" {
         return Ok(Only::Histories);
     }
-    let place = CALLS.iter().position(|name| *name == given);
-    place.map(|place| Only::Call(place + 1)).ok_or(format!("{given} is no call; they are {}", CALLS.join(", ")))
+    let names: Vec<_> = CALLS.into_iter().filter(|name| !name.is_empty()).collect();
+    let place = CALLS.iter().position(|name| !name.is_empty() && *name == given);
+    place.map(|place| Only::Call(place + 1)).ok_or(format!("{given} is no call; they are {}", names.join(", ")))
 }

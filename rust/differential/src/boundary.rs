@@ -1,6 +1,6 @@
 //! Our answers, at the C boundary, as they come: also the fields of a refused answer, and bytes that name nothing.
 use crate::guarded::{given, Lent, LentRows, LentTables};
-use crate::question::{Change, Merge, Question, Reader, Reply, Split};
+use crate::question::{Change, Merge, Question, Reader, Reply};
 use crate::values::*;
 use petasunok::sys;
 
@@ -56,7 +56,16 @@ pub fn ask(question: &Question) -> Reply {
         Question::CombineOwnerId { ours, theirs, strategy } => combine_owner_id(ours, theirs, *strategy),
         Question::CombineAdded(merge) => combine_added(merge),
         Question::CombineRemoved(merge) => combine_removed(merge),
-        Question::Split(split) => self::split(split),
+        Question::SplitKey(split) => {
+            let mut lent = LentRows::new(&split.rows, GUARD);
+            let answer = ask!(petasunok_split_key_removed_bytes; flags split.flags, number split.bytes, into_rows lent);
+            Reply::Sum { answer, rows: lent.back() }
+        }
+        Question::SplitValue(split) => {
+            let mut lent = LentRows::new(&split.rows, GUARD);
+            let answer = ask!(petasunok_split_value_removed_bytes; flags split.flags, number split.bytes, into_rows lent);
+            Reply::ValueSplit { answer, rows: lent.back() }
+        }
         Question::AddAssign { ours, rhs, version } => {
             let mut lent = LentRows::new(&ours.rows, GUARD);
             let answer = ask!(petasunok_add_assign; number ours.state, into_rows lent, rows rhs, number *version);
@@ -107,14 +116,6 @@ fn combine_removed(merge: &Merge<Removal>) -> Reply {
             fill!(lent, petasunok_optional_combine_removed_bytes; number present, flags ours, flags theirs, rows removal, number *strategy)
         }
     }
-}
-
-/// A split.
-fn split(split: &Split) -> Reply {
-    let (mut key, mut value) = (LentRows::new(&split.key_rows, GUARD), LentRows::new(&split.value_rows, GUARD));
-    let answer = ask!(petasunok_split_storage_removed_bytes;
-        flags split.flags, number split.key, number split.value, into_rows key, into_rows value);
-    Reply::Split { answer, key: key.back(), value: value.back() }
 }
 
 /// A repair.

@@ -58,7 +58,8 @@ fn added(flags: &Flags, count: u32, visit: &mut Visit) {
 fn removed(flags: &Flags, count: u32, visit: &mut Visit) {
     for value in [count.wrapping_sub(4), count.wrapping_sub(3), count.wrapping_sub(2), count, count.wrapping_add(1)] {
         let rows = Rows { ids: vec![[0x5a; 32]; 4], epochs: vec![0x5a5a; 4], bytes: vec![0x5a5a_5a5a; 4] };
-        visit(Question::Split(Split { flags: flags.clone(), key: 0, value, key_rows: Rows::default(), value_rows: rows }));
+        visit(Question::SplitKey(Split { flags: flags.clone(), bytes: value, rows: rows.clone() }));
+        visit(Question::SplitValue(Split { flags: flags.clone(), bytes: value, rows }));
         let (ours, theirs) = (flags.clone(), Flags::new(0, 9, ZEROS, &[]));
         let with = Removal::sectioned(&[(flags.identifier(), 7, value)]);
         visit(Question::CombineRemoved(Merge { present: None, ours, theirs, with, strategy: 0, lent: room(3) }));

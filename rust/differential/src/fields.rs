@@ -24,9 +24,7 @@ pub fn question(question: &Question) -> Option<String> {
         Question::CombineOwnerId { ours, theirs, strategy } => line.bytes(ours).bytes(theirs).strategy(*strategy),
         Question::CombineAdded(merge) => line.merge(merge, |line| line.number(merge.with, 4)),
         Question::CombineRemoved(merge) => line.merge(merge, |line| line.removal(&merge.with)),
-        Question::Split(split) => {
-            line.flags(&split.flags).number(split.key, 4).number(split.value, 4).rows(&split.key_rows, 4).rows(&split.value_rows, 4)
-        }
+        Question::SplitKey(split) | Question::SplitValue(split) => line.flags(&split.flags).number(split.bytes, 4).rows(&split.rows, 4),
         Question::AddAssign { ours, rhs, version } => line.removal(ours).removal(rhs).number(*version, 2),
         Question::HasRemoval { removal } | Question::TotalRemovedBytes { removal } => line.removal(removal),
         Question::NewSingleEpoch { epoch, owned, owner } => line.number(*epoch, 2).truth(*owned).plain(owner),
@@ -50,13 +48,9 @@ pub fn reply(reply: &Reply) -> Option<String> {
         Reply::Count(answer) => line.refusal(answer.refusal).number(answer.count, 4),
         Reply::Size(size) => line.number(*size, 4),
         Reply::Owner { answer, part } => line.refusal(answer.refusal).byte(answer.which).bytes(part),
-        Reply::Split { answer, key, value } => line
-            .refusal(answer.refusal)
-            .state(&answer.key)
-            .state(&answer.value)
-            .number(answer.visited as u64, 2)
-            .rows(key, 4)
-            .rows(value, 4),
+        Reply::ValueSplit { answer, rows } => {
+            line.refusal(answer.refusal).state(&answer.removal).number(answer.visited as u64, 2).rows(rows, 4)
+        }
         Reply::Sum { answer, rows } => line.refusal(answer.refusal).state(&answer.removal).rows(rows, 4),
         Reply::Head(head) => line.head(head),
         Reply::Epoch(epoch) => line.number(*epoch, 2),

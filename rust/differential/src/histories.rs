@@ -125,10 +125,9 @@ impl History {
             let merge = if step.adds {
                 Question::CombineAdded(merge)
             } else {
-                let flags = merge.ours.clone();
-                let split = Split { flags, key: 0, value: step.amount, key_rows: Rows::default(), value_rows: rows.clone() };
-                let Reply::Split { answer, value, .. } = side(&Question::Split(split))? else { return None };
-                let removal = Removal { state: answer.value, rows: value };
+                let split = Split { flags: merge.ours.clone(), bytes: step.amount, rows: rows.clone() };
+                let Reply::ValueSplit { answer, rows } = side(&Question::SplitValue(split))? else { return None };
+                let removal = Removal { state: answer.removal, rows };
                 removal.rows().for_each(|(_, epoch, bytes)| *sections.entry(epoch).or_default() += u64::from(bytes));
                 Question::CombineRemoved(merge.having(removal))
             };

@@ -76,11 +76,11 @@ pub fn questions(visit: &mut Visit) {
     }
 }
 
-/// A split without key bytes, and the merge of its sections.
+/// A value split, and the merge of its sections.
 fn split_and_merge(ours: Flags, value: u32, visit: &mut Visit) {
-    let split = Question::Split(Split { flags: ours.clone(), key: 0, value, key_rows: row_room(), value_rows: row_room() });
-    if let Reply::Split { answer, value, .. } = expected(&split).reply {
-        let with = Removal { state: answer.value, rows: value };
+    let split = Question::SplitValue(Split { flags: ours.clone(), bytes: value, rows: row_room() });
+    if let Reply::ValueSplit { answer, rows } = expected(&split).reply {
+        let with = Removal { state: answer.removal, rows };
         visit(Question::CombineRemoved(Merge { present: None, ours, theirs: incoming(9), with, strategy: 0, lent: room() }));
     }
     visit(split);

@@ -1,6 +1,6 @@
 //! Our answers by the owned values of the crate `petasunok`, put into what is lent as the C boundary does it.
 use crate::placed;
-use crate::question::{Change, Merge, Question, Reader, Reply, Split};
+use crate::question::{Change, Merge, Question, Reader, Reply};
 use crate::values::*;
 use petasunok::{EpochMap, MergingOwnersStrategy, PerEpochByIdentifier, StorageFlags, StorageFlagsError, StorageRemovedBytes};
 
@@ -16,7 +16,15 @@ pub fn ask(question: &Question) -> Option<Reply> {
         Question::CombineOwnerId { ours, theirs, strategy } => combine_owner_id(ours, theirs, self::strategy(*strategy)?),
         Question::CombineAdded(merge) => combine_added(merge)?,
         Question::CombineRemoved(merge) => combine_removed(merge)?,
-        Question::Split(split) => self::split(split)?,
+        Question::SplitKey(split) => {
+            let answer = flags(&split.flags)?.split_key_removed_bytes(split.bytes).map(from_removal);
+            placed::sum(answer.map_err(StorageFlagsError::number), &split.rows)
+        }
+        Question::SplitValue(split) => {
+            let answer = flags(&split.flags)?.split_value_removed_bytes(split.bytes);
+            let answer = answer.map(|split| (from_removal(split.removal), split.visited));
+            placed::value_split(answer.map_err(StorageFlagsError::number), &split.rows)
+        }
         Question::AddAssign { ours, rhs, version } => {
             let (mut sum, rhs) = (removal(ours)?, removal(rhs)?);
             let result = sum.add_assign(rhs, *version).map(|()| from_removal(sum));
@@ -83,13 +91,6 @@ fn combine_removed(merge: &Merge<Removal>) -> Option<Reply> {
         Some(_) => StorageFlags::optional_combine_removed_bytes(maybe(merge)?, theirs, &removal, strategy),
     };
     Some(placed::flags(found(merged.map(Some)), &merge.lent))
-}
-
-/// A split.
-fn split(split: &Split) -> Option<Reply> {
-    let answer = flags(&split.flags)?.split_storage_removed_bytes_visited(split.key, split.value);
-    let answer = answer.map(|(key, value, visited)| (from_removal(key), from_removal(value), visited));
-    Some(placed::split(answer.map_err(StorageFlagsError::number), &split.key_rows, &split.value_rows))
 }
 
 /// A change of totals.

@@ -54,17 +54,13 @@ pub fn owner(result: Result<(u8, &[u8]), u32>) -> Reply {
     Reply::Owner { answer, part: part.to_vec() }
 }
 
-/// The key's and the value's removal, in tables that hold exactly their rows, and the records visited.
-pub fn split(result: Result<(Removal, Removal, usize), u32>, key_rows: &Rows, value_rows: &Rows) -> Reply {
-    let fits = |(key, value, _): &(Removal, Removal, usize)| key.state.rows <= key_rows.room() && value.state.rows <= value_rows.room();
-    match fitting(result, fits) {
-        Err(refusal) => {
-            let answer = petasunok_split { refusal, ..Default::default() };
-            Reply::Split { answer, key: key_rows.clone(), value: value_rows.clone() }
-        }
-        Ok((key, value, visited)) => {
-            let answer = petasunok_split { refusal: 0, key: key.state, value: value.state, visited };
-            Reply::Split { answer, key: key_rows.with(&key.rows), value: value_rows.with(&value.rows) }
+/// A value's removal, in tables that hold exactly its rows, and the records visited.
+pub fn value_split(result: Result<(Removal, usize), u32>, lent: &Rows) -> Reply {
+    match fitting(result, |(removal, _)| removal.state.rows <= lent.room()) {
+        Err(refusal) => Reply::ValueSplit { answer: petasunok_value_split { refusal, ..Default::default() }, rows: lent.clone() },
+        Ok((removal, visited)) => {
+            let answer = petasunok_value_split { refusal: 0, removal: removal.state, visited };
+            Reply::ValueSplit { answer, rows: lent.with(&removal.rows) }
         }
     }
 }

@@ -35,8 +35,8 @@ macro_rules! read_by {
 /// All of them.
 pub const READERS: [Reader; 5] = [Reader::Any, Reader::SingleEpoch, Reader::MultiEpoch, Reader::SingleEpochOwned, Reader::MultiEpochOwned];
 
-/// The names of the calls; a call's number is its place, counted from 1.
-pub const CALLS: [&str; 24] = [
+/// The names of the calls; a call's number is its place, counted from 1. The empty place is that of a call that is there no more.
+pub const CALLS: [&str; 26] = [
     "deserialize",
     "deserialize_single_epoch",
     "deserialize_multi_epoch",
@@ -50,7 +50,7 @@ pub const CALLS: [&str; 24] = [
     "optional_combine_added_bytes",
     "combine_removed_bytes",
     "optional_combine_removed_bytes",
-    "split_storage_removed_bytes",
+    "",
     "add_assign",
     "has_removal",
     "total_removed_bytes",
@@ -61,6 +61,8 @@ pub const CALLS: [&str; 24] = [
     "type_byte",
     "repair",
     "totals_replace",
+    "split_key_removed_bytes",
+    "split_value_removed_bytes",
 ];
 
 /// The number of the change of totals.
@@ -93,14 +95,39 @@ impl<T> Merge<T> {
     }
 }
 
-/// A split of key bytes and value bytes.
+/// A split of a key's bytes, or of a value's.
 #[derive(Clone, Debug, PartialEq, Eq)]
 pub struct Split {
+    pub flags: Flags,
+    pub bytes: u32,
+    pub rows: Rows,
+}
+
+/// A split of a key's bytes and one of a value's, of the same flags.
+#[derive(Clone, Debug, PartialEq, Eq)]
+pub struct Both {
     pub flags: Flags,
     pub key: u32,
     pub value: u32,
     pub key_rows: Rows,
     pub value_rows: Rows,
+}
+
+impl Both {
+    /// The two calls.
+    pub fn calls(&self) -> [Question; 2] {
+        let Both { flags, key, value, key_rows, value_rows } = self;
+        [
+            Question::SplitKey(Split { flags: flags.clone(), bytes: *key, rows: key_rows.clone() }),
+            Question::SplitValue(Split { flags: flags.clone(), bytes: *value, rows: value_rows.clone() }),
+        ]
+    }
+}
+
+/// What is asked at once: a call, or both splits of the same flags, for which the original has one call.
+pub enum Asked {
+    Call(Question),
+    Both(Both),
 }
 
 /// A change of one element's flags, and a table of totals with its number of rows. Flags whose byte is 0 are absent.
@@ -136,7 +163,8 @@ pub enum Question {
     CombineOwnerId { ours: Vec<u8>, theirs: Vec<u8>, strategy: u8 },
     CombineAdded(Merge<u32>),
     CombineRemoved(Merge<Removal>),
-    Split(Split),
+    SplitKey(Split),
+    SplitValue(Split),
     AddAssign { ours: Removal, rhs: Removal, version: u16 },
     HasRemoval { removal: Removal },
     TotalRemovedBytes { removal: Removal },
@@ -157,7 +185,7 @@ pub enum Reply {
     Count(petasunok_count),
     Size(u32),
     Owner { answer: petasunok_owner, part: Vec<u8> },
-    Split { answer: petasunok_split, key: Rows, value: Rows },
+    ValueSplit { answer: petasunok_value_split, rows: Rows },
     Sum { answer: petasunok_sum, rows: Rows },
     Head(petasunok_head),
     Epoch(u16),
@@ -178,7 +206,6 @@ impl Question {
             Question::CombineOwnerId { .. } => 9,
             Question::CombineAdded(merge) => 10 + usize::from(merge.present.is_some()),
             Question::CombineRemoved(merge) => 12 + usize::from(merge.present.is_some()),
-            Question::Split(_) => 14,
             Question::AddAssign { .. } => 15,
             Question::HasRemoval { .. } => 16,
             Question::TotalRemovedBytes { .. } => 17,
@@ -189,6 +216,8 @@ impl Question {
             Question::TypeByte { .. } => 22,
             Question::Repair { .. } => 23,
             Question::TotalsReplace(_) => TOTALS_REPLACE,
+            Question::SplitKey(_) => 25,
+            Question::SplitValue(_) => 26,
         }
     }
 
@@ -205,7 +234,7 @@ impl Reply {
             Reply::Flags { answer, .. } => answer.refusal,
             Reply::Written { answer, .. } | Reply::Count(answer) | Reply::Totals { answer, .. } => answer.refusal,
             Reply::Owner { answer, .. } => answer.refusal,
-            Reply::Split { answer, .. } => answer.refusal,
+            Reply::ValueSplit { answer, .. } => answer.refusal,
             Reply::Sum { answer, .. } => answer.refusal,
             Reply::Repaired { answer, .. } => answer.refusal,
             Reply::Size(_) | Reply::Head(_) | Reply::Epoch(_) | Reply::MaybeOwner { .. } | Reply::Kind(_) => 0,

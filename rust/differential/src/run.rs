@@ -1,11 +1,11 @@
 //! The comparison of one question after another, and what came of it.
 use crate::arguments::Only;
 use crate::boundary;
-use crate::expected::expected;
+use crate::expected::{expected, expected_all, Expected};
 use crate::intended::INTENDED;
 use crate::owned;
 use crate::progress::Progress;
-use crate::question::{Change, Question, Reply, CALLS};
+use crate::question::{Asked, Change, Question, Reply, CALLS};
 use crate::values::{petasunok_count, Rows};
 
 /// The largest number of a refusal.
@@ -82,9 +82,23 @@ impl Run {
     }
 
     /// Compares one question, if its call is asked for.
-    pub fn compare(&mut self, question: &Question) {
-        if self.only.is_none_or(|only| only == Only::Call(question.number())) {
-            self.compare_step(question);
+    pub fn compare(&mut self, question: Question) {
+        self.compare_asked(Asked::Call(question));
+    }
+
+    /// Compares the calls of what is asked at once, of which the original is asked once too; those that are asked for.
+    pub fn compare_asked(&mut self, asked: Asked) {
+        let wanted = match &asked {
+            Asked::Call(question) => self.wants(question.number()),
+            Asked::Both(both) => both.calls().iter().any(|call| self.wants(call.number())),
+        };
+        if !wanted {
+            return;
+        }
+        for (question, expected) in expected_all(asked) {
+            if self.wants(question.number()) {
+                self.compare_with(&question, &expected);
+            }
         }
     }
 
@@ -108,10 +122,13 @@ impl Run {
 
     /// Compares one question, such as a step of a history.
     pub fn compare_step(&mut self, question: &Question) {
-        if self.over() {
-            return;
+        if !self.over() {
+            self.compare_with(question, &expected(question));
         }
-        let expected = expected(question);
+    }
+
+    /// Compares our answers to a question with what is expected.
+    fn compare_with(&mut self, question: &Question, expected: &Expected) {
         let given = question.clone();
         let at_boundary = boundary::ask(&given);
         if given != *question {

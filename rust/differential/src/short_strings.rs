@@ -36,7 +36,7 @@ fn one(run: &mut Run, reader: Reader, src: &[u8]) {
         run.agreed(reader.number(), expected.refusal);
     } else {
         let lent = Tables { epochs: vec![JUNK.0], counts: vec![JUNK.1] };
-        run.compare(&Question::Read { reader, src: src.to_vec(), lent });
+        run.compare(Question::Read { reader, src: src.to_vec(), lent });
     }
 }
 

@@ -34,8 +34,11 @@ pub fn all(run: &mut Run, rounds: u64, seed: u64) {
     run.progress.stage("boundaries".into());
     let of_repairs = [repairs::questions, repairing::boundaries, repairing::short_strings];
     let of_totals = [totals::questions, of_totals::boundaries];
-    for questions in [marked::questions, edges::questions].into_iter().chain(BOUNDARIES).chain(of_repairs).chain(of_totals) {
-        questions(&mut |question| run.compare(&question));
+    for questions in [marked::questions, edges::questions].into_iter().chain(of_repairs).chain(of_totals) {
+        questions(&mut |question| run.compare(question));
+    }
+    for boundaries in BOUNDARIES {
+        boundaries.visit(&mut |asked| run.compare_asked(asked));
     }
     random_rounds(run, rounds, seed);
     short_strings::all(run);
@@ -51,11 +54,11 @@ fn random_rounds(run: &mut Run, rounds: u64, seed: u64) {
         run.progress.stage(format!("round {} of {rounds}", round + 1));
         let most = if round % LONG == 0 { MOST_OF_LONG } else { MOST };
         for randomly in RANDOMLY {
-            run.compare(&randomly(&mut random, most));
+            run.compare_asked(randomly.ask(&mut random, most));
         }
-        run.compare(&repairing::random(&mut random_of_repairs, most));
+        run.compare(repairing::random(&mut random_of_repairs, most));
         for _ in 0..CHANGES {
-            run.compare(&of_totals::random(&mut random_of_totals, most));
+            run.compare(of_totals::random(&mut random_of_totals, most));
         }
         if round % HISTORY == 0 && run.has_histories() {
             histories::history(run, &mut random, MOST / 4);

@@ -1,7 +1,7 @@
 //! What the calls are given and lent: heads with their tables, at the C boundary's types.
 pub use petasunok::sys::{
-    petasunok_count, petasunok_flags, petasunok_head, petasunok_id, petasunok_owner, petasunok_removal, petasunok_repaired,
-    petasunok_split, petasunok_sum, petasunok_total,
+    petasunok_count, petasunok_flags, petasunok_head, petasunok_id, petasunok_owner, petasunok_removal, petasunok_repaired, petasunok_sum,
+    petasunok_total, petasunok_value_split,
 };
 
 /// An owner or identifier.

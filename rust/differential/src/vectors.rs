@@ -1,11 +1,11 @@
 //! The stored answers: a list of questions with the replies that they have to get, for crates/vectors.
 use crate::blocks;
 use crate::edges;
-use crate::expected::expected;
+use crate::expected::{expected_all, Expected};
 use crate::fields;
-use crate::groups::{repairing, totals as of_totals, Boundaries, Randomly, BOUNDARIES, RANDOMLY};
+use crate::groups::{repairing, totals as of_totals, Boundaries, Randomly, Visit, BOUNDARIES, RANDOMLY};
 use crate::marked;
-use crate::question::{Question, CALLS};
+use crate::question::{Asked, Question, CALLS};
 use crate::random::Random;
 use crate::repairs;
 use crate::totals;
@@ -30,7 +30,7 @@ const HEAD: &str = "\
 # Questions to the calls with the replies that they have to get, one a line.
 # Made by `tools/differential vectors` from the original Rust, dashpay/grovedb at commit 0ea327d726, and its stand-ins (rust/standins).
 # Refusals 9 to 11 come from document 01's rule and not from the Rust, which has none of them.
-# For value splits of 4,294,967,293 to 4,294,967,295 of flags with records, where the Rust overflows, the replies to 14 come from a model over whole
+# For value splits of 4,294,967,293 to 4,294,967,295 of flags with records, where the Rust overflows, the replies to 26 come from a model over whole
 # numbers, rust/differential/src/split_model.rs, as document 02 (v) wants it.
 # The Rust has no repair: the replies to 23 come from a model of its own, rust/differential/src/repair_model.rs, written from document 02 (iv).
 # The Rust has no totals: the replies to 24 come from a model of its own, rust/differential/src/totals_model.rs, written from document 02 (vii).
@@ -51,8 +51,7 @@ const HEAD: &str = "\
 #   11 optional_combine_added_bytes: u8 present, then as 10
 #   12 combine_removed_bytes: FLAGS ours, FLAGS theirs, ROWS, u8 strategy, TABLES lent = as 1
 #   13 optional_combine_removed_bytes: u8 present, then as 12
-#   14 split_storage_removed_bytes: FLAGS, u32 key, u32 value, ROWTABLES key, ROWTABLES value
-#     = u8 refusal, REMOVAL key, REMOVAL value, u16 visited, ROWTABLES key, ROWTABLES value
+#   14 was the split of key and value bytes at once, and is not used again
 #   15 add_assign: ROWS ours, ROWS rhs, u16 version = u8 refusal, REMOVAL, ROWTABLES ours
 #   16 has_removal, 17 total_removed_bytes: ROWS = u8 refusal, u32 count
 #   18 new_single_epoch: u16 epoch, u8 owned, 32 bytes = HEAD
@@ -60,6 +59,8 @@ const HEAD: &str = "\
 #   20 base_epoch: HEAD = u16      21 owner_id: HEAD = u8 owned, 32 bytes     22 type_byte: HEAD = u8
 #   23 repair: BYTES, BYTES out lent, OFFSETS lent, BYTES changes lent = u8 refusal, u16 bytes, u16 lines, BYTES out, OFFSETS, BYTES changes
 #   24 totals_replace: u16 rows, TOTALTABLES, u8 old_present, FLAGS old, u8 new_present, FLAGS new = u8 refusal, u16 rows, TOTALTABLES
+#   25 split_key_removed_bytes: FLAGS, u32 key, ROWTABLES lent = as 15
+#   26 split_value_removed_bytes: FLAGS, u32 value, ROWTABLES lent = u8 refusal, REMOVAL, u16 visited, ROWTABLES
 ";
 
 /// The lines of a list under way, by call.
@@ -78,11 +79,11 @@ pub fn list(seed: u64) -> String {
     list.random(seed, &RANDOMLY, TRIES);
     list.all(blocks::questions);
     list.all(repairs::questions);
-    list.boundaries(seed, &[repairing::boundaries]);
-    list.random(seed, &[repairing::random], TRIES_OF_REPAIRS);
+    list.boundaries(seed, &[Boundaries::Calls(repairing::boundaries)]);
+    list.random(seed, &[Randomly::Call(repairing::random)], TRIES_OF_REPAIRS);
     list.all(totals::questions);
-    list.boundaries(seed, &[of_totals::boundaries]);
-    list.random(seed, &[of_totals::random], TRIES_OF_TOTALS);
+    list.boundaries(seed, &[Boundaries::Calls(of_totals::boundaries)]);
+    list.random(seed, &[Randomly::Call(of_totals::random)], TRIES_OF_TOTALS);
     let mut text = HEAD.to_string();
     for (number, lines) in list.lines {
         text.push_str(&format!("# {number} {}\n", CALLS[number - 1]));
@@ -100,35 +101,39 @@ fn own_randoms(seed: u64, many: usize) -> impl Iterator<Item = Random> {
 }
 
 impl List {
-    /// Puts a question into the list, if the format has it and it is new; its refusal is handed back then.
-    fn add(&mut self, question: &Question) -> Option<u32> {
-        let (digits, reply) = (fields::question(question)?, expected(question).reply);
-        let answer = fields::reply(&reply)?;
+    /// Puts a question into the list, if the format has it and it is new; whether it was put there.
+    fn add(&mut self, question: &Question, expected: &Expected) -> bool {
+        let (Some(digits), Some(answer)) = (fields::question(question), fields::reply(&expected.reply)) else { return false };
         let long = [&digits, &answer].into_iter().any(|hex| hex.bytes().filter(|byte| *byte != b' ').count() > 2 * MOST_BYTES);
         if long || !self.known.insert(digits.clone()) {
-            return None;
+            return false;
         }
         self.lines.entry(question.number()).or_default().push(format!("{digits} = {answer}"));
-        Some(reply.refusal())
+        true
     }
 
     /// All of some questions.
-    fn all(&mut self, questions: Boundaries) {
+    fn all(&mut self, questions: fn(&mut Visit)) {
         questions(&mut |question| {
-            self.add(&question);
+            for (question, expected) in expected_all(Asked::Call(question)) {
+                self.add(&question, &expected);
+            }
         });
     }
 
     /// Some of every call's boundaries, by chance. Each call has random numbers of its own, so that what changes of one leaves the others.
     fn boundaries(&mut self, seed: u64, of_groups: &[Boundaries]) {
-        let all = |visit: &mut dyn FnMut(Question)| of_groups.iter().for_each(|boundaries| boundaries(visit));
+        let all = |visit: &mut dyn FnMut(Question, Expected)| {
+            let mut each = |asked| expected_all(asked).into_iter().for_each(|(question, expected)| visit(question, expected));
+            of_groups.iter().for_each(|boundaries| boundaries.visit(&mut each));
+        };
         let mut numbers = [0; CALLS.len() + 1];
-        all(&mut |question| numbers[question.number()] += 1);
+        all(&mut |question, _| numbers[question.number()] += 1);
         let mut randoms: Vec<_> = own_randoms(seed, numbers.len()).collect();
-        all(&mut |question| {
+        all(&mut |question, expected| {
             let number = question.number();
             if randoms[number].below(numbers[number]) < BOUNDARIES_OF_CALL {
-                self.add(&question);
+                self.add(&question, &expected);
             }
         });
     }
@@ -138,11 +143,9 @@ impl List {
         let mut stored: BTreeMap<(usize, u32), usize> = BTreeMap::new();
         let tries_of_one = tries / randomly.len();
         for (randomly, mut random) in randomly.iter().zip(own_randoms(seed, randomly.len())) {
-            for _ in 0..tries_of_one {
-                let question = randomly(&mut random, 6);
-                let key = (question.number(), expected(&question).reply.refusal());
-                let stored = stored.entry(key).or_default();
-                if *stored < OF_REFUSAL && self.add(&question).is_some() {
+            for (question, expected) in (0..tries_of_one).flat_map(|_| expected_all(randomly.ask(&mut random, 6))) {
+                let stored = stored.entry((question.number(), expected.reply.refusal())).or_default();
+                if *stored < OF_REFUSAL && self.add(&question, &expected) {
                     *stored += 1;
                 }
             }

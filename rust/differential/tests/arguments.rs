@@ -7,8 +7,8 @@ fn parsed(given: &str) -> Result<Arguments, String> {
 
 #[test]
 fn good_arguments() {
-    let run = parsed("--rounds 7 --seed 9 --only split_storage_removed_bytes --first");
-    assert_eq!(run, Ok(Arguments::Run { rounds: 7, seed: 9, only: Some(Only::Call(14)), first: true }));
+    let run = parsed("--rounds 7 --seed 9 --only split_value_removed_bytes --first");
+    assert_eq!(run, Ok(Arguments::Run { rounds: 7, seed: 9, only: Some(Only::Call(26)), first: true }));
     assert!(matches!(parsed(""), Ok(Arguments::Run { seed: SEED, only: None, first: false, .. })));
     assert!(matches!(parsed("--seed time"), Ok(Arguments::Run { .. })));
     assert!(matches!(parsed("--only histories"), Ok(Arguments::Run { only: Some(Only::Histories), .. })));
@@ -21,4 +21,7 @@ fn bad_arguments() {
     {
         assert!(parsed(given).is_err(), "{given}");
     }
+    // a call that is there no more, by its name and by its empty place
+    assert!(parsed("--only split_storage_removed_bytes").is_err());
+    assert!(parse(&["--only".into(), "".into()]).is_err());
 }

@@ -68,7 +68,7 @@ fn row_room(length: usize) -> Rows {
 }
 
 fn split(records: &[(u16, u32)], value: u32) -> Question {
-    Question::Split(Split { flags: at_five(records), key: 0, value, key_rows: row_room(0), value_rows: row_room(2) })
+    Question::SplitValue(Split { flags: at_five(records), bytes: value, rows: row_room(2) })
 }
 
 fn removing(with: Removal) -> Question {
@@ -82,8 +82,8 @@ fn original_removing(removal: &StorageRemovedBytes) -> Result<StorageFlags, Stor
 
 /// The rows of the value that our split leaves, of one record at 7.
 fn rows_of_split(count: u32, value: u32) -> Vec<(Id, u16, u32)> {
-    let Reply::Split { answer, value, .. } = boundary::ask(&split(&[(7, count)], value)) else { panic!("a split answers a split") };
-    Removal { state: answer.value, rows: value }.rows().collect()
+    let Reply::ValueSplit { answer, rows } = boundary::ask(&split(&[(7, count)], value)) else { panic!("a split answers a split") };
+    Removal { state: answer.removal, rows }.rows().collect()
 }
 
 #[test]

@@ -90,12 +90,12 @@ fn split(counts: &Counts, amount: u32) -> Vec<Option<u32>> {
     let ask = |kind, owner| {
         let room = Rows { ids: vec![ZEROS; records.len() + 1], epochs: vec![0; records.len() + 1], bytes: vec![0; records.len() + 1] };
         let flags = Flags::new(kind, BASE, owner, &records);
-        let question = Question::Split(Split { flags, key: 0, value: amount, key_rows: Rows::default(), value_rows: room });
+        let question = Question::SplitValue(Split { flags, bytes: amount, rows: room });
         let reply = boundary::ask(&question);
         assert_eq!(reply, expected(&question).reply);
-        let Reply::Split { answer, value, .. } = reply else { panic!("a split answers a split") };
+        let Reply::ValueSplit { answer, rows } = reply else { panic!("a split answers a split") };
         assert_eq!(answer.refusal, 0);
-        let removal = Removal { state: answer.value, rows: value };
+        let removal = Removal { state: answer.removal, rows };
         assert!(removal.rows().all(|(id, ..)| id == owner));
         let at = |place| removal.rows().find(|row| row.1 == epoch(place)).map(|row| row.2);
         (0..=counts.len()).map(at).collect::<Vec<_>>()
@@ -177,7 +177,7 @@ fn the_worked_example() {
 #[test]
 fn the_worked_example_merged() {
     let flags = StorageFlags::MultiEpoch(5, [(7, 10), (8, 9), (9, 2)].into());
-    let (_, removed) = flags.split_storage_removed_bytes(0, 10).unwrap();
+    let removed = flags.split_value_removed_bytes(10).unwrap().removal;
     let incoming = StorageFlags::new_single_epoch(9, None);
     let merged = flags.combine_removed_bytes(incoming, &removed, MergingOwnersStrategy::RaiseIssue);
     assert_eq!(merged, Ok(StorageFlags::MultiEpoch(5, [(7, 6)].into())));

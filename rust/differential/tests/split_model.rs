@@ -77,7 +77,7 @@ fn the_model_is_the_original_at_random() {
     let mut random = Random::new(20261117);
     let mut answered = 0;
     for _ in 0..100_000 {
-        let Question::Split(asked) = removals::split(&mut random, 40) else { panic!("a split is asked") };
+        let asked = removals::both(&mut random, 40);
         if model::flags_fault(&asked.flags).is_none() && is_the_original(&asked.flags, asked.value) {
             answered += 1;
         }
@@ -89,14 +89,12 @@ fn the_model_is_the_original_at_random() {
 fn the_library_is_the_model_at_the_top_three() {
     for flags in every_flags() {
         for value in TOP_THREE {
-            let value_rows = Rows { ids: vec![[9; 32]; 4], epochs: vec![9; 4], bytes: vec![9; 4] };
-            let asked = Split { flags: flags.clone(), key: 0, value, key_rows: Rows::default(), value_rows };
-            let Reply::Split { answer, value: rows, .. } = boundary::ask(&Question::Split(asked)) else {
-                panic!("a split answers a split")
-            };
+            let rows = Rows { ids: vec![[9; 32]; 4], epochs: vec![9; 4], bytes: vec![9; 4] };
+            let asked = Question::SplitValue(Split { flags: flags.clone(), bytes: value, rows });
+            let Reply::ValueSplit { answer, rows } = boundary::ask(&asked) else { panic!("a split answers a split") };
             let model = split(&flags, value);
-            assert_eq!((answer.refusal, answer.value), (0, model.state), "{flags:?}, {value} bytes");
-            assert_eq!(rows.first(answer.value.rows).collect::<Vec<_>>(), model.rows().collect::<Vec<_>>(), "{flags:?}, {value} bytes");
+            assert_eq!((answer.refusal, answer.removal), (0, model.state), "{flags:?}, {value} bytes");
+            assert_eq!(rows.first(answer.removal.rows).collect::<Vec<_>>(), model.rows().collect::<Vec<_>>(), "{flags:?}, {value} bytes");
             assert_eq!(answer.visited, flags.head.records, "every record is asked");
         }
     }

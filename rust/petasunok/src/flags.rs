@@ -3,6 +3,8 @@ mod codec;
 mod merging;
 mod wrappers;
 
+pub use merging::ValueSplit;
+
 use crate::lent::{Flags, Head};
 use crate::{EpochMap, StorageFlagsError};
 use std::fmt;
@@ -37,7 +39,7 @@ pub const MINIMUM_NON_BASE_FLAGS_SIZE: u32 = 3;
 /// use petasunok::{MergingOwnersStrategy, StorageFlags};
 ///
 /// let ours = StorageFlags::MultiEpoch(5, [(7, 10), (9, 5)].into());
-/// let (_, removed) = ours.split_storage_removed_bytes(0, 6)?;
+/// let removed = ours.split_value_removed_bytes(6)?.removal;
 /// let incoming = StorageFlags::new_single_epoch(9, None);
 /// let merged = ours.combine_removed_bytes(incoming, &removed, MergingOwnersStrategy::RaiseIssue)?;
 /// assert_eq!(merged, StorageFlags::MultiEpoch(5, [(7, 6)].into()));

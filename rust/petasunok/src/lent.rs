@@ -189,14 +189,12 @@ pub struct TotalsMut<'a> {
     pub totals: &'a mut [u64],
 }
 
-/// What a split answers: a removal for the key's bytes and one for the value's.
+/// What a value split answers.
 #[derive(Clone, Copy, Debug, PartialEq, Eq)]
-pub struct Split {
-    /// The removal of the key's bytes.
-    pub key: Removal,
+pub struct ValueSplit {
     /// The removal of the value's bytes.
-    pub value: Removal,
-    /// How many records were visited for the value's bytes: the number of its rows that are not at the base epoch.
+    pub removal: Removal,
+    /// How many records were visited: the number of the removal's rows that are not at the base epoch.
     pub visited: usize,
 }
 

@@ -17,7 +17,7 @@
 //! assert_eq!(flags, StorageFlags::MultiEpoch(5, [(7, 10), (9, 5)].into()));
 //!
 //! // 6 bytes of the value are removed in epoch 9: from the latest epoch down, and each keeps 3
-//! let (_, removed) = flags.split_storage_removed_bytes(0, 6)?;
+//! let removed = flags.split_value_removed_bytes(6)?.removal;
 //! assert_eq!(removed.total_removed_bytes()?, 6);
 //! let incoming = StorageFlags::new_single_epoch(9, None);
 //! let merged = flags.combine_removed_bytes(incoming, &removed, MergingOwnersStrategy::RaiseIssue)?;
@@ -70,7 +70,9 @@
 //! | errors | carry a text | are [`StorageFlagsError`] alone, each with a number; `TotalTooLarge`, `NoRoom`, `BadTable` and `IndexMismatch` are new, and `RemovalTooLarge` (8) is no longer given |
 //! | flags and rows that are not proper | are taken as they are; `serialize` has debug assertions | are refused with `BadTable` (11) by every call that reads, merges, splits or adds them |
 //! | `serialize`, `serialized_size` and what is built on them | cannot fail | answer a `Result`, for `BadTable` |
-//! | `split_storage_removed_bytes` | overflows for the top three amounts: a debug build panics, a release build takes all from the latest record | splits them as all others, and answers a `Result`, for `BadTable`; a second form also counts the records visited |
+//! | `split_storage_removed_bytes(key, value)` | one call that answers the key's removal and the value's | left out: write [`split_key_removed_bytes(key)?`](StorageFlags::split_key_removed_bytes) for the first, and [`split_value_removed_bytes(value)?.removal`](StorageFlags::split_value_removed_bytes) for the second; an edit needs the second alone |
+//! | splitting a value's bytes | overflows for the top three amounts: a debug build panics, a release build takes all from the latest record | splits them as all others; the answer also says how many records were visited |
+//! | splitting | cannot fail | answers a `Result`, for `BadTable` |
 //! | `total_removed_bytes` | overflows | answers a `Result`, `TotalTooLarge` (9) there |
 //! | `add_assign` | the operator `+=`, with the thread's version | a method with the version as an argument, and a `Result` |
 //! | two sections at fault in one merge | either error | the first by epoch |
@@ -110,8 +112,8 @@ mod totals;
 pub use epoch_map::EpochMap;
 pub use error::StorageFlagsError;
 pub use flags::{
-    BaseEpoch, BytesAddedInEpoch, ElementFlags, EpochIndex, MergingOwnersStrategy, OwnerId, StorageFlags, MINIMUM_NON_BASE_FLAGS_SIZE,
-    SINGLE_EPOCH_FLAGS_SIZE,
+    BaseEpoch, BytesAddedInEpoch, ElementFlags, EpochIndex, MergingOwnersStrategy, OwnerId, StorageFlags, ValueSplit,
+    MINIMUM_NON_BASE_FLAGS_SIZE, SINGLE_EPOCH_FLAGS_SIZE,
 };
 pub use per_epoch::PerEpochByIdentifier;
 pub use removed::{Identifier, StorageRemovedBytes, UNKNOWN_EPOCH};

@@ -56,13 +56,12 @@ pub struct petasunok_sum {
     pub removal: petasunok_removal,
 }
 
-/// The removals of the key's and the value's bytes, and how many records were visited for the value's; or a refusal.
+/// The removal of a value's bytes, and how many records were visited; or a refusal.
 #[repr(C)]
 #[derive(Clone, Copy, Debug, Default, PartialEq, Eq)]
-pub struct petasunok_split {
+pub struct petasunok_value_split {
     pub refusal: u32,
-    pub key: petasunok_removal,
-    pub value: petasunok_removal,
+    pub removal: petasunok_removal,
     pub visited: usize,
 }
 
@@ -156,8 +155,8 @@ declare! {
     petasunok_optional_combine_removed_bytes(
         value present: u8, flags ours, flags theirs, rows removal, value strategy: u8, room epochs: u16, room counts: u32
     ) -> petasunok_flags;
-    petasunok_split_storage_removed_bytes(
-        flags flags, value key: u32, value value: u32, rows_room key_rows, rows_room value_rows) -> petasunok_split;
+    petasunok_split_key_removed_bytes(flags flags, value key: u32, rows_room rows) -> petasunok_sum;
+    petasunok_split_value_removed_bytes(flags flags, value value: u32, rows_room rows) -> petasunok_value_split;
     petasunok_add_assign(value lhs: petasunok_removal, rows_room lhs_rows, rows rhs, value version: u16) -> petasunok_sum;
     petasunok_has_removal(rows removal) -> petasunok_count;
     petasunok_total_removed_bytes(rows removal) -> petasunok_count;

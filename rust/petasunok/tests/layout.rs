@@ -25,7 +25,7 @@ fn structs_are_laid_out_as_in_c() {
     assert_layout!(petasunok_count: 16, 8; refusal 0 4, count 8 8);
     assert_layout!(petasunok_removal: 16, 8; kind 0 1, bytes 4 4, rows 8 8);
     assert_layout!(petasunok_sum: 24, 8; refusal 0 4, removal 8 16);
-    assert_layout!(petasunok_split: 48, 8; refusal 0 4, key 8 16, value 24 16, visited 40 8);
+    assert_layout!(petasunok_value_split: 32, 8; refusal 0 4, removal 8 16, visited 24 8);
     assert_layout!(petasunok_owner: 8, 4; refusal 0 4, which 4 1);
     assert_layout!(petasunok_id: 32, 1; bytes 0 32);
     assert_layout!(petasunok_maybe_owner: 40, 4; refusal 0 4, present 4 1, id 5 32);

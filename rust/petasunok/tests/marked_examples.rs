@@ -5,7 +5,7 @@ use petasunok::MergingOwnersStrategy::RaiseIssue;
 use petasunok::StorageFlags::SingleEpoch;
 use petasunok::StorageFlagsError::*;
 use petasunok::StorageRemovedBytes::{self, *};
-use petasunok::{StorageFlags, StorageRemovalPerEpochByIdentifier};
+use petasunok::{StorageFlags, StorageRemovalPerEpochByIdentifier, ValueSplit};
 
 /// An example of reading: its name, the bytes, and what they say.
 type Reading = (&'static str, &'static [u8], Answer<Option<StorageFlags>>);
@@ -33,10 +33,9 @@ fn p1_to_p9_reading() {
 
 /// A value split, and its merge with incoming flags at 9.
 fn split_and_merged(flags: &StorageFlags, value: u32) -> (StorageRemovedBytes, usize, StorageFlags) {
-    let (key, removed, visited) = both::split_storage_removed_bytes(flags, 0, value, (0, ENOUGH)).unwrap();
-    assert_eq!(key, NoStorageRemoval);
-    let merged = both::combine_removed_bytes(flags, &SingleEpoch(9), &removed, RaiseIssue, ENOUGH).unwrap();
-    (removed, visited, merged)
+    let split = both::split_value_removed_bytes(flags, value, ENOUGH).unwrap();
+    let merged = both::combine_removed_bytes(flags, &SingleEpoch(9), &split.removal, RaiseIssue, ENOUGH).unwrap();
+    (split.removal, split.visited, merged)
 }
 
 #[test]
@@ -79,15 +78,38 @@ fn p14_sums() {
 fn boundaries() {
     assert_eq!(split_and_merged(&records([(7, 4)]), 1).2, SingleEpoch(5));
     assert_eq!(split_and_merged(&records([(7, 5)]), 1).2, records([(7, 4)]));
-    let split = |value| both::split_storage_removed_bytes(&records([(7, 10)]), 0, value, (0, ENOUGH));
-    assert_eq!(
-        split(4_294_967_292),
-        Ok((NoStorageRemoval, sections([(5, 4_294_967_285), (7, 7)]), 1))
-    );
-    assert_eq!(
-        split(4_294_967_293),
-        Ok((NoStorageRemoval, sections([(5, 4_294_967_286), (7, 7)]), 1))
-    );
+    let split = |value| both::split_value_removed_bytes(&records([(7, 10)]), value, ENOUGH);
+    let visiting_one = |removal| Ok(ValueSplit { removal, visited: 1 });
+    assert_eq!(split(4_294_967_292), visiting_one(sections([(5, 4_294_967_285), (7, 7)])));
+    assert_eq!(split(4_294_967_293), visiting_one(sections([(5, 4_294_967_286), (7, 7)])));
+}
+
+/// Request (viii): a key's bytes all stand at the base, under the owner, whatever their number is.
+#[test]
+fn a_key_of_any_size() {
+    for flags in [SingleEpoch(5), records([(7, 1)]), records([(7, 10), (9, u32::MAX)])] {
+        for key in [1, 4_294_967_292, 4_294_967_293, u32::MAX] {
+            let split = |room| both::split_key_removed_bytes(&flags, key, room);
+            assert_eq!(split(1), Ok(sections([(5, key)])), "{flags}, {key} bytes");
+            assert_eq!(split(0), Err(NoRoom), "{flags}, {key} bytes");
+        }
+    }
+    let owned = StorageFlags::MultiEpochOwned(5, [(7, 1)].into(), [1; 32]);
+    let under_owner = SectionedStorageRemoval([([1; 32], 5, 8)].into());
+    assert_eq!(both::split_key_removed_bytes(&owned, 8, 1), Ok(under_owner));
+}
+
+/// Request (viii): no bytes are no removal and need no room, of a key and of a value.
+#[test]
+fn no_bytes() {
+    for flags in [SingleEpoch(5), records([(7, 10), (9, 5)])] {
+        assert_eq!(both::split_key_removed_bytes(&flags, 0, 0), Ok(NoStorageRemoval), "{flags}");
+        let nothing = ValueSplit {
+            removal: NoStorageRemoval,
+            visited: 0,
+        };
+        assert_eq!(both::split_value_removed_bytes(&flags, 0, 0), Ok(nothing), "{flags}");
+    }
 }
 
 /// Request (v): every amount is split by the rule, where the original overflows too.
@@ -109,8 +131,5 @@ fn the_top_three_amounts() {
         (sections([(7, 3), (9, 4_294_967_292)]), 2, records([(7, 7)]))
     );
     // a row less than the split has
-    assert_eq!(
-        both::split_storage_removed_bytes(&records([(7, 1)]), 0, 4_294_967_295, (0, 1)),
-        Err(NoRoom)
-    );
+    assert_eq!(both::split_value_removed_bytes(&records([(7, 1)]), 4_294_967_295, 1), Err(NoRoom));
 }

@@ -68,8 +68,9 @@ fn eight_stays_taken() {
     assert!(refusal.is_some_and(|refusal| refusal.to_string().contains("no longer given")));
     for value in u32::MAX - 4..=u32::MAX {
         for flags in [records([(7, 1)]), records([(7, 10), (9, u32::MAX)]), SingleEpoch(5)] {
+            assert_eq!(number(both::split_key_removed_bytes(&flags, value, 1)), 0, "{flags}, {value} bytes");
             assert_eq!(
-                number(both::split_storage_removed_bytes(&flags, u32::MAX, value, (1, ENOUGH))),
+                number(both::split_value_removed_bytes(&flags, value, ENOUGH)),
                 0,
                 "{flags}, {value} bytes"
             );
@@ -127,7 +128,10 @@ fn bad_tables() {
         assert_eq!(added(&fine, &bad, 1), 11, "{bad}");
         assert_eq!(added(&bad, &fine, 1), 11, "{bad}");
         assert_eq!(removed(&bad, &SingleEpoch(9), &none), 11, "{bad}");
-        assert_eq!(number(both::split_storage_removed_bytes(&bad, 0, 1, (1, ENOUGH))), 11, "{bad}");
+        assert_eq!(number(both::split_key_removed_bytes(&bad, 1, ENOUGH)), 11, "{bad}");
+        assert_eq!(number(both::split_key_removed_bytes(&bad, 0, 0)), 11, "{bad}");
+        assert_eq!(number(both::split_value_removed_bytes(&bad, 1, ENOUGH)), 11, "{bad}");
+        assert_eq!(number(both::split_value_removed_bytes(&bad, 0, 0)), 11, "{bad}");
         assert_eq!(
             number(StorageFlags::optional_combine_added_bytes(None, bad.clone(), 1, RaiseIssue)),
             11,

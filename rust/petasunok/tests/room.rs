@@ -47,9 +47,10 @@ fn merging() {
 #[test]
 fn splitting() {
     let flags = records([(7, 10), (9, 5)]);
-    needs(1, |room| both::split_storage_removed_bytes(&flags, 1, 20, (room, ENOUGH)));
-    needs(3, |room| both::split_storage_removed_bytes(&flags, 1, 20, (ENOUGH, room)));
-    needs(0, |room| both::split_storage_removed_bytes(&flags, 0, 0, (room, room)));
+    needs(1, |room| both::split_key_removed_bytes(&flags, 1, room));
+    needs(0, |room| both::split_key_removed_bytes(&flags, 0, room));
+    needs(3, |room| both::split_value_removed_bytes(&flags, 20, room));
+    needs(0, |room| both::split_value_removed_bytes(&flags, 0, room));
 }
 
 #[test]

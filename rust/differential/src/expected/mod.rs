@@ -9,7 +9,7 @@ mod writing;
 use crate::convert;
 use crate::intended::Intended;
 use crate::placed;
-use crate::question::{Question, Reply};
+use crate::question::{Asked, Question, Reply};
 use crate::repair_model;
 use crate::totals_model;
 use crate::values::Flags;
@@ -54,7 +54,8 @@ pub fn expected(question: &Question) -> Expected {
         Question::CombineOwnerId { ours, theirs, strategy } => merging::combine_owner_id(ours, theirs, *strategy),
         Question::CombineAdded(merge) => merging::combine_added(merge),
         Question::CombineRemoved(merge) => merging::combine_removed(merge),
-        Question::Split(split) => removals::split(split),
+        Question::SplitKey(split) => removals::split_key(split),
+        Question::SplitValue(split) => removals::split_value(split),
         Question::AddAssign { ours, rhs, version } => removals::add_assign(ours, rhs, *version),
         Question::HasRemoval { removal } => removals::has_removal(removal),
         Question::TotalRemovedBytes { removal } => removals::total(removal),
@@ -65,6 +66,17 @@ pub fn expected(question: &Question) -> Expected {
         Question::TypeByte { head } => heads::type_byte(*head),
         Question::Repair { src, lent } => Expected::modelled(placed::repaired(repair_model::repair(src), lent)),
         Question::TotalsReplace(change) => Expected::modelled(placed::totals(totals_model::replace(change), &change.table)),
+    }
+}
+
+/// The calls of what is asked at once, each with what it has to answer.
+pub fn expected_all(asked: Asked) -> Vec<(Question, Expected)> {
+    match asked {
+        Asked::Call(question) => {
+            let expected = expected(&question);
+            vec![(question, expected)]
+        }
+        Asked::Both(both) => both.calls().into_iter().zip(removals::both(&both)).collect(),
     }
 }
 

@@ -4,12 +4,12 @@ use crate::convert;
 use crate::intended::Intended;
 use crate::model;
 use crate::placed;
-use crate::question::Split;
+use crate::question::{Both, Split};
 use crate::split_model;
 use crate::values::*;
 use grovedb_costs::storage_cost::removal::{with_basic_sectioned_removal_addition_version, StorageRemovedBytes};
 
-/// What the original splits from proper flags, of a key and of a value; where it overflows, the value's is the model's.
+/// What the original splits from proper flags, asked once for a key and a value; where it overflows, the value's is the model's.
 pub fn parts(flags: &Flags, key: u32, value: u32) -> (Removal, Removal) {
     let overflows = split_model::overflows(flags, value);
     let (of_key, of_value) = convert::flags(flags).split_storage_removed_bytes(key, if overflows { 0 } else { value });
@@ -17,19 +17,32 @@ pub fn parts(flags: &Flags, key: u32, value: u32) -> (Removal, Removal) {
     (convert::from_removal(&of_key), of_value)
 }
 
-/// Splits a removal. The records visited are the value's sections above the base.
-pub fn split(split: &Split) -> Expected {
-    let Split { flags, key, value, key_rows, value_rows } = split;
+/// Splits a key's bytes and a value's, for which the original is asked once. The records visited are the value's sections above the base.
+pub fn both(both: &Both) -> [Expected; 2] {
+    let Both { flags, key, value, key_rows, value_rows } = both;
     if let Some(fault) = model::flags_fault(flags) {
-        return Expected::added(fault, placed::split(Err(11), key_rows, value_rows));
+        return [placed::sum(Err(11), key_rows), placed::value_split(Err(11), value_rows)].map(|reply| Expected::added(fault, reply));
     }
     let (of_key, of_value) = parts(flags, *key, *value);
     let visited = of_value.rows().filter(|row| row.1 > flags.head.base).count();
-    let reply = placed::split(Ok((of_key, of_value, visited)), key_rows, value_rows);
-    if split_model::overflows(flags, *value) && reply.refusal() == 0 {
-        return Expected::added(Intended::TopThreeAmounts, reply);
-    }
-    Expected::original(reply)
+    let of_value = placed::value_split(Ok((of_value, visited)), value_rows);
+    let top_three = split_model::overflows(flags, *value) && of_value.refusal() == 0;
+    let of_value = if top_three { Expected::added(Intended::TopThreeAmounts, of_value) } else { Expected::original(of_value) };
+    [Expected::original(placed::sum(Ok(of_key), key_rows)), of_value]
+}
+
+/// Splits a key's bytes alone.
+pub fn split_key(split: &Split) -> Expected {
+    let Split { flags, bytes, rows } = split.clone();
+    let [of_key, _] = both(&Both { flags, key: bytes, value: 0, key_rows: rows, value_rows: Rows::default() });
+    of_key
+}
+
+/// Splits a value's bytes alone.
+pub fn split_value(split: &Split) -> Expected {
+    let Split { flags, bytes, rows } = split.clone();
+    let [_, of_value] = both(&Both { flags, key: 0, value: bytes, key_rows: Rows::default(), value_rows: rows });
+    of_value
 }
 
 /// Adds the right removal to the left one, at a version.

@@ -11,54 +11,80 @@ pub mod writing;
 
 use crate::expected::expected;
 use crate::generate::lent;
-use crate::question::{Merge, Question, Reply};
+use crate::question::{Asked, Both, Merge, Question, Reply};
 use crate::random::Random;
 
 /// What is done with each question.
 pub type Visit<'a> = dyn FnMut(Question) + 'a;
 
-/// The boundaries of a group.
-pub type Boundaries = fn(&mut Visit);
+/// The boundaries of a group: questions, or splits of both parts at once.
+pub enum Boundaries {
+    Calls(fn(&mut Visit)),
+    Splits(fn(&mut dyn FnMut(Both))),
+}
 
-/// A random question of one call, with at most so many records or rows on a side.
-pub type Randomly = fn(&mut Random, usize) -> Question;
+/// Random questions of one call, or splits of both parts at once, with at most so many records or rows on a side.
+pub enum Randomly {
+    Call(fn(&mut Random, usize) -> Question),
+    Split(fn(&mut Random, usize) -> Both),
+}
+
+impl Boundaries {
+    /// Visits them one after another.
+    pub fn visit(&self, visit: &mut dyn FnMut(Asked)) {
+        match self {
+            Boundaries::Calls(all) => all(&mut |question| visit(Asked::Call(question))),
+            Boundaries::Splits(all) => all(&mut |both| visit(Asked::Both(both))),
+        }
+    }
+}
+
+impl Randomly {
+    /// One of them.
+    pub fn ask(&self, random: &mut Random, most: usize) -> Asked {
+        match self {
+            Randomly::Call(one) => Asked::Call(one(random, most)),
+            Randomly::Split(one) => Asked::Both(one(random, most)),
+        }
+    }
+}
 
 /// The groups' boundaries. Repairs and totals are asked apart from them and from the random questions, since they have random numbers of
 /// their own.
 pub const BOUNDARIES: [Boundaries; 7] = [
-    reading::boundaries,
-    writing::boundaries,
-    owners::boundaries,
-    merging::boundaries,
-    removals::boundaries,
-    sums::boundaries,
-    heads::boundaries,
+    Boundaries::Calls(reading::boundaries),
+    Boundaries::Calls(writing::boundaries),
+    Boundaries::Calls(owners::boundaries),
+    Boundaries::Calls(merging::boundaries),
+    Boundaries::Splits(removals::boundaries),
+    Boundaries::Calls(sums::boundaries),
+    Boundaries::Calls(heads::boundaries),
 ];
 
 /// The calls' random questions. Calls that matter more, or have more cases, stand here more than once.
 pub const RANDOMLY: [Randomly; 22] = [
-    reading::random,
-    reading::random,
-    reading::random,
-    writing::serialize,
-    writing::serialized_size,
-    writing::approximate_size,
-    owners::random,
-    merging::added,
-    merging::added,
-    merging::added,
-    merging::removed,
-    merging::removed,
-    merging::removed,
-    merging::removed,
-    removals::split,
-    removals::split,
-    removals::split,
-    sums::add_assign,
-    sums::add_assign,
-    sums::has_removal,
-    sums::total,
-    heads::random,
+    Randomly::Call(reading::random),
+    Randomly::Call(reading::random),
+    Randomly::Call(reading::random),
+    Randomly::Call(writing::serialize),
+    Randomly::Call(writing::serialized_size),
+    Randomly::Call(writing::approximate_size),
+    Randomly::Call(owners::random),
+    Randomly::Call(merging::added),
+    Randomly::Call(merging::added),
+    Randomly::Call(merging::added),
+    Randomly::Call(merging::removed),
+    Randomly::Call(merging::removed),
+    Randomly::Call(merging::removed),
+    Randomly::Call(merging::removed),
+    Randomly::Split(removals::both),
+    Randomly::Split(removals::both),
+    Randomly::Split(removals::both),
+    Randomly::Call(sums::add_assign),
+    Randomly::Call(sums::add_assign),
+    Randomly::Call(sums::has_removal),
+    Randomly::Call(sums::total),
+    Randomly::Call(heads::random),
 ];
 
 /// A question whose room is ample, or with room near what the answer needs; the expected answer says that.
@@ -72,10 +98,6 @@ fn fit(random: &mut Random, mut question: Question) -> Question {
         | (Question::CombineAdded(Merge { lent, .. }), Reply::Flags { answer, .. })
         | (Question::CombineRemoved(Merge { lent, .. }), Reply::Flags { answer, .. }) => *lent = lent::tables(random, answer.head.records),
         (Question::Serialize { out, .. }, Reply::Written { answer, .. }) => *out = lent::bytes(random, answer.count as usize),
-        (Question::Split(split), Reply::Split { answer, .. }) => {
-            split.key_rows = lent::rows(random, answer.key.rows);
-            split.value_rows = lent::rows(random, answer.value.rows);
-        }
         (Question::Repair { lent, .. }, Reply::Repaired { answer, .. }) => *lent = lent::repaired(random, answer.bytes, answer.lines),
         _ => {}
     }

@@ -1,12 +1,12 @@
 //! Splitting.
-use super::{fit, Visit};
+use crate::expected::removals::both as expected_both;
 use crate::generate::{flags, lent, numbers};
-use crate::question::{Question, Split};
+use crate::question::{Both, Reply};
 use crate::random::Random;
 use crate::values::*;
 
 /// Counts of one, two and three records with amounts; key bytes; every room.
-pub fn boundaries(visit: &mut Visit) {
+pub fn boundaries(visit: &mut dyn FnMut(Both)) {
     for (count, value) in numbers::COUNTS.into_iter().flat_map(|count| numbers::COUNTS.map(|value| (count, value))) {
         for kind in 0..5 {
             for key in [0, 1, u32::MAX] {
@@ -32,26 +32,26 @@ fn room(ids: usize, epochs: usize, bytes: usize) -> Rows {
 }
 
 /// A split with ample room.
-fn ask(flags: Flags, key: u32, value: u32, visit: &mut Visit) {
-    visit(Question::Split(Split { flags, key, value, key_rows: room(2, 2, 2), value_rows: room(5, 5, 5) }));
+fn ask(flags: Flags, key: u32, value: u32, visit: &mut dyn FnMut(Both)) {
+    visit(Both { flags, key, value, key_rows: room(2, 2, 2), value_rows: room(5, 5, 5) });
 }
 
 /// Every room up to what is needed and one more.
-fn rooms(visit: &mut Visit) {
+fn rooms(visit: &mut dyn FnMut(Both)) {
     for (ids, epochs, bytes) in (0..64).map(|n| (n / 16, n / 4 % 4, n % 4)) {
         for (key_room, value) in [(0, 1), (1, 1), (2, 1), (0, 100), (1, 100), (1, 0)] {
             for key in [0, 3] {
                 let flags = Flags::new(3, 5, [9; 32], &[(7, 10), (8, 10)]);
                 let (key_rows, value_rows) = (room(key_room, key_room, key_room), room(ids, epochs, bytes));
-                visit(Question::Split(Split { flags: flags.clone(), key, value, key_rows, value_rows: value_rows.clone() }));
-                visit(Question::Split(Split { flags, key, value, key_rows: value_rows, value_rows: room(3, 3, 3) }));
+                visit(Both { flags: flags.clone(), key, value, key_rows, value_rows: value_rows.clone() });
+                visit(Both { flags, key, value, key_rows: value_rows, value_rows: room(3, 3, 3) });
             }
         }
     }
 }
 
-/// A random split; its amount is often near what some of the latest records give.
-pub fn split(random: &mut Random, most: usize) -> Question {
+/// A random split of both parts; the value's amount is often near what some of the latest records give.
+pub fn both(random: &mut Random, most: usize) -> Both {
     let flags = flags::any(random, most);
     let latest = random.below(flags.head.records.min(most) + 1);
     let given: u64 = flags.records().rev().take(latest).map(|record| u64::from(record.1.saturating_sub(3))).sum();
@@ -61,5 +61,20 @@ pub fn split(random: &mut Random, most: usize) -> Question {
     };
     let key = if random.one_in(2) { 0 } else { numbers::count(random) };
     let value_rows = lent::exact_rows(random, flags.tables.room() + 1);
-    fit(random, Question::Split(Split { flags, key, value, key_rows: room(1, 2, 1), value_rows }))
+    fit(random, Both { flags, key, value, key_rows: room(1, 2, 1), value_rows })
+}
+
+/// Splits whose room is ample, or near what the answers need.
+fn fit(random: &mut Random, mut both: Both) -> Both {
+    if random.one_in(2) {
+        return both;
+    }
+    let [key, value] = expected_both(&both).map(|expected| match expected.reply {
+        Reply::Sum { answer, .. } => answer.removal.rows,
+        Reply::ValueSplit { answer, .. } => answer.removal.rows,
+        _ => 0,
+    });
+    both.key_rows = lent::rows(random, key);
+    both.value_rows = lent::rows(random, value);
+    both
 }

@@ -1,4 +1,4 @@
-//! The merges, and splitting a removal.
+//! The merges, and splitting removals.
 use super::{MergingOwnersStrategy, StorageFlags};
 use crate::lent::{self, Flags};
 use crate::{StorageFlagsError, StorageRemovalPerEpochByIdentifier, StorageRemovedBytes};
@@ -83,50 +83,53 @@ impl StorageFlags {
         })
     }
 
-    /// split_storage_removed_bytes removes bytes as LIFO: the key's at the base epoch, the value's from the latest record down. It answers
-    /// the key's removal and the value's. No other division of the value's bytes is "latest first, three kept"
-    /// (`docs/DIVISION.md` in the repository). Every amount is split. Refusal: 11.
+    /// Splits a removal of a key's bytes, as a deletion makes it: they are all taken at the base epoch, whatever their number is, and no
+    /// bytes are no removal. Refusal: 11.
     ///
     /// ```
     /// use petasunok::{StorageFlags, StorageRemovedBytes::*};
     ///
     /// let flags = StorageFlags::MultiEpoch(5, [(7, 10), (9, 5)].into());
-    /// let (key, value) = flags.split_storage_removed_bytes(1, 20)?;
-    /// assert_eq!(key, SectionedStorageRemoval([([0; 32], 5, 1)].into()));
-    /// assert_eq!(value, SectionedStorageRemoval([([0; 32], 5, 11), ([0; 32], 7, 7), ([0; 32], 9, 2)].into()));
+    /// assert_eq!(flags.split_key_removed_bytes(8)?, SectionedStorageRemoval([([0; 32], 5, 8)].into()));
+    /// assert_eq!(flags.split_key_removed_bytes(0)?, NoStorageRemoval);
     /// # Ok::<(), petasunok::StorageFlagsError>(())
     /// ```
-    pub fn split_storage_removed_bytes(
-        &self,
-        removed_key_bytes: u32,
-        removed_value_bytes: u32,
-    ) -> Result<(StorageRemovedBytes, StorageRemovedBytes), StorageFlagsError> {
-        let (key, value, _) = self.split_storage_removed_bytes_visited(removed_key_bytes, removed_value_bytes)?;
-        Ok((key, value))
+    pub fn split_key_removed_bytes(&self, removed_key_bytes: u32) -> Result<StorageRemovedBytes, StorageFlagsError> {
+        let mut rows = StorageRemovalPerEpochByIdentifier::with_room(1);
+        let removal = lent::split_key_removed_bytes(self.as_lent(), removed_key_bytes, rows.lend())?;
+        Ok(StorageRemovedBytes::from_answer(removal, rows))
     }
 
-    /// [`split_storage_removed_bytes`](Self::split_storage_removed_bytes), and how many records were visited: the number of the value's
-    /// sections that are not at the base epoch.
+    /// Splits a removal of a value's bytes as LIFO: from the latest record down, each of which keeps 3, or all it has where that is less,
+    /// and the rest at the base epoch; no bytes are no removal. No other division is "latest first, three kept" (`docs/DIVISION.md` in the
+    /// repository). Every amount is split. The answer also says how many records were visited. Refusal: 11.
     ///
     /// ```
-    /// use petasunok::StorageFlags;
+    /// use petasunok::{StorageFlags, StorageRemovedBytes::*};
     ///
     /// let flags = StorageFlags::MultiEpoch(5, [(7, 10), (9, 5)].into());
-    /// let (_, value, visited) = flags.split_storage_removed_bytes_visited(0, 6)?;
-    /// assert_eq!((value.total_removed_bytes()?, visited), (6, 2));
+    /// let split = flags.split_value_removed_bytes(20)?;
+    /// assert_eq!(split.removal, SectionedStorageRemoval([([0; 32], 5, 11), ([0; 32], 7, 7), ([0; 32], 9, 2)].into()));
+    /// assert_eq!(split.visited, 2);
     /// # Ok::<(), petasunok::StorageFlagsError>(())
     /// ```
-    pub fn split_storage_removed_bytes_visited(
-        &self,
-        removed_key_bytes: u32,
-        removed_value_bytes: u32,
-    ) -> Result<(StorageRemovedBytes, StorageRemovedBytes, usize), StorageFlagsError> {
-        let mut key = StorageRemovalPerEpochByIdentifier::with_room(1);
-        let mut value = StorageRemovalPerEpochByIdentifier::with_room(self.records() + 1);
-        let split = lent::split_storage_removed_bytes(self.as_lent(), removed_key_bytes, removed_value_bytes, key.lend(), value.lend())?;
-        let key = StorageRemovedBytes::from_answer(split.key, key);
-        Ok((key, StorageRemovedBytes::from_answer(split.value, value), split.visited))
+    pub fn split_value_removed_bytes(&self, removed_value_bytes: u32) -> Result<ValueSplit, StorageFlagsError> {
+        let mut rows = StorageRemovalPerEpochByIdentifier::with_room(self.records() + 1);
+        let split = lent::split_value_removed_bytes(self.as_lent(), removed_value_bytes, rows.lend())?;
+        Ok(ValueSplit {
+            removal: StorageRemovedBytes::from_answer(split.removal, rows),
+            visited: split.visited,
+        })
     }
+}
+
+/// What [`StorageFlags::split_value_removed_bytes`] answers.
+#[derive(Clone, Debug, PartialEq, Eq)]
+pub struct ValueSplit {
+    /// The removal of the value's bytes, which [`StorageFlags::combine_removed_bytes`] takes.
+    pub removal: StorageRemovedBytes,
+    /// How many records were visited: the number of the removal's sections that are not at the base epoch.
+    pub visited: usize,
 }
 
 /// The records of flags that may be absent.

@@ -1,36 +1,47 @@
-//! Splitting a removal, and sums of removals.
-use super::{answered, Flags, Removal, Rows, RowsMut, Split};
+//! Splitting removals, and sums of removals.
+use super::{answered, Flags, Removal, Rows, RowsMut, ValueSplit};
 use crate::StorageFlagsError;
 
-/// Splits a removal: the key's bytes are taken at the base, the value's from the latest record down. Refusals: 11, 10.
+/// Splits a removal of a key's bytes, which are taken at the base whatever their number is. Refusals: 11, 10.
+///
+/// One row is room enough, and no bytes are no removal.
+///
+/// ```
+/// use petasunok::lent::{self, Flags, Head, Removal, RowsMut};
+///
+/// let flags = Flags::of(Head { base: 5, ..Head::default() });
+/// let (mut ids, mut epochs, mut bytes) = ([[1; 32]], [0], [0]);
+/// let rows = RowsMut { ids: &mut ids, epochs: &mut epochs, bytes: &mut bytes };
+/// assert_eq!(lent::split_key_removed_bytes(flags, 8, rows), Ok(Removal::sectioned(1)));
+/// assert_eq!((ids, epochs, bytes), ([[0; 32]], [5], [8]));
+/// ```
+pub fn split_key_removed_bytes(flags: Flags, removed_key_bytes: u32, rows: RowsMut) -> Result<Removal, StorageFlagsError> {
+    let answer = call!(petasunok_split_key_removed_bytes(flags flags, value removed_key_bytes, rows_room rows));
+    answered(answer.refusal, answer.removal)
+}
+
+/// Splits a removal of a value's bytes: from the latest record down, and the rest at the base. Refusals: 11, 10.
+///
+/// One row more than there are records is room enough, and no bytes are no removal.
 ///
 /// ```
 /// use petasunok::lent::{self, Flags, Head, Removal, RowsMut};
 ///
 /// let head = Head { kind: Head::MULTI_EPOCH, base: 5, records: 2, ..Head::default() };
 /// let flags = Flags { head, epochs: &[7, 9], counts: &[10, 5] };
-/// let key = RowsMut { ids: &mut [], epochs: &mut [], bytes: &mut [] };
 /// let (mut ids, mut epochs, mut bytes) = ([[1; 32]; 3], [0; 3], [0; 3]);
-/// let value = RowsMut { ids: &mut ids, epochs: &mut epochs, bytes: &mut bytes };
-/// let split = lent::split_storage_removed_bytes(flags, 0, 6, key, value)?;
-/// assert_eq!((split.key, split.value, split.visited), (Removal::NONE, Removal::sectioned(2), 2));
+/// let rows = RowsMut { ids: &mut ids, epochs: &mut epochs, bytes: &mut bytes };
+/// let split = lent::split_value_removed_bytes(flags, 6, rows)?;
+/// assert_eq!((split.removal, split.visited), (Removal::sectioned(2), 2));
 /// assert_eq!((ids[..2] == [[0; 32]; 2], epochs, bytes), (true, [7, 9, 0], [4, 2, 0]));
 /// # Ok::<(), petasunok::StorageFlagsError>(())
 /// ```
-pub fn split_storage_removed_bytes(
-    flags: Flags,
-    removed_key_bytes: u32,
-    removed_value_bytes: u32,
-    key: RowsMut,
-    value: RowsMut,
-) -> Result<Split, StorageFlagsError> {
-    let answer = call!(petasunok_split_storage_removed_bytes(
-        flags flags, value removed_key_bytes, value removed_value_bytes, rows_room key, rows_room value));
+pub fn split_value_removed_bytes(flags: Flags, removed_value_bytes: u32, rows: RowsMut) -> Result<ValueSplit, StorageFlagsError> {
+    let answer = call!(petasunok_split_value_removed_bytes(flags flags, value removed_value_bytes, rows_room rows));
     answered(
         answer.refusal,
-        Split {
-            key: answer.key,
-            value: answer.value,
+        ValueSplit {
+            removal: answer.removal,
             visited: answer.visited,
         },
     )

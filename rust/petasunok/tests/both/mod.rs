@@ -173,19 +173,20 @@ pub fn combine_removed_bytes(
     agreed(owned, tables.answer(answer.map(Some)).map(Option::unwrap))
 }
 
-/// The key's removal, the value's, and the number of records visited.
-pub type Splitting = (StorageRemovedBytes, StorageRemovedBytes, usize);
-
-pub fn split_storage_removed_bytes(flags: &StorageFlags, key: u32, value: u32, rooms: (usize, usize)) -> Answer<Splitting> {
-    let before = (Rows::marked(rooms.0), Rows::marked(rooms.1));
+pub fn split_key_removed_bytes(flags: &StorageFlags, key: u32, room: usize) -> Answer<StorageRemovedBytes> {
+    let before = Rows::marked(room);
     let mut rows = before.clone();
-    let answer = lent::split_storage_removed_bytes(flags.as_lent(), key, value, rows.0.lend(), rows.1.lend());
-    let keys = rows.0.answer(&before.0, answer.map(|split| split.key));
-    let values = rows.1.answer(&before.1, answer.map(|split| split.value));
-    agreed(
-        flags.split_storage_removed_bytes_visited(key, value),
-        answer.and_then(|split| Ok((keys?, values?, split.visited))),
-    )
+    let answer = lent::split_key_removed_bytes(flags.as_lent(), key, rows.lend());
+    agreed(flags.split_key_removed_bytes(key), rows.answer(&before, answer))
+}
+
+pub fn split_value_removed_bytes(flags: &StorageFlags, value: u32, room: usize) -> Answer<ValueSplit> {
+    let before = Rows::marked(room);
+    let mut rows = before.clone();
+    let answer = lent::split_value_removed_bytes(flags.as_lent(), value, rows.lend());
+    let removal = rows.answer(&before, answer.map(|split| split.removal));
+    let visited = |removal| answer.map(|lent::ValueSplit { visited, .. }| ValueSplit { removal, visited });
+    agreed(flags.split_value_removed_bytes(value), removal.and_then(visited))
 }
 
 pub fn add_assign(left: &StorageRemovedBytes, right: &StorageRemovedBytes, version: u16, room: usize) -> Answer<StorageRemovedBytes> {
