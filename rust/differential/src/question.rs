@@ -65,8 +65,10 @@ pub const CALLS: [&str; 26] = [
     "split_value_removed_bytes",
 ];
 
-/// The number of the change of totals.
+/// The numbers of the change of totals and of the two splits.
 pub const TOTALS_REPLACE: usize = 24;
+pub const SPLIT_KEY: usize = 25;
+pub const SPLIT_VALUE: usize = 26;
 
 /// The calls that the original does not have. They are compared with a model.
 pub const MODELLED: [&str; 2] = ["repair", "totals_replace"];
@@ -216,8 +218,8 @@ impl Question {
             Question::TypeByte { .. } => 22,
             Question::Repair { .. } => 23,
             Question::TotalsReplace(_) => TOTALS_REPLACE,
-            Question::SplitKey(_) => 25,
-            Question::SplitValue(_) => 26,
+            Question::SplitKey(_) => SPLIT_KEY,
+            Question::SplitValue(_) => SPLIT_VALUE,
         }
     }
 

@@ -5,7 +5,7 @@ use crate::expected::{expected, expected_all, Expected};
 use crate::intended::INTENDED;
 use crate::owned;
 use crate::progress::Progress;
-use crate::question::{Asked, Change, Question, Reply, CALLS};
+use crate::question::{Asked, Change, Question, Reply, CALLS, SPLIT_KEY, SPLIT_VALUE};
 use crate::values::{petasunok_count, Rows};
 
 /// The largest number of a refusal.
@@ -81,16 +81,11 @@ impl Run {
         self.tallies.iter().map(|tally| tally.compared).sum()
     }
 
-    /// Compares one question, if its call is asked for.
-    pub fn compare(&mut self, question: Question) {
-        self.compare_asked(Asked::Call(question));
-    }
-
-    /// Compares the calls of what is asked at once, of which the original is asked once too; those that are asked for.
-    pub fn compare_asked(&mut self, asked: Asked) {
+    /// Compares what is asked at once, as far as its calls are asked for. The original is asked once.
+    pub fn compare(&mut self, asked: Asked) {
         let wanted = match &asked {
             Asked::Call(question) => self.wants(question.number()),
-            Asked::Both(both) => both.calls().iter().any(|call| self.wants(call.number())),
+            Asked::Both(_) => self.wants(SPLIT_KEY) || self.wants(SPLIT_VALUE),
         };
         if !wanted {
             return;

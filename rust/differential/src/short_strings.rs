@@ -3,7 +3,7 @@
 use crate::convert;
 use crate::expected::reading::original;
 use crate::groups::reading;
-use crate::question::{Question, Reader, READERS};
+use crate::question::{Asked, Question, Reader, READERS};
 use crate::run::Run;
 use crate::values::*;
 use petasunok::sys;
@@ -36,7 +36,7 @@ fn one(run: &mut Run, reader: Reader, src: &[u8]) {
         run.agreed(reader.number(), expected.refusal);
     } else {
         let lent = Tables { epochs: vec![JUNK.0], counts: vec![JUNK.1] };
-        run.compare(Question::Read { reader, src: src.to_vec(), lent });
+        run.compare(Asked::Call(Question::Read { reader, src: src.to_vec(), lent }));
     }
 }
 

@@ -1,9 +1,9 @@
 //! The stages of a run: the marked examples, boundaries, random rounds with histories, and short strings.
 use crate::edges;
-use crate::groups::{repairing, totals as of_totals, BOUNDARIES, RANDOMLY};
+use crate::groups::{repairing, totals as of_totals, Boundaries, BOUNDARIES, RANDOMLY};
 use crate::histories;
 use crate::marked;
-use crate::question::TOTALS_REPLACE;
+use crate::question::{Asked, TOTALS_REPLACE};
 use crate::random::Random;
 use crate::repairs;
 use crate::run::Run;
@@ -32,13 +32,11 @@ const HISTORY_OF_MANY: u64 = 4_096;
 /// All stages.
 pub fn all(run: &mut Run, rounds: u64, seed: u64) {
     run.progress.stage("boundaries".into());
-    let of_repairs = [repairs::questions, repairing::boundaries, repairing::short_strings];
-    let of_totals = [totals::questions, of_totals::boundaries];
-    for questions in [marked::questions, edges::questions].into_iter().chain(of_repairs).chain(of_totals) {
-        questions(&mut |question| run.compare(question));
-    }
-    for boundaries in BOUNDARIES {
-        boundaries.visit(&mut |asked| run.compare_asked(asked));
+    let examples = [marked::questions, edges::questions].map(Boundaries::Calls);
+    let of_repairs = [repairs::questions, repairing::boundaries, repairing::short_strings].map(Boundaries::Calls);
+    let of_totals = [totals::questions, of_totals::boundaries].map(Boundaries::Calls);
+    for boundaries in examples.into_iter().chain(BOUNDARIES).chain(of_repairs).chain(of_totals) {
+        boundaries.visit(&mut |asked| run.compare(asked));
     }
     random_rounds(run, rounds, seed);
     short_strings::all(run);
@@ -54,11 +52,11 @@ fn random_rounds(run: &mut Run, rounds: u64, seed: u64) {
         run.progress.stage(format!("round {} of {rounds}", round + 1));
         let most = if round % LONG == 0 { MOST_OF_LONG } else { MOST };
         for randomly in RANDOMLY {
-            run.compare_asked(randomly.ask(&mut random, most));
+            run.compare(randomly.ask(&mut random, most));
         }
-        run.compare(repairing::random(&mut random_of_repairs, most));
+        run.compare(Asked::Call(repairing::random(&mut random_of_repairs, most)));
         for _ in 0..CHANGES {
-            run.compare(of_totals::random(&mut random_of_totals, most));
+            run.compare(Asked::Call(of_totals::random(&mut random_of_totals, most)));
         }
         if round % HISTORY == 0 && run.has_histories() {
             histories::history(run, &mut random, MOST / 4);
