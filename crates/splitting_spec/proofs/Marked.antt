@@ -8,14 +8,14 @@ use mathlib.Core.List.{List, [], _∷_, map}
 use lib.ListN.{length, replicate}
 use Rattle.records_spec.specs.Tables.{At, _⦂_, recordsOf, epochsOf, countsOf, ascending}
 use Rattle.records_spec.specs.Flags.{idOf, headFor, proper}
+use Rattle.records_spec.specs.Answers.{ok}
 use Rattle.records_spec.specs.declared.head.Head.{Head}
 use Rattle.rows_spec.specs.Rows.{Tables, tables, idsOf, partsOf, rowsUnder, overRows}
 use Rattle.rows_spec.specs.Outcomes.{After as AfterRemoval, kept, placing}
 use Rattle.rows_spec.specs.declared.removed.Removed.{Removed}
 use Rattle.rows_spec.specs.declared.removed.Removed.the-variants.{None, Sectioned}
-use Rattle.rows_spec.proofs.Outcomes.{done}
 use Rattle.splitting_spec.specs.Sections.{spare, section, sections, split, fromLatest}
-use Rattle.splitting_spec.specs.Calls.{After, kept as keptValue, visiting, splitKey, splitValue}
+use Rattle.splitting_spec.specs.Calls.{After, kept as keptValue, splitKey, splitValue}
 
 -- an owner or none, records, bytes, lent tables, and what is left
 pub record Example (Left : Type 0) : Type 0 where
@@ -44,11 +44,11 @@ state (s ∷ ss) = Sectioned (length (s ∷ ss))
 
 -- the answer of the key's call: sections
 abbrev parts : Option (List ℕ) → List At → Tables → AfterRemoval
-parts o ss t = done (state ss) (overRows (rowsUnder (idOf o) ss) t)
+parts o ss t = record { answer = ok (state ss); rows = overRows (rowsUnder (idOf o) ss) t }
 
 -- the answer of the value's call: sections, and the number visited
 abbrev visits : Option (List ℕ) → List At → ℕ → Tables → After
-visits o ss v t = visiting v (parts o ss t)
+visits o ss v t = record { answer = ok (record { removal = state ss; visited = v }); rows = overRows (rowsUnder (idOf o) ss) t }
 
 -- an owner
 abbrev someone : Option (List ℕ)
