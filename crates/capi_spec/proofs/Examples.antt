@@ -2,7 +2,6 @@
 -- Assumes nothing.
 use Prim.Native.Nat.{ℕ}
 use mathlib.Core.Path.{_≡_, refl}
-use mathlib.Core.Bool.{true, false}
 use mathlib.Core.List.{List, [], _∷_, _++_}
 use lib.ListN.{replicate}
 use Rattle.fields_spec.specs.Big.{big, saidAfter}
@@ -32,7 +31,7 @@ use Rattle.totals_spec.specs.Calls.{placing as placingTotals, properTable, repl
 use Rattle.totals_index_spec.specs.Structs.{ownersOf, epochsOf as epochsIn, totalsOf, structs}
 use Rattle.totals_index_spec.specs.Calls.{verdict, placing as placingStructs, replacingStructs}
 use Rattle.totals_index_spec.specs.declared.structs.Total.{Total}
-use Rattle.capi_spec.specs.Told.{FlagsLeft, flagsLeft, flagsTold, headAnswer, countTold, truthTold, bytesLeft, bytesTold, ownerTold, ownerIdTold, sumLeft, sumTold, splitLeft, splitTold, totalsLeft, totalsTold, structsLeft, structsTold, repairAnswer}
+use Rattle.capi_spec.specs.Told.{flagsLeft, flagsTold, headAnswer, countTold, truthTold, bytesLeft, bytesTold, ownerTold, ownerIdTold, sumLeft, sumTold, splitLeft, splitTold, totalsLeft, totalsTold, structsLeft, structsTold, repairAnswer}
 use Rattle.capi_spec.specs.Calls.{serializedC, sizeC, ownerC, combinedAddedC, optionalCombinedAddedC, combinedRemovedC, optionalCombinedRemovedC, splitKeyC, splitValueC, summedC, hasRemovalC, totalRemovedC, totalsReplacedC, structsReplacedC, withOwnerC, baseC, ownerIdC, typeByteC}
 use Rattle.capi_spec.specs.declared.types.CHead.{CHead}
 use Rattle.capi_spec.specs.declared.types.CFlags.{CFlags}

@@ -8,7 +8,7 @@ use mathlib.Core.List.{List}
 use Prim.Native.Nat.{ℕ}
 use native.Mathlib.Omega.{arith}
 use lib.ListN.{length}
-use Rattle.records_spec.specs.Answers.{Answer, ok, refused}
+use Rattle.records_spec.specs.Answers.{ok, refused}
 use Rattle.records_spec.proofs.Answers.{refused-not-ok}
 use Rattle.rows_spec.specs.Rows.{Row, ascends, Tables, rowsIn, roomIn, overRows, Room}
 use Rattle.rows_spec.specs.Removals.{Removal, nothing, basic, sectioned, removalOf, proper, rowsOfRemoval, stateOf}

@@ -1,13 +1,12 @@
 -- The two calls by their tests, one law for each way out of the code.
 -- Assumes nothing.
-use mathlib.Core.Path.{_≡_, refl, sym, ap, subst, _∙_}
+use mathlib.Core.Path.{_≡_, sym, ap, subst, _∙_}
 use mathlib.Core.Bool.{true, false}
-use mathlib.Core.List.{List, [], _∷_}
+use mathlib.Core.List.{List}
 use Prim.Native.Nat.{ℕ, _+_, _<_}
 use lib.ListN.{length}
 use Rattle.records_spec.specs.Tables.{At}
 use Rattle.records_spec.specs.Flags.{idOf, ownerOf, flagsOf, proper}
-use Rattle.records_spec.specs.Answers.{ok}
 use Rattle.records_spec.specs.declared.head.Head.{Head}
 use Rattle.rows_spec.specs.Rows.{row, Tables, roomIn, setRow, Room}
 use Rattle.rows_spec.specs.Removals.{Removal, rowsOfRemoval}
@@ -18,7 +17,7 @@ use Rattle.rows_spec.proofs.Rows.{room-in}
 use Rattle.rows_spec.proofs.Outcomes.{done, placing-room, placing-none, placing-nothing}
 use Rattle.splitting_spec.specs.Sections.{sections, split}
 use Rattle.splitting_spec.specs.Visits.{visits, rowsAtBase}
-use Rattle.splitting_spec.specs.Calls.{keyPart, valuePart, PlacedRemoval, After, kept as keptValue, visiting, splitKey, splitValue}
+use Rattle.splitting_spec.specs.Calls.{keyPart, valuePart, PlacedRemoval, kept as keptValue, visiting, splitKey, splitValue}
 use Rattle.splitting_spec.specs.declared.giving.Visited.{Visited}
 use Rattle.splitting_spec.proofs.Counting.{base-some, split-long, key-rows, value-rows}
 use Rattle.splitting_spec.proofs.Placing.{removal-none, single-placed}

@@ -14,9 +14,7 @@ use Rattle.rows_spec.proofs.Columns.{over-nothing}
 use Rattle.rows_spec.proofs.Backing.{Backing, backing-start, backing-room, backing-step, backing-done}
 use Rattle.rows_spec.proofs.Under.{under-none, under-one, under-last, length-under}
 use Rattle.splitting_spec.specs.Sections.{minimum, split}
-use Rattle.splitting_spec.specs.Visits.{rowsAtBase}
 use Rattle.splitting_spec.specs.Calls.{removalUnder, keyPart, valuePart, PlacedRemoval}
-use Rattle.splitting_spec.proofs.Counting.{base-some}
 use Rattle.splitting_spec.proofs.Sections.{section-one, split-none, split-base, split-next, first-all}
 
 -- ---- removals
@@ -43,10 +41,6 @@ module _ (i : List ℕ) (n : ℕ) (ss : List At) (t : Tables) where
       }
 
 -- ---- one row at the base
-
--- bytes at the base have room for their row
-pub base-row : (n : ℕ) {t : Tables} → Room (rowsAtBase n) t → 0 < n → Room 1 t
-base-row n {t} r h = subst (λ (m : ℕ). Room m t) (base-some n h) r
 
 pub single-placed : (i : List ℕ) (base n : ℕ) (t : Tables) {t′ : Tables} → 0 < n → Room 1 t → t′ ≡ setRow t 0 (row i base n)
     → PlacedRemoval (keyPart i base n) (Sectioned 1) t t′

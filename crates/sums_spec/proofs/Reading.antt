@@ -1,14 +1,12 @@
 -- What an accepted `add_assign` leaves reads back as the sum, and is proper again.
 -- Assumes nothing.
-use mathlib.Core.Path.{_≡_, refl, sym, ap, _∙_}
+use mathlib.Core.Path.{_≡_}
 use mathlib.Core.Bool.{Bool, true, false, cond, _&&_, and-eq-true-iff}
 use mathlib.Core.List.{List, [], _∷_}
 use Prim.Native.Nat.{ℕ}
-use lib.ListN.{length}
-use Rattle.records_spec.specs.Answers.{Answer, ok}
-use Rattle.records_spec.proofs.Answers.{refused-not-ok}
-use Rattle.rows_spec.specs.Rows.{Row, ascends, Tables, roomIn, overRows}
-use Rattle.rows_spec.specs.Removals.{Removal, nothing, basic, sectioned, removalOf, proper, rowsOfRemoval, stateOf}
+use Rattle.records_spec.specs.Answers.{ok}
+use Rattle.rows_spec.specs.Rows.{Row, ascends, Tables}
+use Rattle.rows_spec.specs.Removals.{Removal, nothing, basic, sectioned, removalOf, proper, rowsOfRemoval}
 use Rattle.rows_spec.specs.Outcomes.{After}
 use Rattle.rows_spec.specs.declared.removed.Removed.{Removed}
 use Rattle.rows_spec.specs.declared.removed.Removed.the-variants.{None, Basic, Sectioned}
