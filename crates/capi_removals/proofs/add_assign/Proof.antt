@@ -10,12 +10,15 @@ use Rattle.capi_removals.proofs.add_assign.Tie as tie
 returns : tie.Need-returns
 returns c =
     let at-call = c .before .before .before .before .before .before in
-    let at-if1 = at-call .before .before .before .before .before .before in
+    let at-removal = at-call .before .before .before .before .before in
+    let at-if1 = at-removal .before in
     sum-told _ (at-call .add-assign .result) _ _ (c .sum .ensures)
-    (when-true _ _ _ (sym (at-if1 .before .can-sum .ensures) ∙ at-if1 .if1 .taken) (at-call .add-assign .ensures ∙ simp (at-call .before .before .before .before .before .removal .ensures, at-call .before .removal2 .ensures)))
+    (when-true _ _ _ (sym (at-if1 .before .can-sum .ensures) ∙ at-if1 .if1 .taken)
+    (at-call .add-assign .ensures ∙ simp (at-removal .removal .ensures, at-call .before .removal2 .ensures)))
 
 returns-2 : tie.Need-returns-2
-returns-2 c = sum-told _ (Refused BadTable) _ _ (c .sum2 .ensures) (when-false _ _ _ (sym (c .before .before .can-sum .ensures) ∙ c .before .if1 .left) refl)
+returns-2 c = sum-told _ (Refused BadTable) _ _ (c .sum2 .ensures)
+    (when-false _ _ _ (sym (c .before .before .can-sum .ensures) ∙ c .before .if1 .left) refl)
 
 pub add-assign-spec : {M : Type 1} → statement M
 add-assign-spec =

@@ -10,6 +10,9 @@ pub has-removal-spec : {M : Type 1} → statement M
 has-removal-spec =
     tie.close
     (tie.spec (λ c κs. search needs) (λ c κs. search needs) (λ c κs. search needs) (λ c κs. search needs)
-    (λ c. c .has .ensures ∙ ap truthTold (when-true _ _ _ (sym (c .before .before .before .before .is-removal .ensures) ∙ c .before .before .before .if1 .taken) (c .before .has-removal .ensures ∙ simp (c .before .before .removal .ensures))))
+    (λ c.
+    let at-is-removal = c .before .before .before .before in
+    c .has .ensures ∙ ap truthTold (when-true _ _ _ (sym (at-is-removal .is-removal .ensures) ∙ c .before .before .before .if1 .taken)
+    (c .before .has-removal .ensures ∙ simp (c .before .before .removal .ensures))))
     (λ c κs. search needs)
     (λ c. c .has2 .ensures ∙ ap truthTold (when-false _ _ _ (sym (c .before .before .is-removal .ensures) ∙ c .before .if1 .left) refl)))

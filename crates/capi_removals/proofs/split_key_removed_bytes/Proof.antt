@@ -13,10 +13,12 @@ returns c =
     let at-head = at-call .before .before .before .before in
     let at-if1 = at-head .before in
     sum-told _ (at-call .split-key-removed-bytes .result) _ _ (c .sum .ensures)
-    (when-true _ _ _ (sym (at-if1 .before .is-kind .ensures) ∙ at-if1 .if1 .taken) (at-call .split-key-removed-bytes .ensures ∙ simp (at-head .head .ensures)))
+    (when-true _ _ _ (sym (at-if1 .before .is-kind .ensures) ∙ at-if1 .if1 .taken)
+    (at-call .split-key-removed-bytes .ensures ∙ simp (at-head .head .ensures)))
 
 returns-2 : tie.Need-returns-2
-returns-2 c = sum-told _ (Refused BadTable) _ _ (c .sum2 .ensures) (when-false _ _ _ (sym (c .before .before .is-kind .ensures) ∙ c .before .if1 .left) refl)
+returns-2 c = sum-told _ (Refused BadTable) _ _ (c .sum2 .ensures)
+    (when-false _ _ _ (sym (c .before .before .is-kind .ensures) ∙ c .before .if1 .left) refl)
 
 pub split-key-removed-bytes-spec : {M : Type 1} → statement M
 split-key-removed-bytes-spec =

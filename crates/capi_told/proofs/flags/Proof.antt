@@ -5,7 +5,8 @@ use Rattle.capi_told.proofs.flags.Tie as tie
 
 returns-3 : tie.Need-returns-3
 returns-3 c =
-    simp (c .before .before .outcome .given .1, c .before .before .before .before .head .ensures, c .number .ensures)
+    let at-head = c .before .before .before .before in
+    simp (c .before .before .outcome .given .1, at-head .head .ensures, c .number .ensures)
 
 pub flags-spec : {M : Type 1} → statement M
 flags-spec =

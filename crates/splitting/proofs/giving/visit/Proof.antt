@@ -14,7 +14,8 @@ abbrev μ-loop : tie.MeasureT-loop
 
 loop-again : tie.Need-loop-again Inv-loop μ-loop
 loop-again c =
-    let l = c .before .before .before .before .loop in
+    let at-loop = c .before .before .before .before in
+    let l = at-loop .loop in
     let p : 0 < l .left = omega (arith, c .before .before .if1 .left) in
     visiting-step (l .inv) (c .gives .result) (c .before .before .before .loop-test .taken) p (c .gives .ensures)
 
@@ -24,14 +25,20 @@ visit-spec =
     (tie.spec
     Inv-loop
     μ-loop
-    (λ c. visiting-start (c .before .before .args .epochs .now) (c .before .before .args .counts .now) (c .before .before .args .amount) (c .before .before .pre))
+    (λ c. visiting-start (c .before .before .args .epochs .now) (c .before .before .args .counts .now) (c .before .before .args .amount)
+    (c .before .before .pre))
     (λ c. visiting-none (c .before .before .loop .inv) (c .if1 .taken))
     (λ c. omega arith)
-    (λ c. omega (arith, c .before .before .loop .inv .reached, c .before .before .before .before .before .good))
+    (λ c.
+    let start = c .before .before .before .before .before in
+    omega (arith, c .before .before .loop .inv .reached, start .good))
     (λ c. omega (arith, c .before .before .before .loop .inv .reached))
     (λ c κs. search needs)
     (λ c. omega (arith, c .gives .ensures))
-    (λ c. omega (arith, c .before .before .before .before .loop .inv .reached, c .before .before .before .before .before .before .before .good))
+    (λ c.
+    let at-loop = c .before .before .before .before in
+    let start = at-loop .before .before .before in
+    omega (arith, at-loop .loop .inv .reached, start .good))
     (λ c. omega arith)
     loop-again
     (λ c. visiting-end (c .before .loop .inv) (omega (arith, c .loop-test .left))))

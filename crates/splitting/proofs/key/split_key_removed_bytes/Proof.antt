@@ -75,7 +75,8 @@ returns-3 c =
     let at-if2 = at-fit .before .before .before .before in
     let at-if1 = at-if2 .before in
     let b = start at-if1 in
-    key-short (our-id at-if1) (b .args .flags .base) (b .args .removed-key-bytes) (lent b) (some-bytes at-if2) (sym (at-fit .fit .ensures) ∙ c .if3 .left)
+    key-short (our-id at-if1) (b .args .flags .base) (b .args .removed-key-bytes) (lent b) (some-bytes at-if2)
+    (sym (at-fit .fit .ensures) ∙ c .if3 .left)
     ∙ then-split at-if1 (our-id at-if1) refl
 
 returns-4 : tie.Need-returns-4

@@ -49,7 +49,8 @@ module _ (at-if1 : tie.Then1) where
       (placing (valuePart i (start .args .flags .base) records (start .args .removed-value-bytes)) (lent start))
       ≡ splitValue (start .args .flags) (start .args .epochs .now) (start .args .counts .now) (start .args .removed-value-bytes) (lent start)
   then-split i e =
-      value-proper (start .args .flags) (start .args .epochs .now) (start .args .counts .now) (start .args .removed-value-bytes) (lent start) i e tested
+      value-proper (start .args .flags) (start .args .epochs .now) (start .args .counts .now) (start .args .removed-value-bytes)
+      (lent start) i e tested
 
 -- what was counted
 module _ (at-rows-at-base : tie.After-rows-at-base) where
