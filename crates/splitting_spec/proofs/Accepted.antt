@@ -30,7 +30,7 @@ use Rattle.splitting_spec.proofs.Ascending.{key-ascends, value-ascends,
 use Rattle.splitting_spec.proofs.Calls.{key-proper, value-proper}
 
 -- a proper removal of so many bytes
-pub record Removes (n : ℕ) (x : Removed) (t : Tables) : Type 0 where
+pub record RemovesExactly (n : ℕ) (x : Removed) (t : Tables) : Type 0 where
   pub is-proper : properRemoval x t ≡ true
   pub comes-to : total (removalOf x t) ≡ n
 
@@ -63,7 +63,7 @@ module _ (h : Head) (es cs : List ℕ) (n : ℕ) (t : Tables) where
     pub key-stands : removalOf x (splitKey h es cs n t .rows) ≡ keyRemoval f n
     key-stands = key-left .stands
 
-    pub key-removes : Removes n x (splitKey h es cs n t .rows)
+    pub key-removes : RemovesExactly n x (splitKey h es cs n t .rows)
     key-removes =
         record {
           is-proper = key-left .is-proper (key-ascends (idOf (f .owner)) (h .base) n);
@@ -87,7 +87,7 @@ module _ (h : Head) (es cs : List ℕ) (n : ℕ) (t : Tables) where
     unfolding splitValue
     value-stands = value-left .stands
 
-    pub value-removes : Removes n (u .removal) (splitValue h es cs n t .rows)
+    pub value-removes : RemovesExactly n (u .removal) (splitValue h es cs n t .rows)
     unfolding splitValue
     value-removes =
         record {
