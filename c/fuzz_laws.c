@@ -207,17 +207,17 @@ static const char *splitting(int which, const given *g, const told *answer) {
     static const uint8_t zeros[32];
     uint8_t(*ids)[32] = g->parts[LEFT_IDS].at;
     const uint16_t *epochs = g->parts[LEFT_EPOCHS].at;
-    size_t i, above = 0;
+    size_t i, beside = 0;
     int full = 0;
     if (!proper_rows(g, &answer->removal, LEFT_IDS)) return "sections are not proper";
     if (total(g, &answer->removal, LEFT_IDS, &full) != g->amount) return "the sections have another sum";
     if (answer->removal.kind != (g->amount == 0 ? 0 : 2)) return "a removal of another kind";
     for (i = 0; i < answer->removal.rows; i++) {
-        above += epochs[i] > g->ours.base;
+        beside += epochs[i] != g->ours.base;
         if (memcmp(ids[i], owned(&g->ours) ? g->ours.owner : zeros, 32) != 0) return "a section under another owner";
     }
-    if (which == SPLIT_KEY) return above == 0 ? NULL : "a section of a key's bytes that is not at the base";
-    return above == answer->visited ? NULL : "another number of records was visited than gave";
+    if (which == SPLIT_KEY) return beside == 0 ? NULL : "a section of a key's bytes that is not at the base";
+    return beside == answer->visited ? NULL : "another number of records was visited than gave";
 }
 
 static uint64_t left_total;

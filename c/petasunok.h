@@ -212,14 +212,14 @@ petasunok_flags petasunok_optional_combine_removed_bytes(
 
 /* ---- removals */
 
-/* Splits a removal of a key's bytes, whatever their number is: one row at the base, and no removal of 0 bytes: 11, 10. */
+/* Splits a removal of a key's bytes, whatever their number is: one row at the base; 0 bytes are no removal: 11, 10. One row is room enough. */
 petasunok_sum petasunok_split_key_removed_bytes(
     petasunok_head flags, const uint16_t *flags_epochs, size_t flags_epochs_len, const uint32_t *flags_counts, size_t flags_counts_len,
     uint32_t key,
     uint8_t (*ids)[32], size_t ids_len, uint16_t *epochs, size_t epochs_len, uint32_t *bytes, size_t bytes_len);
 
 /* Splits a removal of a value's bytes, whatever their number is: from the latest record down, each of which keeps 3, or all it has where that
- * is less, and the rest at the base; no removal of 0 bytes: 11, 10. One row more than there are records is room enough. No other division is
+ * is less, and the rest at the base; 0 bytes are no removal: 11, 10. One row more than there are records is room enough. No other division is
  * "latest first, three kept": docs/DIVISION.md. */
 petasunok_value_split petasunok_split_value_removed_bytes(
     petasunok_head flags, const uint16_t *flags_epochs, size_t flags_epochs_len, const uint32_t *flags_counts, size_t flags_counts_len,

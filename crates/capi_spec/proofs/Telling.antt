@@ -9,7 +9,7 @@ use Rattle.records_spec.specs.Answers.{After, shown, Written, counted, wrote, k
 use Rattle.records_spec.specs.declared.answer.Answered.{Answered}
 use Rattle.records_spec.specs.declared.answer.Counted.{Counted}
 use Rattle.rows_spec.specs.Rows.{Tables}
-use Rattle.rows_spec.specs.Outcomes.{After as AfterRemoval, told as toldRemoval, shown as shownRemoval}
+use Rattle.rows_spec.specs.Outcomes.{After as AfterRemoval, toldRemoval, shown as shownRemoval}
 use Rattle.rows_spec.specs.declared.removed.AnsweredRemoval.{AnsweredRemoval}
 use Rattle.splitting_spec.specs.Calls.{After as AfterSplit, told as toldSplit, shown as shownSplit}
 use Rattle.splitting_spec.specs.declared.split.Splitting.{Splitting}

@@ -4,7 +4,7 @@ ghost use mathlib.Core.List.{[]};
 ghost use Rattle.records_spec.specs.Refusals.{number};
 ghost use Rattle.records_spec.specs.Answers.{ok, refused, shown, counted, kept};
 ghost use Rattle.rows_spec.specs.Calls.{told, totalled};
-ghost use Rattle.rows_spec.specs.Outcomes.{told as toldRemoval};
+ghost use Rattle.rows_spec.specs.Outcomes.{toldRemoval};
 ghost use Rattle.splitting_spec.specs.Calls.{told as toldSplit};
 ghost use Rattle.totals_spec.specs.Calls.{told as toldTotals};
 ghost use Rattle.repair_spec.specs.Calls.{sizes};

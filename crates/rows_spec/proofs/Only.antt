@@ -8,7 +8,7 @@ use Rattle.records_spec.specs.Answers.{Answer, ok, refused}
 use Rattle.records_spec.proofs.Only.{same-only, back-only, named, named-back}
 use Rattle.rows_spec.specs.Rows.{Tables}
 use Rattle.rows_spec.specs.Calls.{told, totalled}
-use Rattle.rows_spec.specs.Outcomes.{After, shown, told as toldRemoval}
+use Rattle.rows_spec.specs.Outcomes.{After, toldRemoval, shown}
 use Rattle.rows_spec.specs.declared.removed.Removed.{Removed}
 use Rattle.rows_spec.specs.declared.removed.AnsweredRemoval.{AnsweredRemoval}
 use Rattle.rows_spec.specs.declared.removed.AnsweredRemoval.the-variants.{Done, Refused as NotRemoved}

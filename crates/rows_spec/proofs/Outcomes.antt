@@ -27,24 +27,32 @@ done s t = record { answer = ok s; rows = t }
 -- ---- a removal, by whether its rows have room
 
 module _ (r : Removal) (t : Tables) where
-  pub placing-room : roomIn (length (rowsOfRemoval r)) t ≡ true → placing r t ≡ done (stateOf r) (overRows (rowsOfRemoval r) t)
+  pub placing-done : roomIn (length (rowsOfRemoval r)) t ≡ true → placing r t ≡ done (stateOf r) (overRows (rowsOfRemoval r) t)
   unfolding placing
-  placing-room h = rw h
+  placing-done h = rw h
 
-  pub placing-none : roomIn (length (rowsOfRemoval r)) t ≡ false → placing r t ≡ kept 10 t
+  pub placing-refused : roomIn (length (rowsOfRemoval r)) t ≡ false → placing r t ≡ kept 10 t
   unfolding placing
-  placing-none h = rw h
+  placing-refused h = rw h
 
--- rows that were counted
-module _ (rs : List Row) (count : ℕ) (t : Tables) (e : count ≡ length rs) where
-  counted : (b : Bool) → roomIn count t ≡ b → roomIn (length rs) t ≡ b
+-- a removal whose rows were counted
+module _ (r : Removal) (count : ℕ) (t : Tables) (e : count ≡ length (rowsOfRemoval r)) where
+  counted : (b : Bool) → roomIn count t ≡ b → roomIn (length (rowsOfRemoval r)) t ≡ b
   counted b h = ap (λ (k : ℕ). roomIn k t) (sym e) ∙ h
 
+  pub counted-fits : {x : Removed} {t′ : Tables} → roomIn count t ≡ true → x ≡ stateOf r → t′ ≡ overRows (rowsOfRemoval r) t → done x t′ ≡ placing r t
+  counted-fits h p q = (λ z. done (p z) (q z)) ∙ sym (placing-done r t (counted true h))
+
+  pub counted-short : roomIn count t ≡ false → kept 10 t ≡ placing r t
+  counted-short h = sym (placing-refused r t (counted false h))
+
+-- the same of rows
+module _ (rs : List Row) (count : ℕ) (t : Tables) (e : count ≡ length rs) where
   pub placing-fits : (t′ : Tables) → roomIn count t ≡ true → t′ ≡ overRows rs t → done (Sectioned count) t′ ≡ placing (sectioned rs) t
-  placing-fits t′ h g = rw (e, g) (sym (placing-room (sectioned rs) t (counted true h)))
+  placing-fits t′ h g = counted-fits (sectioned rs) count t e h (ap Sectioned e) g
 
   pub placing-short : roomIn count t ≡ false → kept 10 t ≡ placing (sectioned rs) t
-  placing-short h = sym (placing-none (sectioned rs) t (counted false h))
+  placing-short = counted-short (sectioned rs) count t e
 
 -- ---- a removal that stands in the tables stays
 
@@ -56,10 +64,10 @@ no-rows t = record { ids-long = omega arith; epochs-long = omega arith; bytes-lo
 
 module _ (t : Tables) where
   pub placing-nothing : done None t ≡ placing nothing t
-  placing-nothing = ap (done None) (sym (over-nothing t)) ∙ sym (placing-room nothing t (has-room (no-rows t)))
+  placing-nothing = ap (done None) (sym (over-nothing t)) ∙ sym (placing-done nothing t (has-room (no-rows t)))
 
   pub placing-basic : (n : ℕ) → done (Basic n) t ≡ placing (basic n) t
-  placing-basic n = ap (done (Basic n)) (sym (over-nothing t)) ∙ sym (placing-room (basic n) t (has-room (no-rows t)))
+  placing-basic n = ap (done (Basic n)) (sym (over-nothing t)) ∙ sym (placing-done (basic n) t (has-room (no-rows t)))
 
 pub placing-self : (x : Removed) (t : Tables) → proper x t ≡ true → done x t ≡ placing (removalOf x t) t
 placing-self None t p = placing-nothing t

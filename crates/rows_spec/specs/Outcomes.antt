@@ -17,13 +17,13 @@ pub record After : Type 0 where
   pub rows : Tables
 
 -- what the code answered
-abbrev pub told : AnsweredRemoval → Answer Removed
-told (Done s) = ok (s .removed)
-told (Refused r) = refused (number r)
+abbrev pub toldRemoval : AnsweredRemoval → Answer Removed
+toldRemoval (Done s) = ok (s .removed)
+toldRemoval (Refused r) = refused (number r)
 
 -- what the code answered and left
 abbrev pub shown : AnsweredRemoval → Tables → After
-shown a t = record { answer = told a; rows = t }
+shown a t = record { answer = toldRemoval a; rows = t }
 
 -- a refusal: nothing lent has changed
 abbrev pub kept : ℕ → Tables → After

@@ -20,9 +20,9 @@ use Rattle.rows_spec.specs.Outcomes.{After as AfterRemoval, placing, wherePrope
 use Rattle.rows_spec.specs.declared.removed.Removed.{Removed}
 use Rattle.rows_spec.specs.declared.removed.Removed.the-variants.{None}
 use Rattle.rows_spec.proofs.Rows.{has-room, room-less}
-use Rattle.rows_spec.proofs.Outcomes.{Accepted, done, accepted, refusals, placing-room, placing-nothing}
+use Rattle.rows_spec.proofs.Outcomes.{Accepted, done, accepted, refusals, placing-done, placing-nothing}
 use Rattle.splitting_spec.specs.Sections.{besideBase}
-use Rattle.splitting_spec.specs.Calls.{keyRemoval, valueRemoval, visitedFor, Told, After, toldWith, visiting, splitKey, splitValue}
+use Rattle.splitting_spec.specs.Calls.{keyRemoval, valueRemoval, visitedFor, Told, After, toldWith, withVisited, splitKey, splitValue}
 use Rattle.splitting_spec.proofs.Sections.{sections-none}
 use Rattle.splitting_spec.proofs.Counting.{base-short, split-short, key-rows, value-rows}
 use Rattle.splitting_spec.proofs.Sums.{key-sum, value-sum}
@@ -35,9 +35,9 @@ pub record RemovesExactly (n : ℕ) (x : Removed) (t : Tables) : Type 0 where
   pub comes-to : total (removalOf x t) ≡ n
 
 -- a state was answered, and beside it how many records were visited
-with-visited : (v : ℕ) (a : Answer Removed) (t : Told) → toldWith v a ≡ ok t → (a ≡ ok (t .removal)) × (t .visited ≡ v)
-with-visited v (ok x) t e = (cc, cc)
-with-visited v (refused n) t e = absurd (refused-not-ok n t e)
+told-with : (v : ℕ) (a : Answer Removed) (t : Told) → toldWith v a ≡ ok t → (a ≡ ok (t .removal)) × (t .visited ≡ v)
+told-with v (ok x) t e = (cc, cc)
+told-with v (refused n) t e = absurd (refused-not-ok n t e)
 
 -- a refusal is one of the removal's
 with-refusal : (v : ℕ) (a : Answer Removed) (n : ℕ) → toldWith v a ≡ refused n → a ≡ refused n
@@ -74,7 +74,7 @@ module _ (h : Head) (es cs : List ℕ) (n : ℕ) (t : Tables) where
   module _ (u : Told) (e : splitValue h es cs n t .answer ≡ ok u) where
     value-told : (whereProper (proper h es cs) (valueRemoval f n) t .answer ≡ ok (u .removal)) × (u .visited ≡ visitedFor f n)
     unfolding splitValue
-    value-told = with-visited (visitedFor f n) (whereProper (proper h es cs) (valueRemoval f n) t .answer) u e
+    value-told = told-with (visitedFor f n) (whereProper (proper h es cs) (valueRemoval f n) t .answer) u e
 
     value-left : Accepted (proper h es cs) (valueRemoval f n) (u .removal) (whereProper (proper h es cs) (valueRemoval f n) t)
     value-left = accepted (valueRemoval f n) t (u .removal) (proper h es cs) (value-told .0)
@@ -116,8 +116,8 @@ module _ (h : Head) (es cs : List ℕ) (n : ℕ) (t : Tables) where
   -- ---- room enough for any amount
 
   -- what the value's call answers where there is room
-  abbrev pub valueTold : Told
-  valueTold = record { removal = stateOf (valueRemoval f n); visited = visitedFor f n }
+  abbrev pub valueAnswer : Told
+  valueAnswer = record { removal = stateOf (valueRemoval f n); visited = visitedFor f n }
 
   module _ (p : proper h es cs ≡ true) where
     -- A ROW IS ROOM ENOUGH FOR ANY KEY BYTES
@@ -126,24 +126,24 @@ module _ (h : Head) (es cs : List ℕ) (n : ℕ) (t : Tables) where
         let k = key-rows (idOf (f .owner)) (h .base) n in
         ap (λ (a : AfterRemoval). a .answer)
         (sym (key-proper h es cs n t (idOf (f .owner)) refl p)
-        ∙ placing-room (keyRemoval f n) t (has-room (room-less (length (rowsOfRemoval (keyRemoval f n))) (omega (arith, k, base-short n)) r)))
+        ∙ placing-done (keyRemoval f n) t (has-room (room-less (length (rowsOfRemoval (keyRemoval f n))) (omega (arith, k, base-short n)) r)))
 
     -- A ROW MORE THAN THERE ARE RECORDS IS ROOM ENOUGH FOR ANY VALUE BYTES
-    pub value-accepted : Room (length (f .records) + 1) t → splitValue h es cs n t .answer ≡ ok valueTold
+    pub value-accepted : Room (length (f .records) + 1) t → splitValue h es cs n t .answer ≡ ok valueAnswer
     value-accepted r =
         let k = value-rows (idOf (f .owner)) (h .base) (f .records) n in
         let l = split-short (h .base) (f .records) n in
         ap (λ (a : After). a .answer)
         (sym (value-proper h es cs n t (idOf (f .owner)) refl p)
-        ∙ ap (visiting (visitedFor f n))
-        (placing-room (valueRemoval f n) t (has-room (room-less (length (rowsOfRemoval (valueRemoval f n))) (omega (arith, k, l)) r))))
+        ∙ ap (withVisited (visitedFor f n))
+        (placing-done (valueRemoval f n) t (has-room (room-less (length (rowsOfRemoval (valueRemoval f n))) (omega (arith, k, l)) r))))
 
 -- NO BYTES GIVE NO REMOVAL, AND NEED NO ROOM
 module _ (h : Head) (es cs : List ℕ) (t : Tables) (p : proper h es cs ≡ true) where
   pub no-key-bytes : splitKey h es cs 0 t ≡ done None t
   no-key-bytes = sym (placing-nothing t ∙ key-proper h es cs 0 t (idOf (flagsOf h es cs .owner)) refl p)
 
-  pub no-value-bytes : splitValue h es cs 0 t ≡ visiting 0 (done None t)
+  pub no-value-bytes : splitValue h es cs 0 t ≡ withVisited 0 (done None t)
   no-value-bytes =
       sym (value-proper h es cs 0 t (idOf (flagsOf h es cs .owner)) refl p)
-      ∙ ap (λ (ss : List At). visiting (length ss) (placing nothing t)) (sections-none (flagsOf h es cs .records)) ∙ ap (visiting 0) (sym (placing-nothing t))
+      ∙ ap (λ (ss : List At). withVisited (length ss) (placing nothing t)) (sections-none (flagsOf h es cs .records)) ∙ ap (withVisited 0) (sym (placing-nothing t))

@@ -14,10 +14,10 @@ use Rattle.rows_spec.specs.Outcomes.{kept, placing}
 use Rattle.rows_spec.specs.declared.removed.Removed.{Removed}
 use Rattle.rows_spec.specs.declared.removed.Removed.the-variants.{None, Sectioned}
 use Rattle.rows_spec.proofs.Rows.{room-in}
-use Rattle.rows_spec.proofs.Outcomes.{done, placing-room, placing-none, placing-nothing}
+use Rattle.rows_spec.proofs.Outcomes.{done, counted-fits, counted-short, placing-nothing}
 use Rattle.splitting_spec.specs.Sections.{sections, split}
 use Rattle.splitting_spec.specs.Visits.{visits, rowsAtBase}
-use Rattle.splitting_spec.specs.Calls.{keyPart, valuePart, PlacedRemoval, kept as keptValue, visiting, splitKey, splitValue}
+use Rattle.splitting_spec.specs.Calls.{keyPart, valuePart, PlacedRemoval, kept as keptValue, withVisited, splitKey, splitValue}
 use Rattle.splitting_spec.specs.declared.giving.Visited.{Visited}
 use Rattle.splitting_spec.proofs.Counting.{base-some, split-long, key-rows, value-rows}
 use Rattle.splitting_spec.proofs.Placing.{removal-none, single-placed}
@@ -33,14 +33,6 @@ rows-told base rs n b v e h =
 pub fits : (k n : ℕ) (t : Tables) → k ≡ n → roomIn k t ≡ true → Room n t
 fits k n t e h = subst (λ (m : ℕ). Room m t) e (room-in k t h)
 
--- a removal that makes so many rows, by whether they have room
-module _ (r : Removal) (k : ℕ) (t : Tables) (e : k ≡ length (rowsOfRemoval r)) where
-  pub was-placed : {x : Removed} {t′ : Tables} → roomIn k t ≡ true → PlacedRemoval r x t t′ → done x t′ ≡ placing r t
-  was-placed h p = (λ z. done (p .state z) (p .rows z)) ∙ sym (placing-room r t (ap (λ (m : ℕ). roomIn m t) (sym e) ∙ h))
-
-  pub was-short : roomIn k t ≡ false → kept 10 t ≡ placing r t
-  was-short h = sym (placing-none r t (ap (λ (m : ℕ). roomIn m t) (sym e) ∙ h))
-
 -- ---- the key's bytes
 
 module _ (i : List ℕ) (base n : ℕ) (t : Tables) where
@@ -52,10 +44,12 @@ module _ (i : List ℕ) (base n : ℕ) (t : Tables) where
     one-row = sym (key-rows i base n ∙ base-some n h)
 
     pub key-put : {t′ : Tables} → roomIn 1 t ≡ true → t′ ≡ setRow t 0 (row i base n) → done (Sectioned 1) t′ ≡ placing (keyPart i base n) t
-    key-put r s = was-placed (keyPart i base n) 1 t one-row r (single-placed i base n t h (room-in 1 t r) s)
+    key-put r s =
+        let p = single-placed i base n t h (room-in 1 t r) s in
+        counted-fits (keyPart i base n) 1 t one-row r (p .state) (p .rows)
 
     pub key-short : roomIn 1 t ≡ false → kept 10 t ≡ placing (keyPart i base n) t
-    key-short = was-short (keyPart i base n) 1 t one-row
+    key-short = counted-short (keyPart i base n) 1 t one-row
 
 module _ (h : Head) (es cs : List ℕ) (n : ℕ) (t : Tables) where
   pub key-bad : proper h es cs ≡ false → kept 11 t ≡ splitKey h es cs n t
@@ -73,11 +67,11 @@ module _ (i : List ℕ) (base : ℕ) (rs : List At) (n k v : ℕ) (t : Tables) (
   so-long = e ∙ sym (value-rows i base rs n)
 
   pub value-placed : {x : Removed} {t′ : Tables} → roomIn k t ≡ true → PlacedRemoval (valuePart i base rs n) x t t′
-      → visiting v (done x t′) ≡ visiting (length (sections rs n)) (placing (valuePart i base rs n) t)
-  value-placed h p = λ z. visiting (w z) (was-placed (valuePart i base rs n) k t so-long h p z)
+      → withVisited v (done x t′) ≡ withVisited (length (sections rs n)) (placing (valuePart i base rs n) t)
+  value-placed h p = λ z. withVisited (w z) (counted-fits (valuePart i base rs n) k t so-long h (p .state) (p .rows) z)
 
-  pub value-short : roomIn k t ≡ false → keptValue 10 t ≡ visiting (length (sections rs n)) (placing (valuePart i base rs n) t)
-  value-short h = ap (visiting (length (sections rs n))) (was-short (valuePart i base rs n) k t so-long h)
+  pub value-short : roomIn k t ≡ false → keptValue 10 t ≡ withVisited (length (sections rs n)) (placing (valuePart i base rs n) t)
+  value-short h = ap (withVisited (length (sections rs n))) (counted-short (valuePart i base rs n) k t so-long h)
 
 module _ (h : Head) (es cs : List ℕ) (n : ℕ) (t : Tables) where
   pub value-bad : proper h es cs ≡ false → keptValue 11 t ≡ splitValue h es cs n t
@@ -85,7 +79,7 @@ module _ (h : Head) (es cs : List ℕ) (n : ℕ) (t : Tables) where
   value-bad p = rw p
 
   pub value-proper : (i : List ℕ) → i ≡ idOf (ownerOf h) → proper h es cs ≡ true
-      → visiting (length (sections (flagsOf h es cs .records) n)) (placing (valuePart i (h .base) (flagsOf h es cs .records) n) t) ≡ splitValue h es cs n t
+      → withVisited (length (sections (flagsOf h es cs .records) n)) (placing (valuePart i (h .base) (flagsOf h es cs .records) n) t) ≡ splitValue h es cs n t
   unfolding splitValue
   value-proper i e p =
-      rw p (ap (λ (j : List ℕ). visiting (length (sections (flagsOf h es cs .records) n)) (placing (valuePart j (h .base) (flagsOf h es cs .records) n) t)) e)
+      rw p (ap (λ (j : List ℕ). withVisited (length (sections (flagsOf h es cs .records) n)) (placing (valuePart j (h .base) (flagsOf h es cs .records) n) t)) e)

@@ -1,5 +1,5 @@
--- Document 01's examples of splitting and its boundaries, as a table for each call: flags at base 5, bytes, and what the call answers and leaves
--- of lent tables. By computation.
+-- Examples of the two calls as a table for each, document 01's and its boundaries in the value's: flags at base 5, bytes, and what the call answers
+-- and leaves of lent tables. By computation.
 -- Assumes nothing.
 use Prim.Native.Nat.{ℕ}
 use mathlib.Core.Path.{_≡_, refl}
@@ -43,12 +43,12 @@ state [] = None
 state (s ∷ ss) = Sectioned (length (s ∷ ss))
 
 -- the answer of the key's call: sections
-abbrev parts : Option (List ℕ) → List At → Tables → AfterRemoval
-parts o ss t = record { answer = ok (state ss); rows = overRows (rowsUnder (idOf o) ss) t }
+abbrev sectionsTold : Option (List ℕ) → List At → Tables → AfterRemoval
+sectionsTold o ss t = record { answer = ok (state ss); rows = overRows (rowsUnder (idOf o) ss) t }
 
 -- the answer of the value's call: sections, and the number visited
-abbrev visits : Option (List ℕ) → List At → ℕ → Tables → After
-visits o ss v t = record { answer = ok (record { removal = state ss; visited = v }); rows = overRows (rowsUnder (idOf o) ss) t }
+abbrev sectionsVisited : Option (List ℕ) → List At → ℕ → Tables → After
+sectionsVisited o ss v t = record { answer = ok (record { removal = state ss; visited = v }); rows = overRows (rowsUnder (idOf o) ss) t }
 
 -- an owner
 abbrev someone : Option (List ℕ)
@@ -56,14 +56,14 @@ someone = some (replicate 32 7)
 
 pub key-examples : List (Example AfterRemoval)
 key-examples =
-    example none (7 ⦂ 10 ∷ 9 ⦂ 5 ∷ []) 8 (lent 2) (parts none (5 ⦂ 8 ∷ []))
-    ∷ example none (7 ⦂ 10 ∷ 9 ⦂ 5 ∷ []) 0 (lent 0) (parts none [])
-    ∷ example someone (7 ⦂ 10 ∷ []) 2 (lent 1) (parts someone (5 ⦂ 2 ∷ []))
-    ∷ example someone [] 2 (lent 1) (parts someone (5 ⦂ 2 ∷ []))
-    ∷ example none [] 0 (lent 0) (parts none [])
-    ∷ example none (7 ⦂ 1 ∷ []) 4294967292 (lent 1) (parts none (5 ⦂ 4294967292 ∷ []))
-    ∷ example none (7 ⦂ 1 ∷ []) 4294967293 (lent 1) (parts none (5 ⦂ 4294967293 ∷ []))
-    ∷ example someone (7 ⦂ 1 ∷ []) 4294967295 (lent 1) (parts someone (5 ⦂ 4294967295 ∷ []))
+    example none (7 ⦂ 10 ∷ 9 ⦂ 5 ∷ []) 8 (lent 2) (sectionsTold none (5 ⦂ 8 ∷ []))
+    ∷ example none (7 ⦂ 10 ∷ 9 ⦂ 5 ∷ []) 0 (lent 0) (sectionsTold none [])
+    ∷ example someone (7 ⦂ 10 ∷ []) 2 (lent 1) (sectionsTold someone (5 ⦂ 2 ∷ []))
+    ∷ example someone [] 2 (lent 1) (sectionsTold someone (5 ⦂ 2 ∷ []))
+    ∷ example none [] 0 (lent 0) (sectionsTold none [])
+    ∷ example none (7 ⦂ 1 ∷ []) 4294967292 (lent 1) (sectionsTold none (5 ⦂ 4294967292 ∷ []))
+    ∷ example none (7 ⦂ 1 ∷ []) 4294967293 (lent 1) (sectionsTold none (5 ⦂ 4294967293 ∷ []))
+    ∷ example someone (7 ⦂ 1 ∷ []) 4294967295 (lent 1) (sectionsTold someone (5 ⦂ 4294967295 ∷ []))
     ∷ example none (7 ⦂ 10 ∷ 9 ⦂ 5 ∷ []) 8 (lent 0) (kept 10)
     ∷ example none (9 ⦂ 5 ∷ 7 ⦂ 10 ∷ []) 8 (lent 1) (kept 11)
     ∷ example none (9 ⦂ 5 ∷ 7 ⦂ 10 ∷ []) 0 (lent 0) (kept 11)
@@ -71,26 +71,27 @@ key-examples =
 
 pub value-examples : List (Example After)
 value-examples =
-    example none (7 ⦂ 10 ∷ 9 ⦂ 5 ∷ []) 6 (lent 2) (visits none (7 ⦂ 4 ∷ 9 ⦂ 2 ∷ []) 2)
-    ∷ example none (7 ⦂ 10 ∷ 9 ⦂ 5 ∷ []) 20 (lent 4) (visits none (5 ⦂ 11 ∷ 7 ⦂ 7 ∷ 9 ⦂ 2 ∷ []) 2)
-    ∷ example none (7 ⦂ 10 ∷ 9 ⦂ 3 ∷ []) 1 (lent 3) (visits none (7 ⦂ 1 ∷ 9 ⦂ 0 ∷ []) 2)
-    ∷ example none (7 ⦂ 4 ∷ []) 1 (lent 1) (visits none (7 ⦂ 1 ∷ []) 1)
-    ∷ example none (7 ⦂ 5 ∷ []) 1 (lent 1) (visits none (7 ⦂ 1 ∷ []) 1)
-    ∷ example none (7 ⦂ 10 ∷ 9 ⦂ 5 ∷ []) 0 (lent 0) (visits none [] 0)
-    ∷ example none [] 6 (lent 1) (visits none (5 ⦂ 6 ∷ []) 0)
-    ∷ example someone (7 ⦂ 10 ∷ []) 9 (lent 2) (visits someone (5 ⦂ 2 ∷ 7 ⦂ 7 ∷ []) 1)
-    ∷ example someone [] 9 (lent 1) (visits someone (5 ⦂ 9 ∷ []) 0)
-    ∷ example none (7 ⦂ 4 ∷ []) 4294967292 (lent 2) (visits none (5 ⦂ 4294967291 ∷ 7 ⦂ 1 ∷ []) 1)
-    ∷ example none (7 ⦂ 1 ∷ []) 4294967293 (lent 2) (visits none (5 ⦂ 4294967293 ∷ 7 ⦂ 0 ∷ []) 1)
-    ∷ example none (7 ⦂ 1 ∷ []) 4294967294 (lent 2) (visits none (5 ⦂ 4294967294 ∷ 7 ⦂ 0 ∷ []) 1)
-    ∷ example none (7 ⦂ 1 ∷ []) 4294967295 (lent 2) (visits none (5 ⦂ 4294967295 ∷ 7 ⦂ 0 ∷ []) 1)
-    ∷ example someone (7 ⦂ 4 ∷ []) 4294967293 (lent 2) (visits someone (5 ⦂ 4294967292 ∷ 7 ⦂ 1 ∷ []) 1)
-    ∷ example none (7 ⦂ 10 ∷ 9 ⦂ 4294967295 ∷ []) 4294967294 (lent 2) (visits none (7 ⦂ 2 ∷ 9 ⦂ 4294967292 ∷ []) 2)
-    ∷ example none (7 ⦂ 4294967295 ∷ []) 4294967295 (lent 2) (visits none (5 ⦂ 3 ∷ 7 ⦂ 4294967292 ∷ []) 1)
-    ∷ example none [] 4294967293 (lent 1) (visits none (5 ⦂ 4294967293 ∷ []) 0)
+    example none (7 ⦂ 10 ∷ 9 ⦂ 5 ∷ []) 6 (lent 2) (sectionsVisited none (7 ⦂ 4 ∷ 9 ⦂ 2 ∷ []) 2)
+    ∷ example none (7 ⦂ 10 ∷ 9 ⦂ 5 ∷ []) 20 (lent 4) (sectionsVisited none (5 ⦂ 11 ∷ 7 ⦂ 7 ∷ 9 ⦂ 2 ∷ []) 2)
+    ∷ example none (7 ⦂ 10 ∷ 9 ⦂ 3 ∷ []) 1 (lent 3) (sectionsVisited none (7 ⦂ 1 ∷ 9 ⦂ 0 ∷ []) 2)
+    ∷ example none (7 ⦂ 4 ∷ []) 1 (lent 1) (sectionsVisited none (7 ⦂ 1 ∷ []) 1)
+    ∷ example none (7 ⦂ 5 ∷ []) 1 (lent 1) (sectionsVisited none (7 ⦂ 1 ∷ []) 1)
+    ∷ example none (7 ⦂ 10 ∷ 9 ⦂ 5 ∷ []) 0 (lent 0) (sectionsVisited none [] 0)
+    ∷ example none [] 6 (lent 1) (sectionsVisited none (5 ⦂ 6 ∷ []) 0)
+    ∷ example someone (7 ⦂ 10 ∷ []) 9 (lent 2) (sectionsVisited someone (5 ⦂ 2 ∷ 7 ⦂ 7 ∷ []) 1)
+    ∷ example someone [] 9 (lent 1) (sectionsVisited someone (5 ⦂ 9 ∷ []) 0)
+    ∷ example none (7 ⦂ 4 ∷ []) 4294967292 (lent 2) (sectionsVisited none (5 ⦂ 4294967291 ∷ 7 ⦂ 1 ∷ []) 1)
+    ∷ example none (7 ⦂ 1 ∷ []) 4294967293 (lent 2) (sectionsVisited none (5 ⦂ 4294967293 ∷ 7 ⦂ 0 ∷ []) 1)
+    ∷ example none (7 ⦂ 1 ∷ []) 4294967294 (lent 2) (sectionsVisited none (5 ⦂ 4294967294 ∷ 7 ⦂ 0 ∷ []) 1)
+    ∷ example none (7 ⦂ 1 ∷ []) 4294967295 (lent 2) (sectionsVisited none (5 ⦂ 4294967295 ∷ 7 ⦂ 0 ∷ []) 1)
+    ∷ example someone (7 ⦂ 4 ∷ []) 4294967293 (lent 2) (sectionsVisited someone (5 ⦂ 4294967292 ∷ 7 ⦂ 1 ∷ []) 1)
+    ∷ example none (7 ⦂ 10 ∷ 9 ⦂ 4294967295 ∷ []) 4294967294 (lent 2) (sectionsVisited none (7 ⦂ 2 ∷ 9 ⦂ 4294967292 ∷ []) 2)
+    ∷ example none (7 ⦂ 4294967295 ∷ []) 4294967295 (lent 2) (sectionsVisited none (5 ⦂ 3 ∷ 7 ⦂ 4294967292 ∷ []) 1)
+    ∷ example none [] 4294967293 (lent 1) (sectionsVisited none (5 ⦂ 4294967293 ∷ []) 0)
     ∷ example none (7 ⦂ 1 ∷ []) 4294967295 (lent 1) (keptValue 10)
     ∷ example none (7 ⦂ 10 ∷ 9 ⦂ 5 ∷ []) 20 (lent 2) (keptValue 10)
     ∷ example none (9 ⦂ 5 ∷ 7 ⦂ 10 ∷ []) 20 (lent 3) (keptValue 11)
+    ∷ example none (9 ⦂ 5 ∷ 7 ⦂ 10 ∷ []) 0 (lent 0) (keptValue 11)
     ∷ []
 
 pub key-marked : map (made splitKey) key-examples ≡ map (λ (e : Example AfterRemoval). e .left) key-examples

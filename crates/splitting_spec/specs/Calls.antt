@@ -80,16 +80,16 @@ toldWith v (ok x) = ok (record { removal = x; visited = v })
 toldWith v (refused n) = refused n
 
 -- what a call leaves that gives a removal, and how many records were visited
-abbrev pub visiting : ℕ → AfterRemoval → After
-visiting v a = record { answer = toldWith v (a .answer); rows = a .rows }
+abbrev pub withVisited : ℕ → AfterRemoval → After
+withVisited v a = record { answer = toldWith v (a .answer); rows = a .rows }
 
 -- ---- the calls
 
--- `split_key_removed_bytes`
+-- `split_key_removed_bytes`: 11 where the flags are not proper, before all else
 unfoldable pub splitKey : Head → List ℕ → List ℕ → ℕ → Tables → AfterRemoval
 splitKey h es cs n t = whereProper (proper h es cs) (keyRemoval (flagsOf h es cs) n) t
 
--- `split_value_removed_bytes`
+-- `split_value_removed_bytes`: the same
 unfoldable pub splitValue : Head → List ℕ → List ℕ → ℕ → Tables → After
 splitValue h es cs n t =
-    visiting (visitedFor (flagsOf h es cs) n) (whereProper (proper h es cs) (valueRemoval (flagsOf h es cs) n) t)
+    withVisited (visitedFor (flagsOf h es cs) n) (whereProper (proper h es cs) (valueRemoval (flagsOf h es cs) n) t)

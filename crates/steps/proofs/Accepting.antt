@@ -24,7 +24,7 @@ use Rattle.rows_spec.specs.Removals.{rowsOfRemoval}
 use Rattle.splitting_spec.specs.Sections.{split}
 use Rattle.splitting_spec.specs.Calls.{valuePart, Told, splitValue}
 use Rattle.splitting_spec.proofs.Sections.{split-none}
-use Rattle.splitting_spec.proofs.Accepted.{value-stands, valueTold, value-accepted}
+use Rattle.splitting_spec.proofs.Accepted.{value-stands, valueAnswer, value-accepted}
 use Rattle.removal_spec.proofs.OwnSplit.{rest, Incoming, split-merged}
 use Rattle.steps.specs.Held.{Held, properHeld, flagsIn}
 use Rattle.steps.specs.History.{Edit, add, remove, State, state, leftBy, splitMerged, step}
@@ -58,26 +58,26 @@ afterRemoval f rows x =
 module _ (h : Held) (rows : List Row) (x : Edit) (s : properHeld h ≡ true) (t : properHeld (x .incoming) ≡ true) where
   -- the merge of what the split left
   own-step : Incoming (flagsIn h) (flagsIn (x .incoming)) → h .head .records ≤ length (x .epochs) → h .head .records ≤ length (x .counts)
-      → Room (length (flagsIn h .records) + 1) (x .rows) → step (state h rows) (remove x) ≡ ok (afterRemoval (flagsIn h) rows x)
+      → Room (length (flagsIn h .records) + 1) (x .row-tables) → step (state h rows) (remove x) ≡ ok (afterRemoval (flagsIn h) rows x)
   unfolding step
   own-step w he hc r =
       let n = x .amount in
       let f = flagsIn h in
-      let u = valueTold (h .head) (h .epochs) (h .counts) n (x .rows) in
-      let a = value-accepted (h .head) (h .epochs) (h .counts) n (x .rows) s r in
-      let m = split-merged (h .head) (h .epochs) (h .counts) n (x .rows) u (x .incoming .head) (x .incoming .epochs) (x .incoming .counts) (x .strategy) (x .epochs) (x .counts) a t w he hc in
-      let v = value-stands (h .head) (h .epochs) (h .counts) n (x .rows) u a in
-      ap (λ (y : Answer Told). splitMerged (state h rows) x y (splitValue (h .head) (h .epochs) (h .counts) n (x .rows) .rows)) a
+      let u = valueAnswer (h .head) (h .epochs) (h .counts) n (x .row-tables) in
+      let a = value-accepted (h .head) (h .epochs) (h .counts) n (x .row-tables) s r in
+      let m = split-merged (h .head) (h .epochs) (h .counts) n (x .row-tables) u (x .incoming .head) (x .incoming .epochs) (x .incoming .counts) (x .strategy) (x .epochs) (x .counts) a t w he hc in
+      let v = value-stands (h .head) (h .epochs) (h .counts) n (x .row-tables) u a in
+      ap (λ (y : Answer Told). splitMerged (state h rows) x y (splitValue (h .head) (h .epochs) (h .counts) n (x .row-tables) .rows)) a
       ∙ (λ i. leftBy (m i) (rows ++ rowsOfRemoval (v i)))
       ∙ ap (λ (l : List Row). ok (state (heldIn (placed (rest f n) (x .epochs) (x .counts))) (rows ++ l))) (own-rows (idOf (f .owner)) (f .base) (f .records) n)
 
 -- A REMOVAL IS ACCEPTED, AND LEAVES WHAT ITS SPLIT LEAVES
 pub removal-step : (h : Held) (f : Flags) (rows : List Row) (x : Edit) → Stands h f → properHeld (x .incoming) ≡ true → Incoming f (flagsIn (x .incoming))
-    → length (f .records) ≤ length (x .epochs) → length (f .records) ≤ length (x .counts) → Room (length (f .records) + 1) (x .rows)
+    → length (f .records) ≤ length (x .epochs) → length (f .records) ≤ length (x .counts) → Room (length (f .records) + 1) (x .row-tables)
     → step (state h rows) (remove x) ≡ ok (afterRemoval f rows x)
 removal-step h f rows x s t w he hc r =
     let l = stands-long s in
-    subst (λ (g : Flags). Incoming g (flagsIn (x .incoming)) → Room (length (g .records) + 1) (x .rows) → step (state h rows) (remove x) ≡ ok (afterRemoval g rows x)) (s .are)
+    subst (λ (g : Flags). Incoming g (flagsIn (x .incoming)) → Room (length (g .records) + 1) (x .row-tables) → step (state h rows) (remove x) ≡ ok (afterRemoval g rows x)) (s .are)
     (λ w r. own-step h rows x (s .are-proper) t w (omega arith) (omega arith) r) w r
 
 -- ---- an addition

@@ -20,7 +20,7 @@ use Rattle.rows_spec.specs.Outcomes.{After as AfterRemoval, kept as keptRemoval
 use Rattle.rows_spec.specs.declared.removed.Removed.{Removed}
 use Rattle.sums_spec.specs.Sums.{sum}
 use Rattle.sums_spec.specs.Calls.{summed}
-use Rattle.splitting_spec.specs.Calls.{keyRemoval, valueRemoval, visitedFor, After as AfterSplit, kept as keptSplit, toldWith, visiting, splitKey, splitValue}
+use Rattle.splitting_spec.specs.Calls.{keyRemoval, valueRemoval, visitedFor, After as AfterSplit, kept as keptSplit, toldWith, withVisited, splitKey, splitValue}
 use Rattle.removal_spec.specs.Removing.{removed}
 use Rattle.removal_spec.specs.Calls.{combinedRemoved}
 use Rattle.steps.specs.Held.{Held, properHeld, flagsIn, addedInto, removedInto}
@@ -145,9 +145,9 @@ module _ (t : Tables) where
   SplitKept = Kept (λ (a : AfterSplit). numberIn (a .answer)) (λ n. keptSplit n t)
 
   -- the number of records visited beside it
-  visiting-kept : (v : ℕ) (a : AfterRemoval) → RowsKept a → SplitKept (visiting v a)
+  visiting-kept : (v : ℕ) (a : AfterRemoval) → RowsKept a → SplitKept (withVisited v a)
   visiting-kept v a k h =
-      ap (visiting v) (k (λ e. h (same-number v (a .answer) ∙ e))) ∙ ap (λ (n : ℕ). keptSplit n t) (sym (same-number v (a .answer)))
+      ap (withVisited v) (k (λ e. h (same-number v (a .answer) ∙ e))) ∙ ap (λ (n : ℕ). keptSplit n t) (sym (same-number v (a .answer)))
 
   value-kept : (f : Held) (n : ℕ) → SplitKept (splitValue (f .head) (f .epochs) (f .counts) n t)
   unfolding splitValue

@@ -32,7 +32,7 @@ narrow x =
       amount = x .amount;
       epochs = x .epochs;
       counts = x .counts;
-      rows = tables (zeros ∷ zeros ∷ []) (0 ∷ 0 ∷ []) (0 ∷ 0 ∷ []);
+      row-tables = tables (zeros ∷ zeros ∷ []) (0 ∷ 0 ∷ []) (0 ∷ 0 ∷ []);
     }
 
 pub examples : List Example

@@ -27,8 +27,8 @@ written-only x a b p q =
     let e = wrote-only (a .0) (b .0) (a .1) (b .1) x p q in
     λ z. (e .0 z, e .1 z)
 
-removing-only : (x : AfterRemoval) (a b : AnsweredRemoval × Tables) → shownRemoval (a .0) (a .1) ≡ x → shownRemoval (b .0) (b .1) ≡ x → a ≡ b
-removing-only x a b p q =
+giving-removal-only : (x : AfterRemoval) (a b : AnsweredRemoval × Tables) → shownRemoval (a .0) (a .1) ≡ x → shownRemoval (b .0) (b .1) ≡ x → a ≡ b
+giving-removal-only x a b p q =
     let e = removal-only (a .0) (b .0) (a .1) (b .1) x p q in
     λ z. (e .0 z, e .1 z)
 
@@ -64,6 +64,6 @@ only combine-removed-bytes i a b = flagged-only _ a b
 only optional-combine-removed-bytes i a b = flagged-only _ a b
 only has-removal i a b = told-only a b _
 only total-removed-bytes i a b = totalled-only a b _
-only add-assign i a b = removing-only _ a b
-only split-key-removed-bytes i a b = removing-only _ a b
+only add-assign i a b = giving-removal-only _ a b
+only split-key-removed-bytes i a b = giving-removal-only _ a b
 only split-value-removed-bytes i a b = splitting-only _ a b

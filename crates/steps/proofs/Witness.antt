@@ -48,7 +48,7 @@ room n = tables (replicate n []) (replicate n 0) (replicate n 0)
 -- incoming flags of an owner or none, at an epoch; a strategy; an amount; room for two records and three rows
 abbrev edit : Option (List ℕ) → ℕ → MergingOwnersStrategy → ℕ → Edit
 edit o e s n =
-    record { incoming = exactly (flags e o []); strategy = s; amount = n; epochs = replicate 2 0; counts = replicate 2 0; rows = room 3 }
+    record { incoming = exactly (flags e o []); strategy = s; amount = n; epochs = replicate 2 0; counts = replicate 2 0; row-tables = room 3 }
 
 abbrev firsts : List Step
 firsts = add (edit none 9 UseTheirs 5) ∷ remove (edit owner 6 RaiseIssue 3) ∷ add (edit owner 9 RaiseIssue 3) ∷ remove (edit none 65535 UseOurs 5) ∷ []

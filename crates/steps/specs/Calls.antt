@@ -133,8 +133,8 @@ abbrev pub totalling : {I : Type 0} → (I → Answer ℕ) → Call
 totalling {I} f = record { Input = I; Outcome = Total; Shown = Answer ℕ; shows = totalled; says = f; refusal = numberIn; refuses = λ n i. refused n }
 
 -- a removal's state or a refusal, and its tables
-abbrev pub removing : {I : Type 0} → (I → Tables) → (I → AfterRemoval) → Call
-removing {I} out f =
+abbrev pub givingRemoval : {I : Type 0} → (I → Tables) → (I → AfterRemoval) → Call
+givingRemoval {I} out f =
     record {
       Input = I;
       Outcome = AnsweredRemoval × Tables;
@@ -211,9 +211,9 @@ contract optional-combine-removed-bytes =
 contract has-removal = decided (λ (i : Rows). hasRemoval (i .state) (i .tables))
 contract total-removed-bytes = totalling (λ (i : Rows). totalRemoved (i .state) (i .tables))
 -- the version, and both removals; it works in the tables of the left one
-contract add-assign = removing (λ (i : ℕ × Rows × Rows). i .1 .tables) (λ i. summed (i .0) (i .1 .state) (i .1 .tables) (i .2 .state) (i .2 .tables))
+contract add-assign = givingRemoval (λ (i : ℕ × Rows × Rows). i .1 .tables) (λ i. summed (i .0) (i .1 .state) (i .1 .tables) (i .2 .state) (i .2 .tables))
 -- flags, the bytes, and the tables lent for their rows
 contract split-key-removed-bytes =
-    removing (λ (i : Held × ℕ × Tables). i .2) (λ i. splitKey (i .0 .head) (i .0 .epochs) (i .0 .counts) (i .1) (i .2))
+    givingRemoval (λ (i : Held × ℕ × Tables). i .2) (λ i. splitKey (i .0 .head) (i .0 .epochs) (i .0 .counts) (i .1) (i .2))
 contract split-value-removed-bytes =
     splitting (λ (i : Held × ℕ × Tables). i .2) (λ i. splitValue (i .0 .head) (i .0 .epochs) (i .0 .counts) (i .1) (i .2))

@@ -41,7 +41,7 @@ pub record Removes (f : Held) (x : Edit) : Type 0 where
   pub above-our-base : f .head .base < x .incoming .head .base
   pub at-most : x .amount ≤ largest
   pub record-room : RecordRoom f x
-  pub row-room : Room (f .head .records + 1) (x .rows)
+  pub row-room : Room (f .head .records + 1) (x .row-tables)
 
 -- first come additions at e and removals, where the latest record held c at first, and A were added and R removed so far:
 -- never more removed than added so far, and no count past 4,294,967,295

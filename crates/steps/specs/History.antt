@@ -21,7 +21,7 @@ pub record Edit : Type 0 where
   pub amount : ℕ
   pub epochs : List ℕ
   pub counts : List ℕ
-  pub rows : Tables
+  pub row-tables : Tables
 
 -- an addition, or a removal
 pub data Step : Type 0 where
@@ -53,7 +53,7 @@ splitMerged st x (ok u) t =
 -- a removal is a value split, then its merge
 abbrev pub removal : State → Edit → Answer State
 removal st x =
-    let a = splitInto (st .flags) (x .amount) (x .rows) in
+    let a = splitInto (st .flags) (x .amount) (x .row-tables) in
     splitMerged st x (a .answer) (a .rows)
 
 -- a step

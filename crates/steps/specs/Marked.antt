@@ -51,7 +51,7 @@ unowned base rs = holding (headOf (flags base none rs)) (epochsOf rs) (countsOf 
 -- incoming flags of kind 0 at an epoch, and an amount
 abbrev pub edit : ℕ → ℕ → Edit
 edit e n =
-    record { incoming = unowned e []; strategy = RaiseIssue; amount = n; epochs = places; counts = places; rows = rowPlaces }
+    record { incoming = unowned e []; strategy = RaiseIssue; amount = n; epochs = places; counts = places; row-tables = rowPlaces }
 
 -- ---- what is told
 

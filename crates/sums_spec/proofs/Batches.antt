@@ -16,7 +16,7 @@ use Rattle.rows_spec.specs.declared.removed.Removed.{Removed}
 use Rattle.rows_spec.proofs.Rows.{room-in, has-room, room-less}
 use Rattle.rows_spec.proofs.Over.{removal-over, proper-over}
 use Rattle.rows_spec.proofs.Columns.{over-room, room-over, over-over}
-use Rattle.rows_spec.proofs.Outcomes.{done, placing-room, placing-none, placing-self}
+use Rattle.rows_spec.proofs.Outcomes.{done, placing-done, placing-refused, placing-self}
 use Rattle.sums_spec.specs.Sums.{unknown, sum}
 use Rattle.sums_spec.specs.AnyOrder.{ProperRemoval}
 use Rattle.sums_spec.specs.Batches.{Each, Operand, ProperOperand, onward, addAll, SameSheet, AnyBatch}
@@ -76,10 +76,10 @@ module _ (v : ℕ) where
     first a e = ap (λ (b : After). onward (b .answer) (b .rows) (addAll v ys)) (sym (summed-proper v x t (y .state) (y .rows) p (q .0)) ∙ e)
 
     first-fits : Room (length (rowsOfRemoval next)) t → addAll v (y ∷ ys) x t ≡ addAll v ys (stateOf next) (overRows (rowsOfRemoval next) t)
-    first-fits h = first _ (placing-room next t (has-room h))
+    first-fits h = first _ (placing-done next t (has-room h))
 
     first-short : roomIn (length (rowsOfRemoval next)) t ≡ false → addAll v (y ∷ ys) x t ≡ kept 10 t
-    first-short h = first _ (placing-none next t h)
+    first-short h = first _ (placing-refused next t h)
 
     -- what had no room before the first call has none behind it
     still-short : Room (length (rowsOfRemoval next)) t → roomIn (length (rowsOfRemoval (all next ys))) t ≡ false
@@ -102,14 +102,14 @@ module _ (v : ℕ) where
       let e = removal-over n t in
       first-fits y ys x t p q (room-less (length rs) more h)
       ∙ batch-fits ys (stateOf n) (overRows rs t) (proper-over n t np) (q .1) (subst (λ (z : Removal). Room (length (rowsOfRemoval (all z ys))) (overRows rs t)) (sym e) then)
-      ∙ ap (λ (z : Removal). placing (all z ys) (overRows rs t)) e ∙ placing-room (all n ys) (overRows rs t) (has-room then)
-      ∙ ap (done (stateOf (all n ys))) (over-over rs (rowsOfRemoval (all n ys)) t more) ∙ sym (placing-room (all n ys) t (has-room h))
+      ∙ ap (λ (z : Removal). placing (all z ys) (overRows rs t)) e ∙ placing-done (all n ys) (overRows rs t) (has-room then)
+      ∙ ap (done (stateOf (all n ys))) (over-over rs (rowsOfRemoval (all n ys)) t more) ∙ sym (placing-done (all n ys) t (has-room h))
 
   -- where it has none, some call has none
   pub batch-short : (ys : List Operand) (x : Removed) (t : Tables) → proper x t ≡ true → Each ProperOperand ys
       → roomIn (length (rowsOfRemoval (all (removalOf x t) ys))) t ≡ false → addAll v ys x t .answer ≡ refused 10
   unfolding sumAll addAll
-  batch-short [] x t p q h = ap answered (placing-self x t p ∙ placing-none (removalOf x t) t h)
+  batch-short [] x t p q h = ap answered (placing-self x t p ∙ placing-refused (removalOf x t) t h)
   batch-short (y ∷ ys) x t p q h =
       let n = next y ys x t p q in
       let rs = rowsOfRemoval n in

@@ -32,7 +32,7 @@ fn word_at(text: &[u8], from: usize) -> &[u8] {
     &text[0..0]
 }
 
-// Writes the name of a call number, the place of its word here.
+// Writes the name of a call number, the place of its word here. A call that is there no more has the word `retired`.
 pub fn print_name(call: usize) {
     let names: &[u8] =
         b"none deserialize deserialize_single_epoch deserialize_multi_epoch deserialize_single_epoch_owned deserialize_multi_epoch_owned serialize serialized_size approximate_size combine_owner_id combine_added_bytes optional_combine_added_bytes combine_removed_bytes optional_combine_removed_bytes retired add_assign has_removal total_removed_bytes new_single_epoch set_owner_id base_epoch owner_id type_byte repair totals_replace split_key_removed_bytes split_value_removed_bytes";

@@ -2,15 +2,13 @@
 use crate::convert;
 use crate::generate::numbers::{COUNTS, EPOCHS, OWNERS};
 use crate::groups::Visit;
-use crate::question::{Merge, Question, Split, READERS};
+use crate::question::{Both, Merge, Question, READERS};
 use crate::values::*;
 
 /// All of them.
 pub fn questions(visit: &mut Visit) {
     for count in COUNTS {
-        let unowned = Flags::new(1, 5, ZEROS, &[(7, count)]);
-        let owned = Flags::new(3, 5, OWNERS[1], &[(6, 3), (7, count)]);
-        for flags in [unowned, owned] {
+        for flags in at_seven(count) {
             written(&flags, visit);
             added(&flags, count, visit);
             removed(&flags, count, visit);
@@ -24,6 +22,11 @@ pub fn questions(visit: &mut Visit) {
         written(&Flags::new(0, epoch, ZEROS, &[]), visit);
         written(&Flags::new(2, epoch, OWNERS[4], &[]), visit);
     }
+}
+
+/// Flags with so many bytes at 7, unowned and owned.
+fn at_seven(count: u32) -> [Flags; 2] {
+    [Flags::new(1, 5, ZEROS, &[(7, count)]), Flags::new(3, 5, OWNERS[1], &[(6, 3), (7, count)])]
 }
 
 /// Room for records.
@@ -54,15 +57,28 @@ fn added(flags: &Flags, count: u32, visit: &mut Visit) {
     }
 }
 
-/// Splits and sections around what the record at 7 holds.
+/// Amounts around what the record at 7 holds.
+fn around(count: u32) -> [u32; 5] {
+    [count.wrapping_sub(4), count.wrapping_sub(3), count.wrapping_sub(2), count, count.wrapping_add(1)]
+}
+
+/// Sections around what the record at 7 holds.
 fn removed(flags: &Flags, count: u32, visit: &mut Visit) {
-    for value in [count.wrapping_sub(4), count.wrapping_sub(3), count.wrapping_sub(2), count, count.wrapping_add(1)] {
-        let rows = Rows { ids: vec![[0x5a; 32]; 4], epochs: vec![0x5a5a; 4], bytes: vec![0x5a5a_5a5a; 4] };
-        visit(Question::SplitKey(Split { flags: flags.clone(), bytes: value, rows: rows.clone() }));
-        visit(Question::SplitValue(Split { flags: flags.clone(), bytes: value, rows }));
+    for bytes in around(count) {
         let (ours, theirs) = (flags.clone(), Flags::new(0, 9, ZEROS, &[]));
-        let with = Removal::sectioned(&[(flags.identifier(), 7, value)]);
+        let with = Removal::sectioned(&[(flags.identifier(), 7, bytes)]);
         visit(Question::CombineRemoved(Merge { present: None, ours, theirs, with, strategy: 0, lent: room(3) }));
+    }
+}
+
+/// Splits around what the record at 7 holds, of the key a byte more than of the value.
+pub fn splits(visit: &mut dyn FnMut(Both)) {
+    let rows = Rows { ids: vec![[0x5a; 32]; 4], epochs: vec![0x5a5a; 4], bytes: vec![0x5a5a_5a5a; 4] };
+    for count in COUNTS {
+        for (flags, bytes) in at_seven(count).iter().flat_map(|flags| around(count).map(|bytes| (flags, bytes))) {
+            let key = bytes.wrapping_add(1);
+            visit(Both { flags: flags.clone(), key, value: bytes, key_rows: rows.clone(), value_rows: rows.clone() });
+        }
     }
 }
 

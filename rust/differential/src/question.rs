@@ -132,6 +132,16 @@ pub enum Asked {
     Both(Both),
 }
 
+impl Asked {
+    /// The numbers of its calls.
+    pub fn numbers(&self) -> Vec<usize> {
+        match self {
+            Asked::Call(question) => vec![question.number()],
+            Asked::Both(_) => vec![SPLIT_KEY, SPLIT_VALUE],
+        }
+    }
+}
+
 /// A change of one element's flags, and a table of totals with its number of rows. Flags whose byte is 0 are absent.
 #[derive(Clone, Debug, Default, PartialEq, Eq)]
 pub struct Change {

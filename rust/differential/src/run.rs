@@ -5,7 +5,7 @@ use crate::expected::{expected, expected_all, Expected};
 use crate::intended::INTENDED;
 use crate::owned;
 use crate::progress::Progress;
-use crate::question::{Asked, Change, Question, Reply, CALLS, SPLIT_KEY, SPLIT_VALUE};
+use crate::question::{Asked, Change, Question, Reply, CALLS};
 use crate::values::{petasunok_count, Rows};
 
 /// The largest number of a refusal.
@@ -83,11 +83,7 @@ impl Run {
 
     /// Compares what is asked at once, as far as its calls are asked for. The original is asked once.
     pub fn compare(&mut self, asked: Asked) {
-        let wanted = match &asked {
-            Asked::Call(question) => self.wants(question.number()),
-            Asked::Both(_) => self.wants(SPLIT_KEY) || self.wants(SPLIT_VALUE),
-        };
-        if !wanted {
+        if !asked.numbers().into_iter().any(|number| self.wants(number)) {
             return;
         }
         for (question, expected) in expected_all(asked) {

@@ -32,7 +32,7 @@ const HISTORY_OF_MANY: u64 = 4_096;
 /// All stages.
 pub fn all(run: &mut Run, rounds: u64, seed: u64) {
     run.progress.stage("boundaries".into());
-    let examples = [marked::questions, edges::questions].map(Boundaries::Calls);
+    let examples = [Boundaries::Calls(marked::questions), Boundaries::Calls(edges::questions), Boundaries::Splits(edges::splits)];
     let of_repairs = [repairs::questions, repairing::boundaries, repairing::short_strings].map(Boundaries::Calls);
     let of_totals = [totals::questions, of_totals::boundaries].map(Boundaries::Calls);
     for boundaries in examples.into_iter().chain(BOUNDARIES).chain(of_repairs).chain(of_totals) {

@@ -3,9 +3,9 @@ use crate::blocks;
 use crate::edges;
 use crate::expected::{expected_all, Expected};
 use crate::fields;
-use crate::groups::{repairing, totals as of_totals, Boundaries, Randomly, Visit, BOUNDARIES, RANDOMLY};
+use crate::groups::{repairing, totals as of_totals, Boundaries, Randomly, BOUNDARIES, RANDOMLY};
 use crate::marked;
-use crate::question::{Asked, Question, CALLS};
+use crate::question::{Question, CALLS};
 use crate::random::Random;
 use crate::repairs;
 use crate::totals;
@@ -73,15 +73,16 @@ struct List {
 /// The list that a seed gives.
 pub fn list(seed: u64) -> String {
     let mut list = List::default();
-    list.all(marked::questions);
-    list.all(edges::questions);
+    list.all(&Boundaries::Calls(marked::questions));
+    list.all(&Boundaries::Calls(edges::questions));
+    list.all(&Boundaries::Splits(edges::splits));
     list.boundaries(seed, &BOUNDARIES);
     list.random(seed, &RANDOMLY, TRIES);
-    list.all(blocks::questions);
-    list.all(repairs::questions);
+    list.all(&Boundaries::Calls(blocks::questions));
+    list.all(&Boundaries::Calls(repairs::questions));
     list.boundaries(seed, &[Boundaries::Calls(repairing::boundaries)]);
     list.random(seed, &[Randomly::Call(repairing::random)], TRIES_OF_REPAIRS);
-    list.all(totals::questions);
+    list.all(&Boundaries::Calls(totals::questions));
     list.boundaries(seed, &[Boundaries::Calls(of_totals::boundaries)]);
     list.random(seed, &[Randomly::Call(of_totals::random)], TRIES_OF_TOTALS);
     let mut text = HEAD.to_string();
@@ -113,29 +114,27 @@ impl List {
     }
 
     /// All of some questions.
-    fn all(&mut self, questions: fn(&mut Visit)) {
-        questions(&mut |question| {
-            for (question, expected) in expected_all(Asked::Call(question)) {
-                self.add(&question, &expected);
-            }
-        });
+    fn all(&mut self, questions: &Boundaries) {
+        questions.visit(&mut |asked| expected_all(asked).iter().for_each(|(question, expected)| _ = self.add(question, expected)));
     }
 
     /// Some of every call's boundaries, by chance. Each call has random numbers of its own, so that what changes of one leaves the others.
     fn boundaries(&mut self, seed: u64, of_groups: &[Boundaries]) {
-        let all = |visit: &mut dyn FnMut(Question, Expected)| {
-            let mut each = |asked| expected_all(asked).into_iter().for_each(|(question, expected)| visit(question, expected));
-            of_groups.iter().for_each(|boundaries| boundaries.visit(&mut each));
-        };
         let mut numbers = [0; CALLS.len() + 1];
-        all(&mut |question, _| numbers[question.number()] += 1);
+        for boundaries in of_groups {
+            boundaries.visit(&mut |asked| asked.numbers().into_iter().for_each(|number| numbers[number] += 1));
+        }
         let mut randoms: Vec<_> = own_randoms(seed, numbers.len()).collect();
-        all(&mut |question, expected| {
-            let number = question.number();
-            if randoms[number].below(numbers[number]) < BOUNDARIES_OF_CALL {
-                self.add(&question, &expected);
-            }
-        });
+        for boundaries in of_groups {
+            boundaries.visit(&mut |asked| {
+                let mut chosen = |number: usize| randoms[number].below(numbers[number]) < BOUNDARIES_OF_CALL;
+                let chosen: Vec<_> = asked.numbers().into_iter().map(&mut chosen).collect();
+                if chosen.contains(&true) {
+                    let all = expected_all(asked).into_iter().zip(chosen).filter(|(_, chosen)| *chosen);
+                    all.for_each(|((question, expected), _)| _ = self.add(&question, &expected));
+                }
+            });
+        }
     }
 
     /// Random questions, some for each call and refusal. Each sort of them has random numbers of its own.

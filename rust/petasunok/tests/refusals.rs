@@ -66,13 +66,13 @@ fn eight_stays_taken() {
     let refusal = StorageFlagsError::from_number(RETIRED);
     assert_eq!(refusal, Some(StorageFlagsError::RemovalTooLarge));
     assert!(refusal.is_some_and(|refusal| refusal.to_string().contains("no longer given")));
-    for value in u32::MAX - 4..=u32::MAX {
+    for bytes in u32::MAX - 4..=u32::MAX {
         for flags in [records([(7, 1)]), records([(7, 10), (9, u32::MAX)]), SingleEpoch(5)] {
-            assert_eq!(number(both::split_key_removed_bytes(&flags, value, 1)), 0, "{flags}, {value} bytes");
+            assert_eq!(number(both::split_key_removed_bytes(&flags, bytes, 1)), 0, "{flags}, {bytes} bytes");
             assert_eq!(
-                number(both::split_value_removed_bytes(&flags, value, ENOUGH)),
+                number(both::split_value_removed_bytes(&flags, bytes, ENOUGH)),
                 0,
-                "{flags}, {value} bytes"
+                "{flags}, {bytes} bytes"
             );
         }
     }

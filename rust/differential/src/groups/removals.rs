@@ -5,17 +5,16 @@ use crate::question::{Both, Reply};
 use crate::random::Random;
 use crate::values::*;
 
-/// Counts of one, two and three records with amounts; key bytes; every room.
+/// Counts of one, two and three records with amounts of a value, and of a key; every room.
 pub fn boundaries(visit: &mut dyn FnMut(Both)) {
     for (count, value) in numbers::COUNTS.into_iter().flat_map(|count| numbers::COUNTS.map(|value| (count, value))) {
         for kind in 0..5 {
-            for key in [0, 1, u32::MAX] {
-                ask(Flags::new(kind, 5, [9; 32], &[(7, count)][..usize::from(kind % 2)]), key, value, visit);
-            }
+            ask(Flags::new(kind, 5, [9; 32], &[(7, count)][..usize::from(kind % 2)]), value, count, visit);
+            ask(Flags::new(kind, 5, [9; 32], &[(7, count)][..usize::from(kind % 2)]), 0, value, visit);
         }
         for second in numbers::COUNTS {
-            ask(Flags::new(1, 5, [9; 32], &[(7, count), (9, second)]), 0, value, visit);
-            ask(Flags::new(3, 5, [9; 32], &[(6, second), (7, 3), (65_535, count)]), 0, value, visit);
+            ask(Flags::new(1, 5, [9; 32], &[(7, count), (9, second)]), second, value, visit);
+            ask(Flags::new(3, 5, [9; 32], &[(6, second), (7, 3), (65_535, count)]), second, value, visit);
         }
     }
     for base in numbers::EPOCHS {
@@ -33,19 +32,15 @@ fn room(ids: usize, epochs: usize, bytes: usize) -> Rows {
 
 /// A split with ample room.
 fn ask(flags: Flags, key: u32, value: u32, visit: &mut dyn FnMut(Both)) {
-    visit(Both { flags, key, value, key_rows: room(2, 2, 2), value_rows: room(5, 5, 5) });
+    visit(Both { flags, key, value, key_rows: room(1, 2, 3), value_rows: room(5, 5, 5) });
 }
 
 /// Every room up to what is needed and one more.
 fn rooms(visit: &mut dyn FnMut(Both)) {
     for (ids, epochs, bytes) in (0..64).map(|n| (n / 16, n / 4 % 4, n % 4)) {
-        for (key_room, value) in [(0, 1), (1, 1), (2, 1), (0, 100), (1, 100), (1, 0)] {
-            for key in [0, 3] {
-                let flags = Flags::new(3, 5, [9; 32], &[(7, 10), (8, 10)]);
-                let (key_rows, value_rows) = (room(key_room, key_room, key_room), room(ids, epochs, bytes));
-                visit(Both { flags: flags.clone(), key, value, key_rows, value_rows: value_rows.clone() });
-                visit(Both { flags, key, value, key_rows: value_rows, value_rows: room(3, 3, 3) });
-            }
+        for (key, value) in [(0, 0), (0, 1), (3, 1), (3, 100)] {
+            let flags = Flags::new(3, 5, [9; 32], &[(7, 10), (8, 10)]);
+            visit(Both { flags, key, value, key_rows: room(bytes, ids, epochs), value_rows: room(ids, epochs, bytes) });
         }
     }
 }
@@ -61,11 +56,11 @@ pub fn both(random: &mut Random, most: usize) -> Both {
     };
     let key = if random.one_in(2) { 0 } else { numbers::count(random) };
     let value_rows = lent::exact_rows(random, flags.tables.room() + 1);
-    fit(random, Both { flags, key, value, key_rows: room(1, 2, 1), value_rows })
+    with_room(random, Both { flags, key, value, key_rows: room(1, 2, 1), value_rows })
 }
 
-/// Splits whose room is ample, or near what the answers need.
-fn fit(random: &mut Random, mut both: Both) -> Both {
+/// The same, or with room near what the answers need.
+fn with_room(random: &mut Random, mut both: Both) -> Both {
     if random.one_in(2) {
         return both;
     }

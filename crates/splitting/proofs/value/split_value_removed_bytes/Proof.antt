@@ -15,7 +15,7 @@ use Rattle.records_spec.proofs.Proper.{IsProper, proper-inv, proper-above, prop
 use Rattle.rows_spec.specs.Rows.{Tables, tables}
 use Rattle.rows_spec.specs.Outcomes.{placing}
 use Rattle.splitting_spec.specs.Sections.{sections, split}
-use Rattle.splitting_spec.specs.Calls.{valuePart, visiting, splitValue}
+use Rattle.splitting_spec.specs.Calls.{valuePart, withVisited, splitValue}
 use Rattle.splitting_spec.specs.declared.giving.Visited.{Visited}
 use Rattle.splitting_spec.proofs.Counting.{sections-short, base-short}
 use Rattle.splitting_spec.proofs.Calls.{rows-told, fits, value-placed, value-short, value-bad, value-proper}
@@ -45,7 +45,7 @@ module _ (at-if1 : tie.Then1) where
 
   -- so the outcome is what is placed, under an identifier that is ours
   then-split : (i : List ℕ) → i ≡ our-id
-      → visiting (length (sections records (start .args .removed-value-bytes)))
+      → withVisited (length (sections records (start .args .removed-value-bytes)))
       (placing (valuePart i (start .args .flags .base) records (start .args .removed-value-bytes)) (lent start))
       ≡ splitValue (start .args .flags) (start .args .epochs .now) (start .args .counts .now) (start .args .removed-value-bytes) (lent start)
   then-split i e =
