@@ -95,7 +95,7 @@ module _ (h : Head) (es cs : List ℕ) (n : ℕ) (t : Tables) where
           comes-to = ap total value-stands ∙ value-sum (idOf (f .owner)) (h .base) (f .records) n;
         }
 
-    -- SO MANY RECORDS WERE VISITED AS THE REMOVAL HAS SECTIONS BESIDE THE BASE
+    -- SO MANY RECORDS WERE VISITED AS THE REMOVAL THAT IT LEAVES HAS SECTIONS BESIDE THE BASE
     pub visited-are : u .visited ≡ length (besideBase (h .base) (partsOf (rowsOfRemoval (removalOf (u .removal) (splitValue h es cs n t .rows)))))
     visited-are =
         value-told .1 ∙ visited-beside (idOf (f .owner)) (h .base) (f .records) n (rises flags-proper)
@@ -120,7 +120,7 @@ module _ (h : Head) (es cs : List ℕ) (n : ℕ) (t : Tables) where
   valueAnswer = record { removal = stateOf (valueRemoval f n); visited = visitedFor f n }
 
   module _ (p : proper h es cs ≡ true) where
-    -- A ROW IS ROOM ENOUGH FOR ANY KEY BYTES
+    -- OF PROPER FLAGS A ROW IS ROOM ENOUGH FOR ANY KEY BYTES
     pub key-accepted : Room 1 t → splitKey h es cs n t .answer ≡ ok (stateOf (keyRemoval f n))
     key-accepted r =
         let k = key-rows (idOf (f .owner)) (h .base) n in
@@ -128,7 +128,7 @@ module _ (h : Head) (es cs : List ℕ) (n : ℕ) (t : Tables) where
         (sym (key-proper h es cs n t (idOf (f .owner)) refl p)
         ∙ placing-done (keyRemoval f n) t (has-room (room-less (length (rowsOfRemoval (keyRemoval f n))) (omega (arith, k, base-short n)) r)))
 
-    -- A ROW MORE THAN THERE ARE RECORDS IS ROOM ENOUGH FOR ANY VALUE BYTES
+    -- OF PROPER FLAGS A ROW MORE THAN THERE ARE RECORDS IS ROOM ENOUGH FOR ANY VALUE BYTES
     pub value-accepted : Room (length (f .records) + 1) t → splitValue h es cs n t .answer ≡ ok valueAnswer
     value-accepted r =
         let k = value-rows (idOf (f .owner)) (h .base) (f .records) n in
@@ -138,7 +138,7 @@ module _ (h : Head) (es cs : List ℕ) (n : ℕ) (t : Tables) where
         ∙ ap (withVisited (visitedFor f n))
         (placing-done (valueRemoval f n) t (has-room (room-less (length (rowsOfRemoval (valueRemoval f n))) (omega (arith, k, l)) r))))
 
--- NO BYTES GIVE NO REMOVAL, AND NEED NO ROOM
+-- OF PROPER FLAGS NO BYTES GIVE NO REMOVAL, AND NEED NO ROOM
 module _ (h : Head) (es cs : List ℕ) (t : Tables) (p : proper h es cs ≡ true) where
   pub no-key-bytes : splitKey h es cs 0 t ≡ done None t
   no-key-bytes = sym (placing-nothing t ∙ key-proper h es cs 0 t (idOf (flagsOf h es cs .owner)) refl p)
