@@ -11,5 +11,9 @@ can-merge-spec =
     (λ c κs. search needs)
     (λ c κs. search needs)
     (λ c κs. search needs)
-    (λ c. simp (sym (c .before .before .before .is-kind-if .ensures) ∙ c .before .before .if1 .taken, c .before .is-kind .ensures, c .is-strategy .ensures))
+    (λ c. simp (
+      sym (c .before .before .before .is-kind-if .ensures) ∙ c .before .before .if1 .taken,
+      c .before .is-kind .ensures,
+      c .is-strategy .ensures,
+    ))
     (λ c. simp (sym (c .before .is-kind-if .ensures) ∙ c .if1 .left)))

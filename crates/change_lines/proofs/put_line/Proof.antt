@@ -43,10 +43,13 @@ put-text-requires-2 c κs =
 
 returns : tie.Need-returns
 returns c =
-    let s = c .before .before .before .before .before .before .before .before .before .before .before .before .before .before .before .before .before .before .before in
-    let d = c .before .before .before .before .before .before .before .before .before .before .before .before .before .before .before .before .put-decimal .ensures in
-    let b = c .before .before .before .before .before .before .before .before .before .before .before .put-text .ensures in
-    let w = c .before .before .before .before .before .before .before .put-words .ensures in
+    let at-put-words = c .before .before .before .before .before .before .before in
+    let at-put-text = at-put-words .before .before .before .before in
+    let at-put-decimal = at-put-text .before .before .before .before .before in
+    let s = at-put-decimal .before .before .before in
+    let d = at-put-decimal .put-decimal .ensures in
+    let b = at-put-text .put-text .ensures in
+    let w = at-put-words .put-words .ensures in
     let e = c .before .before .put-text2 .ensures in
     let p = parts-last (parts-put (parts-put (parts-put (parts-start _ _ _) refl d) refl b) refl w) e in
     record {

@@ -18,17 +18,24 @@ loop-holds : tie.Need-loop-holds Inv-loop μ-loop
 loop-holds c = let p = c .before .before .before .pre in putting-start _ _ _ (p .0 .0) (p .0 .1) _
 
 returns : tie.Need-returns Inv-loop μ-loop
-returns c = putting-full (c .before .before .loop .inv) (c .before .before .before .before .before .before .pre .1) (omega (arith, c .before .before .loop .inv .fits))
+returns c =
+    let start = c .before .before .before .before .before .before in
+    putting-full (c .before .before .loop .inv) (start .pre .1) (omega (arith, c .before .before .loop .inv .fits))
 
 put-line-requires : tie.Need-put-line-requires Inv-loop μ-loop
-put-line-requires c κs = omega (arith, c .before .before .before .if1 .left, c .before .before .before .before .before .loop .inv .fits)
+put-line-requires c κs =
+    let at-loop = c .before .before .before .before .before in
+    omega (arith, c .before .before .before .if1 .left, at-loop .loop .inv .fits)
 
 loop-again : tie.Need-loop-again Inv-loop μ-loop
 loop-again c =
-    let l = c .before .before .before .before .before .before .before .before .loop in
-    let s = c .before .before .before .before .before .before .before .before .before .before .before .before in
-    let t = c .before .before .before .before .before .before .before .loop-test in
-    let i = c .before .before .before .before .before .before .if1 in
+    let at-if1 = c .before .before .before .before .before .before in
+    let at-loop-test = at-if1 .before in
+    let at-loop = at-loop-test .before in
+    let s = at-loop .before .before .before .before in
+    let l = at-loop .loop in
+    let t = at-loop-test .loop-test in
+    let i = at-if1 .if1 in
     putting-line (l .inv) (s .pre .0 .0) (t .taken) (omega (arith, i .left, l .inv .fits)) (c .before .before .put-line .ensures)
 
 returns-2 : tie.Need-returns-2 Inv-loop μ-loop

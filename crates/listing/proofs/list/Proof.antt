@@ -11,12 +11,14 @@ use Rattle.listing.proofs.list.Tie as tie
 
 returns : tie.Need-returns
 returns c =
-    let a = c .before .before .before .before .args in
+    let start = c .before .before .before .before in
+    let a = start .args in
     rw (listed-long (a .src .now) (omega arith)) (sym (writing-short (ascii "too long\n") (a .out .now) (omega arith)))
 
 returns-2 : tie.Need-returns-2
 returns-2 c =
-    let a = c .before .before .before .before .before .before .before .before .before .args in
+    let start = c .before .before .before .before .before .before .before .before .before in
+    let a = start .args in
     rw (listed-long (a .src .now) (omega arith)) (put-written _ (a .out .now) _ _ (c .before .before .put-text .ensures) (omega arith))
 
 pub list-spec : {M : Type 1} → statement M

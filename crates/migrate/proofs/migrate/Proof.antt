@@ -9,10 +9,14 @@ use Rattle.migrate.proofs.migrate.Tie as tie
 
 -- what the repair has left
 left : (c : tie.After-known-told)
-    → let l = c .before .before .before .before .before .before .before .before .before .repair .last in
-    Left (repaired (c .before .before .before .before .before .before .before .before .before .before .before .before .before .before .before .before .before .args .src .now)) (c .before .bytes .given .0 .0) (c .before .bytes .given .0 .1 .0) (l .1 .0) (l .1 .1 .0) (l .1 .1 .1 .0)
+    →
+    let at-repair = c .before .before .before .before .before .before .before .before .before in
+    let start = at-repair .before .before .before .before .before .before .before .before in
+    let l = at-repair .repair .last in
+    Left (repaired (start .args .src .now)) (c .before .bytes .given .0 .0) (c .before .bytes .given .0 .1 .0) (l .1 .0) (l .1 .1 .0) (l .1 .1 .1 .0)
 left c =
-    left-repair _ _ _ _ _ _ _ _ _ (rw (c .before .bytes .given .1) at (c .before .before .before .before .before .before .before .before .before .repair .ensures))
+    let at-repair = c .before .before .before .before .before .before .before .before .before in
+    left-repair _ _ _ _ _ _ _ _ _ (rw (c .before .bytes .given .1) at (at-repair .repair .ensures))
 
 write-repaired-requires : tie.Need-write-repaired-requires
 write-repaired-requires c κs =

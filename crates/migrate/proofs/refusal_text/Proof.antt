@@ -27,7 +27,9 @@ short : (c : tie.Start) → length (line "refused " (number (c .args .refusal)))
 short c = omega (arith, short-number (ascii "refused ") 1 (number (c .args .refusal)) (number-below (c .args .refusal)), c .pre)
 
 put-line-requires : tie.Need-put-line-requires
-put-line-requires c κs = rw (c .number .ensures) (omega (arith, short (c .before .before .before .before)))
+put-line-requires c κs =
+    let start = c .before .before .before .before in
+    rw (c .number .ensures) (omega (arith, short start))
 
 returns : tie.Need-returns
 returns c =

@@ -17,13 +17,17 @@ abbrev μ-loop : tie.MeasureT-loop
 
 loop-again : tie.Need-loop-again Inv-loop μ-loop
 loop-again c =
-    let p = c .before .before .before .before .put-lines .ensures in
-    (p .inside, put-long (p .put) ∙ c .before .before .before .before .before .before .before .loop .inv .1)
+    let at-put-lines = c .before .before .before .before in
+    let at-loop = at-put-lines .before .before .before in
+    let p = at-put-lines .put-lines .ensures in
+    (p .inside, put-long (p .put) ∙ at-loop .loop .inv .1)
 
 loop-less : tie.Need-loop-less Inv-loop μ-loop
 loop-less c =
-    let p = c .before .before .before .before .put-lines .ensures in
-    omega (arith, p .inside, p .goes-on (c .before .before .before .before .before .before .loop-test .taken))
+    let at-put-lines = c .before .before .before .before in
+    let at-loop-test = at-put-lines .before .before in
+    let p = at-put-lines .put-lines .ensures in
+    omega (arith, p .inside, p .goes-on (at-loop-test .loop-test .taken))
 
 pub write-list-spec : {M : Type 1} → statement M
 write-list-spec =
@@ -34,7 +38,9 @@ write-list-spec =
     (λ c κs. search needs)
     (λ c. (omega arith, sym (c .large-buffer .ensures)))
     (λ c. sym (c .before .before .loop .inv .1))
-    (λ c κs. ((c .before .before .before .before .before .before .pre, c .before .before .loop .inv .0), omega arith))
+    (λ c κs.
+    let start = c .before .before .before .before .before .before in
+    ((start .pre, c .before .before .loop .inv .0), omega arith))
     (λ c. c .before .put-lines .ensures .fits)
     (λ c. sym (length-take-le _ _ (c .before .before .put-lines .ensures .fits)))
     (λ c κs. search needs)

@@ -29,22 +29,28 @@ module _ (r : Counted) (xs old new : List ℕ) (fits : length xs ≤ length old)
       let l : n ≤ length new = omega (arith, ap length (is-written .1), over-holds xs old) in
       ((l, h ∙ ap length (sym t)), t)
 
-room : (c : tie.After-list) → length (listed (c .before .before .before .before .args .src .now)) ≤ length (c .before .before .before .before .args .out .now)
-room c = omega (arith, listed-fits (c .before .before .before .before .args .src .now) (λ i. c .before .before .before .shared-slice-known .given i .fits), c .before .before .before .before .pre)
+room : (c : tie.After-list) →
+    let start = c .before .before .before .before in
+    length (listed (start .args .src .now)) ≤ length (start .args .out .now)
+room c =
+    let start = c .before .before .before .before in
+    omega (arith, listed-fits (start .args .src .now) (λ i. c .before .before .before .shared-slice-known .given i .fits), start .pre)
 
 returns : tie.Need-returns
 returns c =
-    let l = c .before .before .before .before .before .list in
+    let at-list = c .before .before .before .before .before in
+    let l = at-list .list in
     let n : ℕ = c .before .n .given .0 .0 in
     let is : l .result ≡ Count n = c .before .n .given .1 in
-    let w = is-written (l .result) _ _ (l .last .1 .0) (room (c .before .before .before .before .before)) (l .ensures) in
-    at-start (l .result) _ _ (l .last .1 .0) (room (c .before .before .before .before .before)) (l .ensures) n (cc (w .0))
+    let w = is-written (l .result) _ _ (l .last .1 .0) (room at-list) (l .ensures) in
+    at-start (l .result) _ _ (l .last .1 .0) (room at-list) (l .ensures) n (cc (w .0))
 
 returns-2 : tie.Need-returns-2
 returns-2 c =
-    let l = c .before .before .before .before .list in
+    let at-list = c .before .before .before .before in
+    let l = at-list .list in
     let is : l .result ≡ Refused (c .enum-told .given .0 .0) = c .enum-told .given .1 in
-    let w = is-written (l .result) _ _ (l .last .1 .0) (room (c .before .before .before .before)) (l .ensures) in
+    let w = is-written (l .result) _ _ (l .last .1 .0) (room at-list) (l .ensures) in
     let z : _≡_ {A = ℕ} 0 1 = cc (w .0) in
     absurd (omega arith)
 

@@ -12,6 +12,9 @@ pub petasunok-base-epoch-spec : {M : Type 1} → statement M
 petasunok-base-epoch-spec =
     tie.close
     (tie.spec (λ c κs. search needs) (λ c κs. search needs) (λ c κs. search needs) (λ c. search needs) (λ c κs. search needs)
-    (λ c. c .count .ensures ∙ ap countTold (when-true _ _ _ (sym (c .before .before .before .before .is-kind .ensures) ∙ c .before .before .before .if1 .taken) (ap (λ (n : ℕ). ok n) (c .before .base-epoch .ensures ∙ simp (c .before .before .head .ensures)))))
+    (λ c.
+    let at-is-kind = c .before .before .before .before in
+    c .count .ensures ∙ ap countTold (when-true _ _ _ (sym (at-is-kind .is-kind .ensures) ∙ c .before .before .before .if1 .taken)
+    (ap (λ (n : ℕ). ok n) (c .before .base-epoch .ensures ∙ simp (c .before .before .head .ensures)))))
     (λ c κs. search needs)
     (λ c. c .count2 .ensures ∙ ap countTold (when-false _ _ _ (sym (c .before .before .is-kind .ensures) ∙ c .before .if1 .left) refl)))

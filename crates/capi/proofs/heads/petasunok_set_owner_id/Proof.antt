@@ -6,7 +6,15 @@ use Rattle.capi.proofs.heads.petasunok_set_owner_id.Tie as tie
 
 returns : tie.Need-returns
 returns c =
-    c .flags .ensures ∙ simp (c .before .present .ensures, c .before .before .set-owner-id .ensures, c .before .before .before .before .head .ensures, sym (c .before .before .before .before .before .before .is-kind .ensures) ∙ c .before .before .before .before .before .if1 .taken)
+    let at-head = c .before .before .before .before in
+    let at-if1 = at-head .before in
+    let at-is-kind = at-if1 .before in
+    c .flags .ensures ∙ simp (
+      c .before .present .ensures,
+      c .before .before .set-owner-id .ensures,
+      at-head .head .ensures,
+      sym (at-is-kind .is-kind .ensures) ∙ at-if1 .if1 .taken,
+    )
 
 returns-2 : tie.Need-returns-2
 returns-2 c =

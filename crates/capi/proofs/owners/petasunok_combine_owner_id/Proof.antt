@@ -10,6 +10,9 @@ pub petasunok-combine-owner-id-spec : {M : Type 1} → statement M
 petasunok-combine-owner-id-spec =
     tie.close
     (tie.spec (λ c κs. search needs) (λ c κs. search needs) (λ c κs. search needs) (λ c κs. search needs)
-    (λ c. c .owner .ensures ∙ ap ownerTold (when-true _ _ _ (sym (c .before .before .before .before .is-strategy .ensures) ∙ c .before .before .before .if1 .taken) (c .before .choose-owner-id .ensures ∙ simp (c .before .before .strategy .ensures))))
+    (λ c.
+    let at-is-strategy = c .before .before .before .before in
+    c .owner .ensures ∙ ap ownerTold (when-true _ _ _ (sym (at-is-strategy .is-strategy .ensures) ∙ c .before .before .before .if1 .taken)
+    (c .before .choose-owner-id .ensures ∙ simp (c .before .before .strategy .ensures))))
     (λ c κs. search needs)
     (λ c. c .owner2 .ensures ∙ ap ownerTold (when-false _ _ _ (sym (c .before .before .is-strategy .ensures) ∙ c .before .if1 .left) refl)))

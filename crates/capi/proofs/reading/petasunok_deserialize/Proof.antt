@@ -6,7 +6,8 @@ use Rattle.capi.proofs.reading.petasunok_deserialize.Tie as tie
 
 returns : tie.Need-returns
 returns c =
-    flags-told _ (c .before .before .before .before .before .deserialize .result) _ _ _ (c .flags .ensures) (c .before .before .before .before .before .deserialize .ensures)
+    let at-deserialize = c .before .before .before .before .before in
+    flags-told _ (at-deserialize .deserialize .result) _ _ _ (c .flags .ensures) (at-deserialize .deserialize .ensures)
 
 pub petasunok-deserialize-spec : {M : Type 1} → statement M
 petasunok-deserialize-spec =

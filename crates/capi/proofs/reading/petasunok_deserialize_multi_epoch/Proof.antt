@@ -6,7 +6,9 @@ use Rattle.capi.proofs.reading.petasunok_deserialize_multi_epoch.Tie as
 
 returns : tie.Need-returns
 returns c =
-    flags-told _ (c .before .before .before .before .before .deserialize-multi-epoch .result) _ _ _ (c .flags .ensures) (c .before .before .before .before .before .deserialize-multi-epoch .ensures)
+    let at-deserialize-multi-epoch = c .before .before .before .before .before in
+    flags-told _ (at-deserialize-multi-epoch .deserialize-multi-epoch .result) _ _ _ (c .flags .ensures)
+    (at-deserialize-multi-epoch .deserialize-multi-epoch .ensures)
 
 pub petasunok-deserialize-multi-epoch-spec : {M : Type 1} → statement M
 petasunok-deserialize-multi-epoch-spec =

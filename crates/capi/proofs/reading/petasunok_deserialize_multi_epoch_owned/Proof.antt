@@ -6,7 +6,9 @@ use Rattle.capi.proofs.reading.petasunok_deserialize_multi_epoch_owned.
 
 returns : tie.Need-returns
 returns c =
-    flags-told _ (c .before .before .before .before .before .deserialize-multi-epoch-owned .result) _ _ _ (c .flags .ensures) (c .before .before .before .before .before .deserialize-multi-epoch-owned .ensures)
+    let at-deserialize-multi-epoch-owned = c .before .before .before .before .before in
+    flags-told _ (at-deserialize-multi-epoch-owned .deserialize-multi-epoch-owned .result) _ _ _ (c .flags .ensures)
+    (at-deserialize-multi-epoch-owned .deserialize-multi-epoch-owned .ensures)
 
 pub petasunok-deserialize-multi-epoch-owned-spec : {M : Type 1} → statement M
 petasunok-deserialize-multi-epoch-owned-spec =

@@ -6,7 +6,9 @@ use Rattle.capi.proofs.reading.petasunok_deserialize_single_epoch.Tie a
 
 returns : tie.Need-returns
 returns c =
-    flags-told _ (c .before .before .before .before .before .deserialize-single-epoch .result) _ _ _ (c .flags .ensures) (c .before .before .before .before .before .deserialize-single-epoch .ensures)
+    let at-deserialize-single-epoch = c .before .before .before .before .before in
+    flags-told _ (at-deserialize-single-epoch .deserialize-single-epoch .result) _ _ _ (c .flags .ensures)
+    (at-deserialize-single-epoch .deserialize-single-epoch .ensures)
 
 pub petasunok-deserialize-single-epoch-spec : {M : Type 1} → statement M
 petasunok-deserialize-single-epoch-spec =

@@ -6,7 +6,9 @@ use Rattle.capi.proofs.reading.petasunok_deserialize_single_epoch_owned
 
 returns : tie.Need-returns
 returns c =
-    flags-told _ (c .before .before .before .before .before .deserialize-single-epoch-owned .result) _ _ _ (c .flags .ensures) (c .before .before .before .before .before .deserialize-single-epoch-owned .ensures)
+    let at-deserialize-single-epoch-owned = c .before .before .before .before .before in
+    flags-told _ (at-deserialize-single-epoch-owned .deserialize-single-epoch-owned .result) _ _ _ (c .flags .ensures)
+    (at-deserialize-single-epoch-owned .deserialize-single-epoch-owned .ensures)
 
 pub petasunok-deserialize-single-epoch-owned-spec : {M : Type 1} → statement M
 petasunok-deserialize-single-epoch-owned-spec =

@@ -6,7 +6,8 @@ use Rattle.capi.proofs.repairing.petasunok_repair.Tie as tie
 
 returns : tie.Need-returns
 returns c =
-    repair-told _ (c .before .before .before .before .before .before .before .repair .result) _ _ _ _ (c .repaired .ensures) (c .before .before .before .before .before .before .before .repair .ensures)
+    let at-repair = c .before .before .before .before .before .before .before in
+    repair-told _ (at-repair .repair .result) _ _ _ _ (c .repaired .ensures) (at-repair .repair .ensures)
 
 pub petasunok-repair-spec : {M : Type 1} → statement M
 petasunok-repair-spec =

@@ -9,11 +9,17 @@ use Rattle.capi.proofs.writing.petasunok_serialize.Tie as tie
 
 returns : tie.Need-returns
 returns c =
-    bytes-told _ (c .before .before .before .serialize .result) _ _ (c .count .ensures) (when-true _ _ _ (sym (c .before .before .before .before .before .before .before .is-kind .ensures) ∙ c .before .before .before .before .before .before .if1 .taken) (c .before .before .before .serialize .ensures ∙ simp (c .before .before .before .before .before .head .ensures)))
+    let at-head = c .before .before .before .before .before in
+    let at-if1 = at-head .before in
+    let at-is-kind = at-if1 .before in
+    bytes-told _ (c .before .before .before .serialize .result) _ _ (c .count .ensures)
+    (when-true _ _ _ (sym (at-is-kind .is-kind .ensures) ∙ at-if1 .if1 .taken)
+    (c .before .before .before .serialize .ensures ∙ simp (at-head .head .ensures)))
 
 returns-2 : tie.Need-returns-2
 returns-2 c =
-    bytes-told _ (Refused BadTable) _ _ (c .count2 .ensures) (when-false _ _ _ (sym (c .before .before .is-kind .ensures) ∙ c .before .if1 .left) refl)
+    bytes-told _ (Refused BadTable) _ _ (c .count2 .ensures)
+    (when-false _ _ _ (sym (c .before .before .is-kind .ensures) ∙ c .before .if1 .left) refl)
 
 pub petasunok-serialize-spec : {M : Type 1} → statement M
 petasunok-serialize-spec =

@@ -10,6 +10,9 @@ pub petasunok-serialized-size-spec : {M : Type 1} → statement M
 petasunok-serialized-size-spec =
     tie.close
     (tie.spec (λ c κs. search needs) (λ c κs. search needs) (λ c κs. search needs) (λ c κs. search needs)
-    (λ c. c .count .ensures ∙ ap countTold (when-true _ _ _ (sym (c .before .before .before .before .is-kind .ensures) ∙ c .before .before .before .if1 .taken) (c .before .serialized-size .ensures ∙ simp (c .before .before .head .ensures))))
+    (λ c.
+    let at-is-kind = c .before .before .before .before in
+    c .count .ensures ∙ ap countTold (when-true _ _ _ (sym (at-is-kind .is-kind .ensures) ∙ c .before .before .before .if1 .taken)
+    (c .before .serialized-size .ensures ∙ simp (c .before .before .head .ensures))))
     (λ c κs. search needs)
     (λ c. c .count2 .ensures ∙ ap countTold (when-false _ _ _ (sym (c .before .before .is-kind .ensures) ∙ c .before .if1 .left) refl)))

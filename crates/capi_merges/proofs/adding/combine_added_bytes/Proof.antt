@@ -7,7 +7,16 @@ use Rattle.capi_merges.proofs.adding.combine_added_bytes.Tie as tie
 
 returns : tie.Need-returns
 returns c =
-    flags-told _ (c .before .before .before .before .before .combine-added-bytes .result) _ _ _ (c .flags .ensures) (when-true _ _ _ (sym (c .before .before .before .before .before .before .before .before .before .before .before .before .can-merge .ensures) ∙ c .before .before .before .before .before .before .before .before .before .before .before .if1 .taken) (c .before .before .before .before .before .combine-added-bytes .ensures ∙ simp (c .before .before .before .before .before .before .before .before .before .before .head .ensures, c .before .before .before .before .before .before .before .before .before .head2 .ensures, c .before .before .before .before .before .before .before .before .strategy .ensures)))
+    let at-combine-added-bytes = c .before .before .before .before .before in
+    let at-strategy = at-combine-added-bytes .before .before .before in
+    let at-head2 = at-strategy .before in
+    let at-head = at-head2 .before in
+    let at-if1 = at-head .before in
+    let at-can-merge = at-if1 .before in
+    flags-told _ (at-combine-added-bytes .combine-added-bytes .result) _ _ _ (c .flags .ensures)
+    (when-true _ _ _ (sym (at-can-merge .can-merge .ensures) ∙ at-if1 .if1 .taken)
+    (at-combine-added-bytes .combine-added-bytes .ensures
+    ∙ simp (at-head .head .ensures, at-head2 .head2 .ensures, at-strategy .strategy .ensures)))
 
 returns-2 : tie.Need-returns-2
 returns-2 c =

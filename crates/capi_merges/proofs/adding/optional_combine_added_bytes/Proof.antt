@@ -12,8 +12,10 @@ returns c =
     let at-strategy = at-call .before .before .before in
     let at-if1 = at-strategy .before .before .before in
     let at-start = at-if1 .before .before in
-    let a = at-start .before .before .before .before .before .before .before .args in
-    let t = merges (a .present) (a .ours) (a .theirs) (a .strategy) (at-start .is-true .ensures) (at-if1 .before .can-merge .ensures) (at-if1 .if1 .taken) in
+    let start = at-start .before .before .before .before .before .before .before in
+    let a = start .args in
+    let t = merges (a .present) (a .ours) (a .theirs) (a .strategy) (at-start .is-true .ensures) (at-if1 .before .can-merge .ensures)
+    (at-if1 .if1 .taken) in
     flags-told _ (at-call .optional-combine-added-bytes .result) _ _ _ (c .flags .ensures)
     (when-true _ _ _ t (at-call .optional-combine-added-bytes .ensures ∙ simp (
       at-start .is-true .ensures,
@@ -26,8 +28,10 @@ returns-2 : tie.Need-returns-2
 returns-2 c =
     let at-if1 = c .before in
     let at-start = at-if1 .before .before in
-    let a = at-start .before .before .before .before .before .before .before .args in
-    let f = merges (a .present) (a .ours) (a .theirs) (a .strategy) (at-start .is-true .ensures) (at-if1 .before .can-merge .ensures) (at-if1 .if1 .left) in
+    let start = at-start .before .before .before .before .before .before .before in
+    let a = start .args in
+    let f = merges (a .present) (a .ours) (a .theirs) (a .strategy) (at-start .is-true .ensures) (at-if1 .before .can-merge .ensures)
+    (at-if1 .if1 .left) in
     flags-bad _ _ _ _ _ (c .bad-flags .ensures) f
 
 pub optional-combine-added-bytes-spec : {M : Type 1} → statement M

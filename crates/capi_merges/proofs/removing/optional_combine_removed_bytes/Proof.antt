@@ -13,8 +13,10 @@ returns c =
     let at-strategy = at-call .before .before .before in
     let at-if1 = at-strategy .before .before .before .before in
     let at-start = at-if1 .before .before in
-    let a = at-start .before .before .before .before .before .before .before .before .before .args in
-    let t = removes (a .present) (a .ours) (a .theirs) (a .strategy) (isRemoval (a .removal .kind)) (at-start .is-true .ensures) (at-if1 .before .can-remove .ensures) (at-if1 .if1 .taken) in
+    let start = at-start .before .before .before .before .before .before .before .before .before in
+    let a = start .args in
+    let t = removes (a .present) (a .ours) (a .theirs) (a .strategy) (isRemoval (a .removal .kind)) (at-start .is-true .ensures)
+    (at-if1 .before .can-remove .ensures) (at-if1 .if1 .taken) in
     flags-told _ (at-call .optional-combine-removed-bytes .result) _ _ _ (c .flags .ensures)
     (when-true _ _ _ t (at-call .optional-combine-removed-bytes .ensures ∙ simp (
       at-start .is-true .ensures,
@@ -28,8 +30,10 @@ returns-2 : tie.Need-returns-2
 returns-2 c =
     let at-if1 = c .before in
     let at-start = at-if1 .before .before in
-    let a = at-start .before .before .before .before .before .before .before .before .before .args in
-    let f = removes (a .present) (a .ours) (a .theirs) (a .strategy) (isRemoval (a .removal .kind)) (at-start .is-true .ensures) (at-if1 .before .can-remove .ensures) (at-if1 .if1 .left) in
+    let start = at-start .before .before .before .before .before .before .before .before .before in
+    let a = start .args in
+    let f = removes (a .present) (a .ours) (a .theirs) (a .strategy) (isRemoval (a .removal .kind)) (at-start .is-true .ensures)
+    (at-if1 .before .can-remove .ensures) (at-if1 .if1 .left) in
     flags-bad _ _ _ _ _ (c .bad-flags .ensures) f
 
 pub optional-combine-removed-bytes-spec : {M : Type 1} → statement M

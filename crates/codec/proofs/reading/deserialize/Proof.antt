@@ -13,22 +13,34 @@ use Rattle.codec.proofs.reading.deserialize.Tie as tie
 
 returns : tie.Need-returns
 returns c =
-    let a = c .before .before .before .before .before .args in
-    left-absent (read (a .src .now)) (a .epochs .now) (a .counts .now) (c .absent .result) (c .absent .ensures) (read-nothing (a .src .now) (c .before .if1 .taken))
+    let start = c .before .before .before .before .before in
+    let a = start .args in
+    left-absent (read (a .src .now)) (a .epochs .now) (a .counts .now) (c .absent .result) (c .absent .ensures)
+    (read-nothing (a .src .now) (c .before .if1 .taken))
 
 returns-2 : tie.Need-returns-2
 returns-2 c =
-    let a = c .before .before .before .before .before .before .before .before .before .before .before .before .before .before .before .before .args in
+    let at-read-as = c .before .before .before .before in
+    let at-kind = at-read-as .before .before .before .before in
+    let at-kind-of-byte = at-kind .before .before in
+    let at-if1 = at-kind-of-byte .before .before in
+    let start = at-if1 .before .before .before .before in
+    let a = start .args in
     let d = a .src .now in
-    c .before .before .before .before .read-as .ensures
-    ∙ ap (λ (x : Read). after (answer x) (a .epochs .now) (a .counts .now)) (sym (read-by-byte d (omega (arith, c .before .before .before .before .before .before .before .before .before .before .before .before .if1 .left)) ∙ ap (λ (b : KindByte). readByte b d) (sym (c .before .before .before .before .before .before .before .before .before .before .kind-of-byte .ensures) ∙ c .before .before .before .before .before .before .before .before .kind .given .1)))
+    at-read-as .read-as .ensures
+    ∙ ap (λ (x : Read). after (answer x) (a .epochs .now) (a .counts .now))
+    (sym (read-by-byte d (omega (arith, at-if1 .if1 .left)) ∙ ap (λ (b : KindByte). readByte b d)
+    (sym (at-kind-of-byte .kind-of-byte .ensures) ∙ at-kind .kind .given .1)))
 
 returns-3 : tie.Need-returns-3
 returns-3 c =
-    let a = c .before .before .before .before .before .before .before .before .before .args in
+    let at-if1 = c .before .before .before .before .before in
+    let start = at-if1 .before .before .before .before in
+    let a = start .args in
     let d = a .src .now in
     left-refused (read d) (a .epochs .now) (a .counts .now) (c .refused .result) _ 0 (c .refused .ensures)
-    (read-by-byte d (omega (arith, c .before .before .before .before .before .if1 .left)) ∙ ap (λ (b : KindByte). readByte b d) (sym (c .before .before .before .kind-of-byte .ensures) ∙ c .before .enum-told .given .1))
+    (read-by-byte d (omega (arith, at-if1 .if1 .left)) ∙ ap (λ (b : KindByte). readByte b d)
+    (sym (c .before .before .before .kind-of-byte .ensures) ∙ c .before .enum-told .given .1))
 
 pub deserialize-spec : {M : Type 1} → statement M
 deserialize-spec =

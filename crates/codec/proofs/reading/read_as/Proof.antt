@@ -5,7 +5,8 @@ use Rattle.codec.proofs.reading.read_as.Tie as tie
 
 returns-2 : tie.Need-returns-2
 returns-2 c =
-    let a = c .before .before .before .before .before .before .args in
+    let start = c .before .before .before .before .before .before in
+    let a = start .args in
     c .read-single .ensures (a .epochs .now) (a .counts .now)
 
 pub read-as-spec : {M : Type 1} → statement M

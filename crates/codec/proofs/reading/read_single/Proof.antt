@@ -25,15 +25,18 @@ returns c = λ es cs.
     let s = c .before .before .before .before .before in
     let k = s .args .kind in
     let d = s .args .src .now in
-    placed-left (c .present .result) es cs (flags (baseIn k d) (ownerIn k d) []) _ 0 es cs (c .present .ensures) (c .before .head-in .ensures) (filling-done (filling-start [] 0 es cs) refl) (omega arith) (omega arith)
-    ∙ sym (ap (λ (x : Read). after (answer x) es cs) (single-right k d (s .pre) (c .before .before .if1 .taken ∙ c .before .before .before .head-size .ensures)))
+    placed-left (c .present .result) es cs (flags (baseIn k d) (ownerIn k d) []) _ 0 es cs (c .present .ensures) (c .before .head-in .ensures)
+    (filling-done (filling-start [] 0 es cs) refl) (omega arith) (omega arith)
+    ∙ sym (ap (λ (x : Read). after (answer x) es cs)
+    (single-right k d (s .pre) (c .before .before .if1 .taken ∙ c .before .before .before .head-size .ensures)))
 
 returns-2 : tie.Need-returns-2
 returns-2 c = λ es cs.
     let s = c .before .before .before .before in
     let k = s .args .kind in
     let d = s .args .src .now in
-    left-refused (readAs k d) es cs (c .refused .result) _ (length d) (c .refused .ensures) (single-wrong k d (s .pre) (λ e. c .before .if1 .left (e ∙ sym (c .before .before .head-size .ensures))))
+    left-refused (readAs k d) es cs (c .refused .result) _ (length d) (c .refused .ensures)
+    (single-wrong k d (s .pre) (λ e. c .before .if1 .left (e ∙ sym (c .before .before .head-size .ensures))))
 
 pub read-single-spec : {M : Type 1} → statement M
 read-single-spec =

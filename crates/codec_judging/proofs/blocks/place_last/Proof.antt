@@ -21,7 +21,8 @@ long : (c : tie.Start) → length (block c) ≡ c .args .n
 long c = first-long (c .args .block-epochs .now) (c .args .block-counts .now) (c .args .n) (c .pre .0 .0) (c .pre .0 .1)
 
 -- what `fit` told, of these records
-told : (c : tie.Start) → roomFor (c .args .k + length (block c)) (length (c .args .epochs .now)) (length (c .args .counts .now)) ≡ roomFor (c .args .k + c .args .n) (length (c .args .epochs .now)) (length (c .args .counts .now))
+told : (c : tie.Start) → roomFor (c .args .k + length (block c)) (length (c .args .epochs .now)) (length (c .args .counts .now)) ≡ roomFor
+    (c .args .k + c .args .n) (length (c .args .epochs .now)) (length (c .args .counts .now))
 told c = ap (λ (n : ℕ). roomFor (c .args .k + n) (length (c .args .epochs .now)) (length (c .args .counts .now))) (long c)
 
 copy-run-requires : tie.Need-copy-run-requires
@@ -32,16 +33,20 @@ copy-run-requires c κs =
 
 returns : tie.Need-returns
 returns c =
-    let s = c .before .before .before .before .before .before .before .before .before .before .before .before .before in
-    let p = c .before .before .before .before .copy-run .ensures in
+    let at-copy-run = c .before .before .before .before in
+    let at-if1 = at-copy-run .before .before .before in
+    let at-fit = at-if1 .before in
+    let s = at-fit .before .before .before .before .before in
+    let p = at-copy-run .copy-run .ensures in
     filled-all (s .args .end) (s .args .k) (block s) (s .args .epochs .now) (s .args .counts .now) none _ _ _ refl
-    (told s ∙ sym (c .before .before .before .before .before .before .before .before .fit .ensures) ∙ c .before .before .before .before .before .before .before .if1 .taken)
+    (told s ∙ sym (at-fit .fit .ensures) ∙ at-if1 .if1 .taken)
     (p .behind) (p .epochs-set) (p .counts-set)
 
 returns-2 : tie.Need-returns-2
 returns-2 c =
     let s = c .before .before .before .before .before .before in
-    filled-short (s .args .end) (s .args .k) (block s) (s .args .epochs .now) (s .args .counts .now) none refl (told s ∙ sym (c .before .fit .ensures) ∙ c .if1 .left)
+    filled-short (s .args .end) (s .args .k) (block s) (s .args .epochs .now) (s .args .counts .now) none refl
+    (told s ∙ sym (c .before .fit .ensures) ∙ c .if1 .left)
 
 pub place-last-spec : {M : Type 1} → statement M
 place-last-spec =

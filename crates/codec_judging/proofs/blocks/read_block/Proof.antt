@@ -28,24 +28,34 @@ read-record-requires c κs = c .before .before .loop .inv .1 .within
 
 returns-2 : tie.Need-returns-2 Inv-loop μ-loop
 returns-2 c =
-    let a = c .before .before .before .before .before .before .before .before .before .before .args in
+    let at-if1 = c .before .before .before .before in
+    let at-loop = at-if1 .before .before in
+    let start = at-loop .before .before .before .before in
+    let a = start .args in
     let g = c .before .refusal .given in
     blocked-faulty (a .src .now) (a .start) (a .base) (a .epochs .now) (a .counts .now) _ _ (g .0 .0) _
-    (taken-bad (c .before .before .before .before .before .before .loop .inv .1) (c .before .before .before .before .if1 .left) (g .0 .0) (sym (c .before .before .before .read-record .ensures) ∙ g .1))
+    (taken-bad (at-loop .loop .inv .1) (at-if1 .if1 .left) (g .0 .0) (sym (c .before .before .before .read-record .ensures) ∙ g .1))
 
 -- one place more in both tables
-room : (c : tie.After-known-told2 Inv-loop μ-loop) → let l = c .before .before .before .before .before .before .loop in (l .n < length (l .epochs)) × (l .n < length (l .counts))
+room : (c : tie.After-known-told2 Inv-loop μ-loop) →
+    let at-loop = c .before .before .before .before .before .before in
+    let l = at-loop .loop in (l .n < length (l .epochs)) × (l .n < length (l .counts))
 room c =
-    let l = c .before .before .before .before .before .before .loop in
-    let p = c .before .before .before .before .before .before .before .before .before .before .pre .1 in
-    let h = c .before .before .before .before .before .loop-test .taken in
+    let at-loop-test = c .before .before .before .before .before in
+    let at-loop = at-loop-test .before in
+    let start = at-loop .before .before .before .before in
+    let l = at-loop .loop in
+    let p = start .pre .1 in
+    let h = at-loop-test .loop-test .taken in
     (omega (arith, taken-epochs (l .inv .1)), omega (arith, taken-counts (l .inv .1)))
 
 loop-again : tie.Need-loop-again Inv-loop μ-loop
 loop-again c =
-    let l = c .before .before .before .before .before .before .loop in
+    let at-if1 = c .before .before .before .before in
+    let at-loop = at-if1 .before .before in
+    let l = at-loop .loop in
     let g = c .before .epoch .given in
-    (omega arith, taken-more (l .inv .1) (c .before .before .before .before .if1 .left) _ _ _ (sym (c .before .before .before .read-record .ensures) ∙ g .1))
+    (omega arith, taken-more (l .inv .1) (at-if1 .if1 .left) _ _ _ (sym (c .before .before .before .read-record .ensures) ∙ g .1))
 
 returns-3 : tie.Need-returns-3 Inv-loop μ-loop
 returns-3 c = blocked-taken (c .before .loop .inv .1) (λ h. omega (arith, c .loop-test .left)) (c .before .loop .inv .0)
@@ -62,8 +72,8 @@ read-block-spec =
     returns
     read-record-requires
     (λ c. search needs)
-    (λ c. taken-epochs (c .before .before .before .before .before .before .loop .inv .1))
-    (λ c. taken-counts (c .before .before .before .before .before .before .loop .inv .1))
+    (λ c. let at-loop = c .before .before .before .before .before .before in taken-epochs (at-loop .loop .inv .1))
+    (λ c. let at-loop = c .before .before .before .before .before .before in taken-counts (at-loop .loop .inv .1))
     returns-2
     (λ c. search needs)
     (λ c. omega arith)

@@ -10,13 +10,15 @@ is-owned-requires : tie.Need-is-owned-requires
 is-owned-requires c κs = search needs
 
 be16-at-requires : tie.Need-be16-at-requires
-be16-at-requires c κs = let h = owned-size (c .before .before .before .args .kind) _ (sym (c .before .is-owned .ensures) ∙ c .if1 .taken) (c .before .before .before .pre) in omega arith
+be16-at-requires c κs = let h = owned-size (c .before .before .before .args .kind) _ (sym (c .before .is-owned .ensures) ∙ c .if1 .taken)
+    (c .before .before .before .pre) in omega arith
 
 returns : tie.Need-returns
 returns c = rw (sym (c .before .before .is-owned .ensures) ∙ c .before .if1 .taken) (c .be16-at .ensures)
 
 be16-at-requires-2 : tie.Need-be16-at-requires-2
-be16-at-requires-2 c κs = let h = unowned-size (c .before .before .before .args .kind) _ (sym (c .before .is-owned .ensures) ∙ c .if1 .left) (c .before .before .before .pre) in omega arith
+be16-at-requires-2 c κs = let h = unowned-size (c .before .before .before .args .kind) _ (sym (c .before .is-owned .ensures) ∙ c .if1 .left)
+    (c .before .before .before .pre) in omega arith
 
 returns-2 : tie.Need-returns-2
 returns-2 c = rw (sym (c .before .before .is-owned .ensures) ∙ c .before .if1 .left) (c .be16-at2 .ensures)

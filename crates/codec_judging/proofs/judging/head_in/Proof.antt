@@ -14,7 +14,8 @@ owner-in-requires c κs = c .before .before .pre .0
 returns : tie.Need-returns
 returns c =
     let a = c .before .before .before .args in
-    let k = kind-agrees (record { kind = a .kind; base = 0; owner = take 32 (drop 1 (a .src .now)); records = a .records }) (c .before .before .before .pre .1) in
+    let k = kind-agrees (record { kind = a .kind; base = 0; owner = take 32 (drop 1 (a .src .now)); records = a .records })
+    (c .before .before .before .pre .1) in
     λ i. record { kind = sym k i; base = c .before .base-in .ensures i; owner = c .owner-in .ensures i; records = a .records }
 
 pub head-in-spec : {M : Type 1} → statement M

@@ -14,15 +14,22 @@ returns c = c .absent .ensures ∙ ap judgement (sym (read-nothing (c .before .b
 
 returns-2 : tie.Need-returns-2
 returns-2 c =
-    let d = c .before .before .before .before .before .before .before .before .args .src .now in
+    let at-kind-of-byte = c .before .before .before .before in
+    let at-if1 = at-kind-of-byte .before .before in
+    let start = at-if1 .before .before in
+    let d = start .args .src .now in
     c .judge-as .ensures
-    ∙ ap judgement (sym (read-by-byte d (omega (arith, c .before .before .before .before .before .before .if1 .left)) ∙ ap (λ (b : KindByte). readByte b d) (sym (c .before .before .before .before .kind-of-byte .ensures) ∙ c .before .before .kind .given .1)))
+    ∙ ap judgement (sym (read-by-byte d (omega (arith, at-if1 .if1 .left)) ∙ ap (λ (b : KindByte). readByte b d)
+    (sym (at-kind-of-byte .kind-of-byte .ensures) ∙ c .before .before .kind .given .1)))
 
 returns-3 : tie.Need-returns-3
 returns-3 c =
-    let d = c .before .before .before .before .before .before .before .args .src .now in
+    let at-if1 = c .before .before .before .before .before in
+    let start = at-if1 .before .before in
+    let d = start .args .src .now in
     c .refused-at .ensures
-    ∙ ap judgement (sym (read-by-byte d (omega (arith, c .before .before .before .before .before .if1 .left)) ∙ ap (λ (b : KindByte). readByte b d) (sym (c .before .before .before .kind-of-byte .ensures) ∙ c .before .enum-told .given .1)))
+    ∙ ap judgement (sym (read-by-byte d (omega (arith, at-if1 .if1 .left)) ∙ ap (λ (b : KindByte). readByte b d)
+    (sym (c .before .before .before .kind-of-byte .ensures) ∙ c .before .enum-told .given .1)))
 
 pub judge-spec : {M : Type 1} → statement M
 judge-spec =

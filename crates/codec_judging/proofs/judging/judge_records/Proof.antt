@@ -33,52 +33,74 @@ loop-holds c = (omega arith, omega arith, refl, omega arith, refl, refl)
 
 read-block-requires : tie.Need-read-block-requires Inv-loop μ-loop
 read-block-requires c κs =
+    let start = c .before .before .before .before .before .before .before in
     let l = c .before .before .before .loop in
-    let p = c .before .before .before .before .before .before .before .pre .1 in
+    let p = start .pre .1 in
     (l .inv .0, (omega (arith, p .0, l .inv .4), omega (arith, p .1, l .inv .5)))
 
 returns : tie.Need-returns Inv-loop μ-loop
 returns c =
-    let a = c .before .before .before .before .before .before .before .before .before .before .before .before .before .before .before .args in
-    let l = c .before .before .before .before .before .before .before .before .before .before .before .loop in
-    let q = c .before .before .before .before .before .before .before .read-block .ensures .at-fault _ _ (c .before .refusal .given .1) in
+    let at-read-block = c .before .before .before .before .before .before .before in
+    let at-loop = at-read-block .before .before .before .before in
+    let start = at-loop .before .before .before .before in
+    let a = start .args in
+    let l = at-loop .loop in
+    let q = at-read-block .read-block .ensures .at-fault _ _ (c .before .refusal .given .1) in
     ap (λ (f : Option Fault). scanOf (length (a .src .now)) f (length (rest (a .src .now) (a .start) (a .base) .records))) (sym q ∙ l .inv .2)
 
 add-n : tie.Need-add-n Inv-loop μ-loop
 add-n c =
-    let l = c .before .before .before .before .before .before .before .before .before .before .before .loop in
-    let t = c .before .before .before .before .before .before .before .read-block .ensures .taken _ _ _ (c .before .more .given .1) in
+    let at-read-block = c .before .before .before .before .before .before .before in
+    let at-loop = at-read-block .before .before .before .before in
+    let l = at-loop .loop in
+    let t = at-read-block .read-block .ensures .taken _ _ _ (c .before .more .given .1) in
     omega (arith, t .0 .gains, t .0 .within, l .inv .1)
 
 loop-less : tie.Need-loop-less Inv-loop μ-loop
 loop-less c =
-    let l = c .before .before .before .before .before .before .before .before .before .before .before .loop in
-    let i = c .before .before .before .before .before .before .before .before .before .before .loop-test .taken in
-    let t = c .before .before .before .before .before .before .before .read-block .ensures .taken _ _ _ (c .before .more .given .1) in
-    elim (decLt (c .before .more .given .0 .1 .0) (length (c .before .before .before .before .before .before .before .before .before .before .before .before .before .before .before .args .src .now))) [
+    let at-read-block = c .before .before .before .before .before .before .before in
+    let at-loop-test = at-read-block .before .before .before in
+    let at-loop = at-loop-test .before in
+    let start = at-loop .before .before .before .before in
+    let l = at-loop .loop in
+    let i = at-loop-test .loop-test .taken in
+    let t = at-read-block .read-block .ensures .taken _ _ _ (c .before .more .given .1) in
+    elim (decLt (c .before .more .given .0 .1 .0) (length (start .args .src .now))) [
       | yes h ↦ let m = t .1 h in omega (arith, t .0 .gains)
       | no h ↦ omega (arith, t .0 .within)
     ]
 
 loop-again : tie.Need-loop-again Inv-loop μ-loop
 loop-again c =
-    let l = c .before .before .before .before .before .before .before .before .before .before .before .loop in
-    let t = c .before .before .before .before .before .before .before .read-block .ensures .taken _ _ _ (c .before .more .given .1) in
-    (t .0 .within, omega (arith, t .0 .gains, l .inv .1), sym (t .0 .fault-on) ∙ l .inv .2, omega (arith, taken-long (t .0) 0, l .inv .3), taken-epochs (t .0) ∙ l .inv .4, taken-counts (t .0) ∙ l .inv .5)
+    let at-read-block = c .before .before .before .before .before .before .before in
+    let at-loop = at-read-block .before .before .before .before in
+    let l = at-loop .loop in
+    let t = at-read-block .read-block .ensures .taken _ _ _ (c .before .more .given .1) in (
+      t .0 .within,
+      omega (arith, t .0 .gains, l .inv .1),
+      sym (t .0 .fault-on) ∙ l .inv .2,
+      omega (arith, taken-long (t .0) 0, l .inv .3),
+      taken-epochs (t .0) ∙ l .inv .4,
+      taken-counts (t .0) ∙ l .inv .5,
+    )
 
 returns-2 : tie.Need-returns-2 Inv-loop μ-loop
 returns-2 c =
-    let a = c .before .before .before .before .before .before .args in
+    let start = c .before .before .before .before .before .before in
+    let a = start .args in
     let l = c .before .before .loop in
     let e = rest-end (a .src .now) (l .at) (l .prev) (c .before .loop-test .left) in
-    scan-none (length (a .src .now)) _ _ (sym (l .inv .2) ∙ ap (λ (p : Parsed). p .fault) e) (omega (arith, ap (λ (p : Parsed). length (p .records)) e))
+    scan-none (length (a .src .now)) _ _ (sym (l .inv .2) ∙ ap (λ (p : Parsed). p .fault) e)
+    (omega (arith, ap (λ (p : Parsed). length (p .records)) e))
 
 returns-3 : tie.Need-returns-3 Inv-loop μ-loop
 returns-3 c =
-    let a = c .before .before .before .before .before .before .args in
+    let start = c .before .before .before .before .before .before in
+    let a = start .args in
     let l = c .before .before .loop in
     let e = rest-end (a .src .now) (l .at) (l .prev) (c .before .loop-test .left) in
-    scan-some (length (a .src .now)) _ _ _ (sym (l .inv .2) ∙ ap (λ (p : Parsed). p .fault) e) (omega (arith, ap (λ (p : Parsed). length (p .records)) e)) (c .if1 .left)
+    scan-some (length (a .src .now)) _ _ _ (sym (l .inv .2) ∙ ap (λ (p : Parsed). p .fault) e)
+    (omega (arith, ap (λ (p : Parsed). length (p .records)) e)) (c .if1 .left)
 
 pub judge-records-spec : {M : Type 1} → statement M
 judge-records-spec =
@@ -89,8 +111,14 @@ judge-records-spec =
     loop-holds
     read-block-requires
     (λ c. search needs)
-    (λ c. c .before .before .before .before .before .before .before .read-block .kept .1 .1 .1 .0 ∙ c .before .before .before .before .before .before .before .before .before .before .before .loop .inv .4)
-    (λ c. c .before .before .before .before .before .before .before .read-block .kept .1 .1 .1 .1 .0 ∙ c .before .before .before .before .before .before .before .before .before .before .before .loop .inv .5)
+    (λ c.
+    let at-read-block = c .before .before .before .before .before .before .before in
+    let at-loop = at-read-block .before .before .before .before in
+    at-read-block .read-block .kept .1 .1 .1 .0 ∙ at-loop .loop .inv .4)
+    (λ c.
+    let at-read-block = c .before .before .before .before .before .before .before in
+    let at-loop = at-read-block .before .before .before .before in
+    at-read-block .read-block .kept .1 .1 .1 .1 .0 ∙ at-loop .loop .inv .5)
     returns
     (λ c. search needs)
     add-n

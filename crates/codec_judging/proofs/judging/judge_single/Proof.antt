@@ -11,20 +11,28 @@ head-size-requires : tie.Need-head-size-requires
 head-size-requires c κs = search needs
 
 present-requires : tie.Need-present-requires
-present-requires c κs = (omega (arith, c .before .head-size .ensures), agrees-single (c .before .before .before .args .kind) (c .before .before .before .pre))
+present-requires c κs = (
+  omega (arith, c .before .head-size .ensures),
+  agrees-single (c .before .before .before .args .kind)
+      (c .before .before .before .pre),
+)
 
 returns : tie.Need-returns
 returns c =
-    let a = c .before .before .before .before .args in
-    c .present .ensures ∙ ap judgement (sym (single-right (a .kind) (a .src .now) (c .before .before .before .before .pre) (c .before .if1 .taken ∙ c .before .before .head-size .ensures)))
+    let start = c .before .before .before .before in
+    let a = start .args in
+    c .present .ensures ∙ ap judgement
+    (sym (single-right (a .kind) (a .src .now) (start .pre) (c .before .if1 .taken ∙ c .before .before .head-size .ensures)))
 
 refused-at-requires : tie.Need-refused-at-requires
 refused-at-requires c κs = search needs
 
 returns-2 : tie.Need-returns-2
 returns-2 c =
-    let a = c .before .before .before .before .args in
-    c .refused-at .ensures ∙ ap judgement (sym (single-wrong (a .kind) (a .src .now) (c .before .before .before .before .pre) (λ e. c .before .if1 .left (e ∙ sym (c .before .before .head-size .ensures)))))
+    let start = c .before .before .before .before in
+    let a = start .args in
+    c .refused-at .ensures ∙ ap judgement
+    (sym (single-wrong (a .kind) (a .src .now) (start .pre) (λ e. c .before .if1 .left (e ∙ sym (c .before .before .head-size .ensures)))))
 
 pub judge-single-spec : {M : Type 1} → statement M
 judge-single-spec =

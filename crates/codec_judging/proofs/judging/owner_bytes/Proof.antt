@@ -26,7 +26,8 @@ loop-again c =
     let x : ℕ = getD d (l .k + 1) 0 in
     let n : length (take 32 (drop 1 d)) ≡ 32 = simp (length-take, length-drop) (omega arith) in
     let e : x ≡ getD (take 32 (drop 1 d)) (l .k) 0 =
-    ap (λ (i : ℕ). getD d i 0) (add-comm (l .k) 1) ∙ sym (getD-drop 1 d (l .k) 0) ∙ sym (getD-take 32 (drop 1 d) (l .k) 0 (c .before .loop-test .taken)) in
+    ap (λ (i : ℕ). getD d i 0) (add-comm (l .k) 1) ∙ sym (getD-drop 1 d (l .k) 0)
+    ∙ sym (getD-take 32 (drop 1 d) (l .k) 0 (c .before .loop-test .taken)) in
     (omega arith, simp length-set (l .inv .1), rw (zero-add (l .k)) at (copy-more (l .inv .2) x (omega arith) e))
 
 returns : tie.Need-returns Inv-loop μ-loop

@@ -10,7 +10,8 @@ is-owned-requires : tie.Need-is-owned-requires
 is-owned-requires c κs = search needs
 
 owner-bytes-requires : tie.Need-owner-bytes-requires
-owner-bytes-requires c κs = let h = owned-size (c .before .before .before .args .kind) _ (sym (c .before .is-owned .ensures) ∙ c .if1 .taken) (c .before .before .before .pre) in omega arith
+owner-bytes-requires c κs = let h = owned-size (c .before .before .before .args .kind) _ (sym (c .before .is-owned .ensures) ∙ c .if1 .taken)
+    (c .before .before .before .pre) in omega arith
 
 returns : tie.Need-returns
 returns c = rw (sym (c .before .before .is-owned .ensures) ∙ c .before .if1 .taken) (c .owner-bytes .ensures)

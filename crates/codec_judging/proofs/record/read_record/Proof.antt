@@ -20,37 +20,49 @@ returns c =
 
 returns-2 : tie.Need-returns-2
 returns-2 c =
-    let a = c .before .before .before .before .before .before .before .before .args in
+    let at-read-varint = c .before .before .before .before in
+    let at-be16-at = at-read-varint .before in
+    let at-if1 = at-be16-at .before in
+    let start = at-if1 .before .before in
+    let a = start .args in
     let d = a .src .now in
     let v = c .before .before .varint .given in
-    let t = told-read (a .at + 2) (v .0 .0 .count) (v .0 .0 .next) (found (drop (a .at + 2) d)) (sym (v .1) ∙ c .before .before .before .before .read-varint .ensures) in
-    sym (ap (gotOf (a .at)) (next-at d (a .at) (a .prev) _ _ (c .before .before .before .before .before .before .if1 .left) (c .before .before .before .before .before .be16-at .ensures) (t .1)
-    ∙ withCount-low (a .prev) (c .before .before .before .before .before .be16-at .result) (v .0 .0 .count) (t .0) (c .if2 .taken)))
+    let t = told-read (a .at + 2) (v .0 .0 .count) (v .0 .0 .next) (found (drop (a .at + 2) d)) (sym (v .1) ∙ at-read-varint .read-varint .ensures) in
+    sym (ap (gotOf (a .at)) (next-at d (a .at) (a .prev) _ _ (at-if1 .if1 .left) (at-be16-at .be16-at .ensures) (t .1)
+    ∙ withCount-low (a .prev) (at-be16-at .be16-at .result) (v .0 .0 .count) (t .0) (c .if2 .taken)))
 
 returns-3 : tie.Need-returns-3
 returns-3 c =
-    let a = c .before .before .before .before .before .before .args in
+    let at-if1 = c .before .before .before .before in
+    let start = at-if1 .before .before in
+    let a = start .args in
     let d = a .src .now in
     let t = read-incomplete (a .at + 2) _ (found (drop (a .at + 2) d)) (sym (c .before .before .read-varint .ensures) ∙ c .enum-told .given .1) in
-    sym (ap (gotOf (a .at)) (next-at d (a .at) (a .prev) _ _ (c .before .before .before .before .if1 .left) (c .before .before .before .be16-at .ensures) t))
+    sym (ap (gotOf (a .at)) (next-at d (a .at) (a .prev) _ _ (at-if1 .if1 .left) (c .before .before .before .be16-at .ensures) t))
 
 returns-4 : tie.Need-returns-4
 returns-4 c =
-    let a = c .before .before .before .before .before .before .args in
+    let at-if1 = c .before .before .before .before in
+    let start = at-if1 .before .before in
+    let a = start .args in
     let d = a .src .now in
     let t = read-strange (a .at + 2) _ (found (drop (a .at + 2) d)) (sym (c .before .before .read-varint .ensures) ∙ c .enum-told2 .given .1) in
-    sym (ap (gotOf (a .at)) (next-at d (a .at) (a .prev) _ _ (c .before .before .before .before .if1 .left) (c .before .before .before .be16-at .ensures) t))
+    sym (ap (gotOf (a .at)) (next-at d (a .at) (a .prev) _ _ (at-if1 .if1 .left) (c .before .before .before .be16-at .ensures) t))
 
 returns-5 : tie.Need-returns-5
 returns-5 c =
-    let a = c .before .before .before .before .before .before .before .before .args in
+    let at-read-varint = c .before .before .before .before in
+    let at-be16-at = at-read-varint .before in
+    let at-if1 = at-be16-at .before in
+    let start = at-if1 .before .before in
+    let a = start .args in
     let d = a .src .now in
-    let e : ℕ = c .before .before .before .before .before .be16-at .result in
+    let e : ℕ = at-be16-at .be16-at .result in
     let v = c .before .before .varint .given in
-    let t = told-read (a .at + 2) (v .0 .0 .count) (v .0 .0 .next) (found (drop (a .at + 2) d)) (sym (v .1) ∙ c .before .before .before .before .read-varint .ensures) in
+    let t = told-read (a .at + 2) (v .0 .0 .count) (v .0 .0 .next) (found (drop (a .at + 2) d)) (sym (v .1) ∙ at-read-varint .read-varint .ensures) in
     let n : v .0 .0 .next ≡ a .at + (2 + t .0) = omega (arith, t .2) in
     ap (Good e (v .0 .0 .count)) n
-    ∙ sym (ap (gotOf (a .at)) (next-at d (a .at) (a .prev) e _ (c .before .before .before .before .before .before .if1 .left) (c .before .before .before .before .before .be16-at .ensures) (t .1)
+    ∙ sym (ap (gotOf (a .at)) (next-at d (a .at) (a .prev) e _ (at-if1 .if1 .left) (at-be16-at .be16-at .ensures) (t .1)
     ∙ withCount-above (a .prev) e (v .0 .0 .count) (t .0) (c .if2 .left)))
 
 pub read-record-spec : {M : Type 1} → statement M

@@ -13,21 +13,30 @@ use Rattle.codec_judging.proofs.two_passes.read_twice.Statement.{statem
 use Rattle.codec_judging.proofs.two_passes.read_twice.Tie as tie
 
 -- none is at fault, and there are so many
-sound : (c : tie.After-known-told2) → let a = c .before .before .before .before .before .before .before .before .before .before .before .before .before .before .before .args in
+sound : (c : tie.After-known-told2) →
+    let start = c .before .before .before .before .before .before .before .before .before .before .before .before .before .before .before in
+    let a = start .args in
     (rest (a .src .now) (a .at) (a .prev) .fault ≡ none) × (c .before .n .given .0 .0 ≡ length (rest (a .src .now) (a .at) (a .prev) .records))
 sound c =
-    let a = c .before .before .before .before .before .before .before .before .before .before .before .before .before .before .before .args in
-    judged-sound (length (a .src .now)) (rest (a .src .now) (a .at) (a .prev) .fault) _ _ (sym (c .before .n .given .1) ∙ c .before .before .before .before .before .before .before .judge-records .ensures)
+    let at-judge-records = c .before .before .before .before .before .before .before in
+    let start = at-judge-records .before .before .before .before .before .before .before .before in
+    let a = start .args in
+    judged-sound (length (a .src .now)) (rest (a .src .now) (a .at) (a .prev) .fault) _ _
+    (sym (c .before .n .given .1) ∙ at-judge-records .judge-records .ensures)
 
 -- what `fit` told, of these records
-told : (c : tie.After-fit) → let a = c .before .before .before .before .before .before .before .before .before .before .before .before .before .before .before .before .args in
+told : (c : tie.After-fit) →
+    let start = c .before .before .before .before .before .before .before .before .before .before .before .before .before .before .before .before in
+    let a = start .args in
     roomFor (a .k + length (rest (a .src .now) (a .at) (a .prev) .records)) (length (a .epochs .now)) (length (a .counts .now)) ≡ c .fit .result
 told c =
-    let a = c .before .before .before .before .before .before .before .before .before .before .before .before .before .before .before .before .args in
+    let start = c .before .before .before .before .before .before .before .before .before .before .before .before .before .before .before .before in
+    let a = start .args in
     ap (λ (n : ℕ). roomFor (a .k + n) (length (a .epochs .now)) (length (a .counts .now))) (sym (sound (c .before) .1)) ∙ sym (c .fit .ensures)
 
 judge-records-requires : tie.Need-judge-records-requires
-judge-records-requires c κs = let s = c .before .before .before .before .before .before .before in (omega (arith, s .pre .0), (s .pre .1 .0, s .pre .1 .1))
+judge-records-requires c κs = let s = c .before .before .before .before .before .before .before in
+    (omega (arith, s .pre .0), (s .pre .1 .0, s .pre .1 .1))
 
 add-fit : tie.Need-add-fit
 add-fit c =
@@ -36,32 +45,45 @@ add-fit c =
 
 fill-records-requires : tie.Need-fill-records-requires
 fill-records-requires c κs =
-    let s = c .before .before .before .before .before .before .before .before .before .before .before .before .before .before .before .before .before .before .before in
-    let e = sound (c .before .before .before .before) in
+    let at-known-told2 = c .before .before .before .before in
+    let s = at-known-told2 .before .before .before .before .before .before .before .before .before .before .before .before .before .before .before in
+    let e = sound at-known-told2 in
     let r = room-both _ _ _ (sym (c .before .before .before .fit .ensures) ∙ c .before .before .if1 .taken) in
     (record { before = s .args .prev; no-fault = e .0; all-there = sym (e .1) }, (r .0, r .1))
 
 returns : tie.Need-returns
 returns c =
-    let a = c .before .before .before .before .before .before .before .before .before .before .before .before .before .before .before .before .before .before .before .before .before .before .before .before .args in
-    let e = sound (c .before .before .before .before .before .before .before .before .before) in
-    let p = c .before .before .before .before .fill-records .ensures (record { before = a .prev; no-fault = e .0; all-there = sym (e .1) }) in
-    filled-all (length (a .src .now)) (a .k) (rest (a .src .now) (a .at) (a .prev) .records) (a .epochs .now) (a .counts .now) (rest (a .src .now) (a .at) (a .prev) .fault) _ _ _ (e .0)
-    (told (c .before .before .before .before .before .before .before .before) ∙ c .before .before .before .before .before .before .before .if1 .taken)
+    let at-fill-records = c .before .before .before .before in
+    let at-if1 = at-fill-records .before .before .before in
+    let at-fit = at-if1 .before in
+    let at-known-told2 = at-fit .before in
+    let start = at-known-told2 .before .before .before .before .before .before .before .before .before .before .before .before .before .before
+    .before in
+    let a = start .args in
+    let e = sound at-known-told2 in
+    let p = at-fill-records .fill-records .ensures (record { before = a .prev; no-fault = e .0; all-there = sym (e .1) }) in
+    filled-all (length (a .src .now)) (a .k) (rest (a .src .now) (a .at) (a .prev) .records) (a .epochs .now) (a .counts .now)
+    (rest (a .src .now) (a .at) (a .prev) .fault) _ _ _ (e .0)
+    (told at-fit ∙ at-if1 .if1 .taken)
     (p .behind) (p .epochs-set) (p .counts-set)
 
 returns-2 : tie.Need-returns-2
 returns-2 c =
-    let s = c .before .before .before .before .before .before .before .before .before .before .before .before .before .before .before in
+    let at-judge-records = c .before .before .before .before .before .before .before in
+    let s = at-judge-records .before .before .before .before .before .before .before .before in
     let a = s .args in
     let g = c .before .refusal .given in
-    judged-faulty (length (a .src .now)) (a .k) (rest (a .src .now) (a .at) (a .prev) .fault) (rest (a .src .now) (a .at) (a .prev) .records) (a .epochs .now) (a .counts .now) _ _
-    (sound-some (a .src .now) (a .at) (a .prev) (s .pre .0 .1)) (sym (g .1) ∙ c .before .before .before .before .before .before .before .judge-records .ensures)
+    judged-faulty (length (a .src .now)) (a .k) (rest (a .src .now) (a .at) (a .prev) .fault) (rest (a .src .now) (a .at) (a .prev) .records)
+    (a .epochs .now) (a .counts .now) _ _
+    (sound-some (a .src .now) (a .at) (a .prev) (s .pre .0 .1)) (sym (g .1) ∙ at-judge-records .judge-records .ensures)
 
 returns-3 : tie.Need-returns-3
 returns-3 c =
-    let a = c .before .before .before .before .before .before .before .before .before .before .before .before .before .before .before .before .before .args in
-    filled-short (length (a .src .now)) (a .k) (rest (a .src .now) (a .at) (a .prev) .records) (a .epochs .now) (a .counts .now) (rest (a .src .now) (a .at) (a .prev) .fault)
+    let start = c .before .before .before .before .before .before .before .before .before .before .before .before .before .before .before .before
+    .before in
+    let a = start .args in
+    filled-short (length (a .src .now)) (a .k) (rest (a .src .now) (a .at) (a .prev) .records) (a .epochs .now) (a .counts .now)
+    (rest (a .src .now) (a .at) (a .prev) .fault)
     (sound (c .before .before) .0) (told (c .before) ∙ c .if1 .left)
 
 pub read-twice-spec : {M : Type 1} → statement M

@@ -27,8 +27,10 @@ size-by-limits-requires c κs = search needs
 
 returns-3 : tie.Need-returns-3
 returns-3 c =
-    let a = c .before .before .before .before .args in
-    ap (λ (n : ℕ). leb n (a .room - a .size)) (c .size-by-limits .ensures .0) ∙ leb-left (a .size) (countsSize (a .counts .now)) (a .room) (c .before .before .if1 .left)
+    let start = c .before .before .before .before in
+    let a = start .args in
+    ap (λ (n : ℕ). leb n (a .room - a .size)) (c .size-by-limits .ensures .0) ∙ leb-left (a .size) (countsSize (a .counts .now)) (a .room)
+    (c .before .before .if1 .left)
 
 pub fit-spec : {M : Type 1} → statement M
 fit-spec = tie.close (tie.spec returns mul-if2 returns-2 size-by-limits-requires returns-3)

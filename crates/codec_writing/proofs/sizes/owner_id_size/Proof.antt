@@ -11,10 +11,12 @@ is-owned-requires : tie.Need-is-owned-requires
 is-owned-requires c κs = search needs
 
 returns : tie.Need-returns
-returns c = let e : owned (c .before .before .args .kind) ≡ true = sym (c .before .is-owned .ensures) ∙ c .if1 .taken in rw e (omega (arith, c .before .before .good), omega arith)
+returns c = let e : owned (c .before .before .args .kind) ≡ true = sym (c .before .is-owned .ensures) ∙ c .if1 .taken in rw e
+    (omega (arith, c .before .before .good), omega arith)
 
 returns-2 : tie.Need-returns-2
-returns-2 c = let e : owned (c .before .before .args .kind) ≡ false = sym (c .before .is-owned .ensures) ∙ c .if1 .left in rw e (omega arith, omega arith)
+returns-2 c = let e : owned (c .before .before .args .kind) ≡ false = sym (c .before .is-owned .ensures) ∙ c .if1 .left in rw e
+    (omega arith, omega arith)
 
 pub owner-id-size-spec : {M : Type 1} → statement M
 owner-id-size-spec = tie.close (tie.spec is-owned-requires returns returns-2)

@@ -17,7 +17,8 @@ abbrev μ-loop : tie.MeasureT-loop
 loop-again : tie.Need-loop-again Inv-loop μ-loop
 loop-again c =
     let l = c .before .before .before .loop in
-    summing-step (l .inv) (c .varint-len .result) (c .before .before .loop-test .taken) (c .varint-len .ensures) (omega (arith, c .before .shared-slice-known2 .given (l .k)))
+    summing-step (l .inv) (c .varint-len .result) (c .before .before .loop-test .taken) (c .varint-len .ensures)
+    (omega (arith, c .before .shared-slice-known2 .given (l .k)))
 
 pub records-size-spec : {M : Type 1} → statement M
 records-size-spec =

@@ -14,29 +14,49 @@ use Rattle.codec_writing.proofs.sizes.serialized_size.Statement.{statem
 use Rattle.codec_writing.proofs.sizes.serialized_size.Tie as tie
 
 -- the flags are proper
-right : (c : tie.Then1) → let a = c .before .before .before .before .args in IsProper (a .head) (a .epochs .now) (a .counts .now)
-right c = let a = c .before .before .before .before .args in proper-inv (a .head) (a .epochs .now) (a .counts .now) (sym (c .before .is-proper .ensures) ∙ c .if1 .taken)
+right : (c : tie.Then1) →
+    let start = c .before .before .before .before in
+    let a = start .args in IsProper (a .head) (a .epochs .now) (a .counts .now)
+right c =
+    let start = c .before .before .before .before in
+    let a = start .args in proper-inv (a .head) (a .epochs .now) (a .counts .now) (sym (c .before .is-proper .ensures) ∙ c .if1 .taken)
 
 slice-aggregate-records-size : tie.Need-slice-aggregate-records-size
-slice-aggregate-records-size c = let a = c .before .before .before .before .before .before .args in sym (held-counts (a .head) (a .epochs .now) (a .counts .now) (right (c .before .before)))
+slice-aggregate-records-size c =
+    let start = c .before .before .before .before .before .before in
+    let a = start .args in sym (held-counts (a .head) (a .epochs .now) (a .counts .now) (right (c .before .before)))
 
 add-t10 : tie.Need-add-t10
 add-t10 c =
-    let a = c .before .before .before .before .before .before .before .args in
+    let start = c .before .before .before .before .before .before .before in
+    let a = start .args in
     let p = right (c .before .before .before) in
-    omega (arith, c .before .before .head-bytes-size .ensures .1, c .records-size .ensures .1, held-counts (a .head) (a .epochs .now) (a .counts .now) p, p .counts-long, c .before .before .before .before .before .before .before .good)
+    omega (
+      arith,
+      c .before .before .head-bytes-size .ensures .1,
+      c .records-size .ensures .1,
+      held-counts (a .head) (a .epochs .now)
+          (a .counts .now) p,
+      p .counts-long,
+      start .good,
+    )
 
 returns : tie.Need-returns
 returns c =
-    let a = c .before .before .before .before .before .before .before .args in
+    let at-is-proper = c .before .before .before .before in
+    let start = at-is-proper .before .before .before in
+    let a = start .args in
     let n = length-flags (a .head) (a .epochs .now) (a .counts .now) (right (c .before .before .before)) in
-    let e : c .before .before .head-bytes-size .result + c .records-size .result ≡ length (bytesOf (flagsOf (a .head) (a .epochs .now) (a .counts .now))) =
+    let e : c .before .before .head-bytes-size .result + c .records-size .result ≡ length
+    (bytesOf (flagsOf (a .head) (a .epochs .now) (a .counts .now))) =
     omega (arith, n, c .before .before .head-bytes-size .ensures .0, c .records-size .ensures .0) in
-    ap ok e ∙ sym (size-proper (a .head) (a .epochs .now) (a .counts .now) (sym (c .before .before .before .before .is-proper .ensures) ∙ c .before .before .before .if1 .taken))
+    ap ok e ∙ sym (size-proper (a .head) (a .epochs .now) (a .counts .now)
+    (sym (at-is-proper .is-proper .ensures) ∙ c .before .before .before .if1 .taken))
 
 returns-2 : tie.Need-returns-2
 returns-2 c =
-    let a = c .before .before .before .before .args in
+    let start = c .before .before .before .before in
+    let a = start .args in
     sym (size-improper (a .head) (a .epochs .now) (a .counts .now) (sym (c .before .is-proper .ensures) ∙ c .if1 .left))
 
 pub serialized-size-spec : {M : Type 1} → statement M

@@ -18,43 +18,70 @@ use Rattle.codec_writing.proofs.writing.serialize.Statement.{statement}
 use Rattle.codec_writing.proofs.writing.serialize.Tie as tie
 
 -- the flags are proper
-right : (c : tie.Then1) → let a = c .before .before .before .before .before .args in IsProper (a .head) (a .epochs .now) (a .counts .now)
-right c = let a = c .before .before .before .before .before .args in proper-inv (a .head) (a .epochs .now) (a .counts .now) (sym (c .before .is-proper .ensures) ∙ c .if1 .taken)
+right : (c : tie.Then1) →
+    let start = c .before .before .before .before .before in
+    let a = start .args in IsProper (a .head) (a .epochs .now) (a .counts .now)
+right c =
+    let start = c .before .before .before .before .before in
+    let a = start .args in proper-inv (a .head) (a .epochs .now) (a .counts .now) (sym (c .before .is-proper .ensures) ∙ c .if1 .taken)
 
 -- and have room
-fits : (c : tie.Then2) → let a = c .before .before .before .before .before .before .before .before .before .args in 3 + length (ownerBytes (ownerOf (a .head))) + countsSize (take (a .head .records) (a .counts .now)) ≤ length (a .out .now)
+fits : (c : tie.Then2) →
+    let start = c .before .before .before .before .before .before .before .before .before in
+    let a = start .args in 3 + length (ownerBytes (ownerOf (a .head))) + countsSize (take (a .head .records) (a .counts .now)) ≤ length (a .out .now)
 fits c =
-    let a = c .before .before .before .before .before .before .before .before .before .args in
-    let h = leb-true (c .before .before .before .head-bytes-size .result + countsSize (take (a .head .records) (a .counts .now))) (length (a .out .now)) (sym (c .before .fit .ensures) ∙ c .if2 .taken) in
+    let start = c .before .before .before .before .before .before .before .before .before in
+    let a = start .args in
+    let h = leb-true (c .before .before .before .head-bytes-size .result + countsSize (take (a .head .records) (a .counts .now)))
+    (length (a .out .now)) (sym (c .before .fit .ensures) ∙ c .if2 .taken) in
     omega (arith, c .before .before .before .head-bytes-size .ensures .0)
 
 -- the head and then the records are the flags
-put : (c : tie.After-slice-known3) → let a = c .before .before .before .before .before .before .before .before .before .before .before .before .before .before .before .before .before .before .before .args in
-    Put (bytesOf (flagsOf (a .head) (a .epochs .now) (a .counts .now))) 0 (c .before .before .put-records .result) (a .out .now) (c .before .before .put-records .last .0)
+put : (c : tie.After-slice-known3) →
+    let start = c .before .before .before .before .before .before .before .before .before .before .before .before .before .before .before .before
+    .before .before .before in
+    let a = start .args in
+    Put (bytesOf (flagsOf (a .head) (a .epochs .now) (a .counts .now))) 0 (c .before .before .put-records .result) (a .out .now)
+    (c .before .before .put-records .last .0)
 put c =
-    let a = c .before .before .before .before .before .before .before .before .before .before .before .before .before .before .before .before .before .before .before .args in
-    rw (bytes-proper (a .head) (a .epochs .now) (a .counts .now) (right (c .before .before .before .before .before .before .before .before .before .before .before .before .before .before)))
-    (parts-last (parts-put (parts-start _ 0 (a .out .now)) refl (c .before .before .before .before .before .before .before .before .put-head .ensures)) (c .before .before .put-records .ensures))
+    let at-put-head = c .before .before .before .before .before .before .before .before in
+    let at-if1 = at-put-head .before .before .before .before .before .before in
+    let start = at-if1 .before .before .before .before .before in
+    let a = start .args in
+    rw (bytes-proper (a .head) (a .epochs .now) (a .counts .now) (right at-if1))
+    (parts-last (parts-put (parts-start _ 0 (a .out .now)) refl (at-put-head .put-head .ensures)) (c .before .before .put-records .ensures))
 
 slice-aggregate-fit : tie.Need-slice-aggregate-fit
-slice-aggregate-fit c = let a = c .before .before .before .before .before .before .before .args in sym (held-counts (a .head) (a .epochs .now) (a .counts .now) (right (c .before .before)))
+slice-aggregate-fit c =
+    let start = c .before .before .before .before .before .before .before in
+    let a = start .args in sym (held-counts (a .head) (a .epochs .now) (a .counts .now) (right (c .before .before)))
 
 put-head-requires : tie.Need-put-head-requires
 put-head-requires c κs = omega (arith, fits (c .before))
 
 slice-aggregate-put-records : tie.Need-slice-aggregate-put-records
-slice-aggregate-put-records c = let a = c .before .before .before .before .before .before .before .before .before .before .before .before .before .before .before .args in sym (held-epochs (a .head) (a .epochs .now) (a .counts .now) (right (c .before .before .before .before .before .before .before .before .before .before)))
+slice-aggregate-put-records c =
+    let at-if1 = c .before .before .before .before .before .before .before .before .before .before in
+    let start = at-if1 .before .before .before .before .before in
+    let a = start .args in sym (held-epochs (a .head) (a .epochs .now) (a .counts .now) (right at-if1))
 
 slice-aggregate-put-records-2 : tie.Need-slice-aggregate-put-records-2
-slice-aggregate-put-records-2 c = let a = c .before .before .before .before .before .before .before .before .before .before .before .before .before .before .before .before .args in sym (held-counts (a .head) (a .epochs .now) (a .counts .now) (right (c .before .before .before .before .before .before .before .before .before .before .before)))
+slice-aggregate-put-records-2 c =
+    let at-if1 = c .before .before .before .before .before .before .before .before .before .before .before in
+    let start = at-if1 .before .before .before .before .before in
+    let a = start .args in sym (held-counts (a .head) (a .epochs .now) (a .counts .now) (right at-if1))
 
 put-records-requires : tie.Need-put-records-requires
 put-records-requires c κs =
-    let a = c .before .before .before .before .before .before .before .before .before .before .before .before .before .before .before .before .args in
-    let r = right (c .before .before .before .before .before .before .before .before .before .before .before) in
-    let p = c .before .before .before .before .before .put-head .ensures in (
+    let at-put-head = c .before .before .before .before .before in
+    let at-if2 = at-put-head .before .before in
+    let at-if1 = at-if2 .before .before .before .before in
+    let start = at-if1 .before .before .before .before .before in
+    let a = start .args in
+    let r = right at-if1 in
+    let p = at-put-head .put-head .ensures in (
       held-epochs (a .head) (a .epochs .now) (a .counts .now) r ∙ sym (held-counts (a .head) (a .epochs .now) (a .counts .now) r),
-      omega (arith, fits (c .before .before .before .before .before .before .before), p .behind, length-head (a .head .kind) (ownerOf (a .head)) (a .head .base), put-long p),
+      omega (arith, fits at-if2, p .behind, length-head (a .head .kind) (ownerOf (a .head)) (a .head .base), put-long p),
     )
 
 same-length : tie.Need-same-length
@@ -62,22 +89,32 @@ same-length c = put-long (put c)
 
 returns : tie.Need-returns
 returns c =
-    let a = c .before .before .before .before .before .before .before .before .before .before .before .before .before .before .before .before .before .before .before .args in
-    let n = length-flags (a .head) (a .epochs .now) (a .counts .now) (right (c .before .before .before .before .before .before .before .before .before .before .before .before .before .before)) in
-    put-written (bytesOf (flagsOf (a .head) (a .epochs .now) (a .counts .now))) (a .out .now) _ _ (put c) (omega (arith, n, fits (c .before .before .before .before .before .before .before .before .before .before)))
-    ∙ sym (serialized-proper (a .head) (a .epochs .now) (a .counts .now) (a .out .now) (sym (c .before .before .before .before .before .before .before .before .before .before .before .before .before .before .before .is-proper .ensures) ∙ c .before .before .before .before .before .before .before .before .before .before .before .before .before .before .if1 .taken))
+    let at-if2 = c .before .before .before .before .before .before .before .before .before .before in
+    let at-if1 = at-if2 .before .before .before .before in
+    let at-is-proper = at-if1 .before in
+    let start = at-is-proper .before .before .before .before in
+    let a = start .args in
+    let n = length-flags (a .head) (a .epochs .now) (a .counts .now) (right at-if1) in
+    put-written (bytesOf (flagsOf (a .head) (a .epochs .now) (a .counts .now))) (a .out .now) _ _ (put c) (omega (arith, n, fits at-if2))
+    ∙ sym (serialized-proper (a .head) (a .epochs .now) (a .counts .now) (a .out .now) (sym (at-is-proper .is-proper .ensures) ∙ at-if1 .if1 .taken))
 
 returns-2 : tie.Need-returns-2
 returns-2 c =
-    let a = c .before .before .before .before .before .before .before .before .before .args in
-    let n = length-flags (a .head) (a .epochs .now) (a .counts .now) (right (c .before .before .before .before)) in
-    let m = leb-false (c .before .before .before .head-bytes-size .result + countsSize (take (a .head .records) (a .counts .now))) (length (a .out .now)) (sym (c .before .fit .ensures) ∙ c .if2 .left) in
-    sym (serialized-proper (a .head) (a .epochs .now) (a .counts .now) (a .out .now) (sym (c .before .before .before .before .before .is-proper .ensures) ∙ c .before .before .before .before .if1 .taken)
-    ∙ writing-short (bytesOf (flagsOf (a .head) (a .epochs .now) (a .counts .now))) (a .out .now) (omega (arith, n, m, c .before .before .before .head-bytes-size .ensures .0)))
+    let at-if1 = c .before .before .before .before in
+    let at-is-proper = at-if1 .before in
+    let start = at-is-proper .before .before .before .before in
+    let a = start .args in
+    let n = length-flags (a .head) (a .epochs .now) (a .counts .now) (right at-if1) in
+    let m = leb-false (c .before .before .before .head-bytes-size .result + countsSize (take (a .head .records) (a .counts .now)))
+    (length (a .out .now)) (sym (c .before .fit .ensures) ∙ c .if2 .left) in
+    sym (serialized-proper (a .head) (a .epochs .now) (a .counts .now) (a .out .now) (sym (at-is-proper .is-proper .ensures) ∙ at-if1 .if1 .taken)
+    ∙ writing-short (bytesOf (flagsOf (a .head) (a .epochs .now) (a .counts .now))) (a .out .now)
+    (omega (arith, n, m, c .before .before .before .head-bytes-size .ensures .0)))
 
 returns-3 : tie.Need-returns-3
 returns-3 c =
-    let a = c .before .before .before .before .before .args in
+    let start = c .before .before .before .before .before in
+    let a = start .args in
     sym (serialized-improper (a .head) (a .epochs .now) (a .counts .now) (a .out .now) (sym (c .before .is-proper .ensures) ∙ c .if1 .left))
 
 pub serialize-spec : {M : Type 1} → statement M

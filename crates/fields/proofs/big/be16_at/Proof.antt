@@ -16,7 +16,12 @@ cast-result-2 : tie.Need-cast-result-2
 cast-result-2 c = omega (arith, c .shared-slice-known2 .given (c .before .before .args .at + 1))
 
 add-result-2 : tie.Need-add-result-2
-add-result-2 c = omega (arith, c .shared-slice-known2 .given (c .before .before .args .at), c .shared-slice-known2 .given (c .before .before .args .at + 1))
+add-result-2 c = omega (
+  arith,
+  c .shared-slice-known2 .given (c .before .before .args .at),
+  c .shared-slice-known2 .given
+      (c .before .before .args .at + 1),
+)
 
 returns : tie.Need-returns
 returns c = let a = c .before .before .args in two-at (a .src .now) (a .at) (omega arith)

@@ -7,7 +7,9 @@ use Rattle.fields.proofs.limits.len_by_limits.Tie as tie
 
 returns : tie.Need-returns
 returns c =
-    length-limits (c .before .before .before .before .args .count) (omega arith) (c .before .before .before .above .ensures .0) (c .before .before .above2 .ensures .0) (c .before .above3 .ensures .0) (c .above4 .ensures .0)
+    let start = c .before .before .before .before in
+    length-limits (start .args .count) (omega arith) (c .before .before .before .above .ensures .0) (c .before .before .above2 .ensures .0)
+    (c .before .above3 .ensures .0) (c .above4 .ensures .0)
 
 pub len-by-limits-spec : {M : Type 1} → statement M
 len-by-limits-spec =

@@ -33,21 +33,24 @@ returns-2 c =
 
 returns-3 : tie.Need-returns-3
 returns-3 c =
-    let a = c .before .before .before .before .args in
-    let x = c .before .before .before .before .pre in
+    let start = c .before .before .before .before in
+    let a = start .args in
+    let x = start .pre in
     ap (judgedAt (a .at)) (sym (passed-long (a .src .now) (a .at) (a .k) (x .passed) (x .inside) (x .low) (x .ten) (c .if3 .taken)))
 
 returns-4 : tie.Need-returns-4
 returns-4 c =
-    let a = c .before .before .before .before .before .args in
-    let x = c .before .before .before .before .before .pre in
+    let start = c .before .before .before .before .before in
+    let a = start .args in
+    let x = start .pre in
     let e : a .at + 5 ≡ a .at + suc (a .k) = omega arith in
     ap Ends e ∙ ends (c .before .before .before) (fifth-fits (a .src .now) (a .at) (a .k) (omega arith) (x .passed) (x .inside) (c .if4 .taken))
 
 returns-5 : tie.Need-returns-5
 returns-5 c =
-    let a = c .before .before .before .before .before .args in
-    let x = c .before .before .before .before .before .pre in
+    let start = c .before .before .before .before .before in
+    let a = start .args in
+    let x = start .pre in
     ap (judgedAt (a .at)) (sym (fifth-large (a .src .now) (a .at) (a .k) (omega arith) (x .passed) (x .inside) (x .low) (c .if4 .left)))
 
 pub end-at-spec : {M : Type 1} → statement M

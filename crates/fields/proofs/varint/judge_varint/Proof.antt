@@ -23,12 +23,14 @@ returns c =
 
 returns-2 : tie.Need-returns-2 Inv-loop μ-loop
 returns-2 c =
-    let a = c .before .before .before .before .args in
+    let start = c .before .before .before .before in
+    let a = start .args in
     ap (judgedAt (a .at)) (sym (first-whole (a .src .now) (a .at) (c .before .before .if1 .left) (c .if2 .taken)))
 
 loop-holds : tie.Need-loop-holds Inv-loop μ-loop
 loop-holds c =
-    let a = c .before .before .before .before .args in
+    let start = c .before .before .before .before in
+    let a = start .args in
     (omega arith, omega arith, omega arith, first-more (a .src .now) (a .at) (c .before .before .if1 .left) (c .if2 .left))
 
 add-i : tie.Need-add-i Inv-loop μ-loop
@@ -36,13 +38,15 @@ add-i c = omega arith
 
 returns-3 : tie.Need-returns-3 Inv-loop μ-loop
 returns-3 c =
-    let a = c .before .before .before .before .before .before .before .args in
+    let start = c .before .before .before .before .before .before .before in
+    let a = start .args in
     let l = c .before .before .loop in
     judged-cut (a .src .now) (a .at) (l .k) (l .inv .3) (c .if3 .taken)
 
 end-at-requires : tie.Need-end-at-requires Inv-loop μ-loop
 end-at-requires c κs =
-    let l = c .before .before .before .before .loop in
+    let at-loop = c .before .before .before .before in
+    let l = at-loop .loop in
     record {
       passed = l .inv .3;
       some = l .inv .0;
@@ -53,13 +57,21 @@ end-at-requires c κs =
 
 loop-again : tie.Need-loop-again Inv-loop μ-loop
 loop-again c =
-    let a = c .before .before .before .before .before .before .before .before .before .args in
-    let l = c .before .before .before .before .loop in
-    (omega arith, omega arith, omega arith, passed-more (a .src .now) (a .at) (l .k) (l .inv .3) (c .before .before .if3 .left) (l .k + 1) refl (c .if4 .left))
+    let at-loop = c .before .before .before .before in
+    let start = at-loop .before .before .before .before .before in
+    let a = start .args in
+    let l = at-loop .loop in (
+      omega arith,
+      omega arith,
+      omega arith,
+      passed-more (a .src .now) (a .at) (l .k) (l .inv .3) (c .before .before .if3 .left) (l .k + 1) refl
+          (c .if4 .left),
+    )
 
 returns-5 : tie.Need-returns-5 Inv-loop μ-loop
 returns-5 c =
-    let a = c .before .before .before .before .before .before .args in
+    let start = c .before .before .before .before .before .before in
+    let a = start .args in
     let l = c .before .loop in
     ap (judgedAt (a .at)) (sym (passed-ten (a .src .now) (a .at) (l .k) (l .inv .3) (omega arith)))
 

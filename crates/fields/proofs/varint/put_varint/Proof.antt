@@ -40,7 +40,8 @@ module _ (out : List ℕ) (at count : ℕ) where
   put-four h = putting-more (put-three (omega arith)) (at + 4) (count / 268435456) (omega arith) (omega arith) (omega arith)
 
 slice-write-out : tie.Need-slice-write-out
-slice-write-out c = let a = c .before .args in parts-inside (parts-start (varint (a .count)) (a .at) (a .out .now)) (length-pos (a .count)) (c .before .pre)
+slice-write-out c = let a = c .before .args in parts-inside (parts-start (varint (a .count)) (a .at) (a .out .now)) (length-pos (a .count))
+    (c .before .pre)
 
 returns : tie.Need-returns
 returns c =
@@ -48,48 +49,63 @@ returns c =
     putting-last (parts-start (varint (a .count)) (a .at) (a .out .now)) (a .at + 1) (c .if1 .taken) refl
 
 slice-write-out-2 : tie.Need-slice-write-out-2
-slice-write-out-2 c = let a = c .before .args in parts-inside (parts-start (varint (a .count)) (a .at) (a .out .now)) (length-pos (a .count)) (c .before .pre)
+slice-write-out-2 c = let a = c .before .args in parts-inside (parts-start (varint (a .count)) (a .at) (a .out .now)) (length-pos (a .count))
+    (c .before .pre)
 
 slice-write-out-3 : tie.Need-slice-write-out-3
-slice-write-out-3 c = let a = c .before .before .args in parts-inside (put-one (a .out .now) (a .at) (a .count) (omega arith)) (length-pos (a .count / 128)) (c .before .before .pre)
+slice-write-out-3 c = let a = c .before .before .args in parts-inside (put-one (a .out .now) (a .at) (a .count) (omega arith))
+    (length-pos (a .count / 128)) (c .before .before .pre)
 
 returns-2 : tie.Need-returns-2
 returns-2 c =
     let a = c .before .before .args in
-    putting-last (put-one (a .out .now) (a .at) (a .count) (omega arith)) (a .at + 2) (omega (arith, c .before .before .fits .count .fits)) (omega arith)
+    putting-last (put-one (a .out .now) (a .at) (a .count) (omega arith)) (a .at + 2) (omega (arith, c .before .before .fits .count .fits))
+    (omega arith)
 
 slice-write-out-4 : tie.Need-slice-write-out-4
-slice-write-out-4 c = let a = c .before .before .args in parts-inside (put-one (a .out .now) (a .at) (a .count) (omega arith)) (length-pos (a .count / 128)) (c .before .before .pre)
+slice-write-out-4 c = let a = c .before .before .args in parts-inside (put-one (a .out .now) (a .at) (a .count) (omega arith))
+    (length-pos (a .count / 128)) (c .before .before .pre)
 
 slice-write-out-5 : tie.Need-slice-write-out-5
-slice-write-out-5 c = let a = c .before .before .before .args in parts-inside (put-two (a .out .now) (a .at) (a .count) (omega arith)) (length-pos (a .count / 16384)) (c .before .before .before .pre)
+slice-write-out-5 c = let a = c .before .before .before .args in parts-inside (put-two (a .out .now) (a .at) (a .count) (omega arith))
+    (length-pos (a .count / 16384)) (c .before .before .before .pre)
 
 returns-3 : tie.Need-returns-3
 returns-3 c =
     let a = c .before .before .before .args in
-    putting-last (put-two (a .out .now) (a .at) (a .count) (omega arith)) (a .at + 3) (omega (arith, c .before .before .before .fits .count .fits)) (omega arith)
+    putting-last (put-two (a .out .now) (a .at) (a .count) (omega arith)) (a .at + 3) (omega (arith, c .before .before .before .fits .count .fits))
+    (omega arith)
 
 slice-write-out-6 : tie.Need-slice-write-out-6
-slice-write-out-6 c = let a = c .before .before .before .args in parts-inside (put-two (a .out .now) (a .at) (a .count) (omega arith)) (length-pos (a .count / 16384)) (c .before .before .before .pre)
+slice-write-out-6 c = let a = c .before .before .before .args in parts-inside (put-two (a .out .now) (a .at) (a .count) (omega arith))
+    (length-pos (a .count / 16384)) (c .before .before .before .pre)
 
 slice-write-out-7 : tie.Need-slice-write-out-7
-slice-write-out-7 c = let a = c .before .before .before .before .args in parts-inside (put-three (a .out .now) (a .at) (a .count) (omega arith)) (length-pos (a .count / 2097152)) (c .before .before .before .before .pre)
+slice-write-out-7 c =
+    let start = c .before .before .before .before in
+    let a = start .args in parts-inside (put-three (a .out .now) (a .at) (a .count) (omega arith)) (length-pos (a .count / 2097152)) (start .pre)
 
 returns-4 : tie.Need-returns-4
 returns-4 c =
-    let a = c .before .before .before .before .args in
-    putting-last (put-three (a .out .now) (a .at) (a .count) (omega arith)) (a .at + 4) (omega (arith, c .before .before .before .before .fits .count .fits)) (omega arith)
+    let start = c .before .before .before .before in
+    let a = start .args in
+    putting-last (put-three (a .out .now) (a .at) (a .count) (omega arith)) (a .at + 4) (omega (arith, start .fits .count .fits)) (omega arith)
 
 slice-write-out-8 : tie.Need-slice-write-out-8
-slice-write-out-8 c = let a = c .before .before .before .before .args in parts-inside (put-three (a .out .now) (a .at) (a .count) (omega arith)) (length-pos (a .count / 2097152)) (c .before .before .before .before .pre)
+slice-write-out-8 c =
+    let start = c .before .before .before .before in
+    let a = start .args in parts-inside (put-three (a .out .now) (a .at) (a .count) (omega arith)) (length-pos (a .count / 2097152)) (start .pre)
 
 slice-write-out-9 : tie.Need-slice-write-out-9
-slice-write-out-9 c = let a = c .before .before .before .before .args in parts-inside (put-four (a .out .now) (a .at) (a .count) (omega arith)) (length-pos (a .count / 268435456)) (c .before .before .before .before .pre)
+slice-write-out-9 c =
+    let start = c .before .before .before .before in
+    let a = start .args in parts-inside (put-four (a .out .now) (a .at) (a .count) (omega arith)) (length-pos (a .count / 268435456)) (start .pre)
 
 returns-5 : tie.Need-returns-5
 returns-5 c =
-    let a = c .before .before .before .before .args in
-    putting-last (put-four (a .out .now) (a .at) (a .count) (omega arith)) (a .at + 5) (omega (arith, c .before .before .before .before .fits .count .fits)) (omega arith)
+    let start = c .before .before .before .before in
+    let a = start .args in
+    putting-last (put-four (a .out .now) (a .at) (a .count) (omega arith)) (a .at + 5) (omega (arith, start .fits .count .fits)) (omega arith)
 
 pub put-varint-spec : {M : Type 1} → statement M
 put-varint-spec =

@@ -10,19 +10,25 @@ use Rattle.fields.proofs.varint.read_judged.Tie as tie
 
 varint-at-requires : tie.Need-varint-at-requires
 varint-at-requires c κs =
-    let a = c .before .before .before .before .args in
-    ap isWhole (told-ends (a .at) _ (found (drop (a .at) (a .src .now))) (sym (c .before .before .judge-varint .ensures) ∙ c .enum-told .given .1) .is-whole)
+    let start = c .before .before .before .before in
+    let a = start .args in
+    ap isWhole (told-ends (a .at) _ (found (drop (a .at) (a .src .now)))
+    (sym (c .before .before .judge-varint .ensures) ∙ c .enum-told .given .1) .is-whole)
 
 returns : tie.Need-returns
 returns c =
-    let a = c .before .before .before .before .before .args in
-    let t = told-incomplete (a .at) (c .before .place .given .0 .0) (found (drop (a .at) (a .src .now))) (sym (c .before .before .before .judge-varint .ensures) ∙ c .before .place .given .1) in
+    let start = c .before .before .before .before .before in
+    let a = start .args in
+    let t = told-incomplete (a .at) (c .before .place .given .0 .0) (found (drop (a .at) (a .src .now)))
+    (sym (c .before .before .before .judge-varint .ensures) ∙ c .before .place .given .1) in
     ap Incomplete (sym (t .1)) ∙ ap (readAt (a .at)) (sym (t .0))
 
 returns-2 : tie.Need-returns-2
 returns-2 c =
-    let a = c .before .before .before .before .before .args in
-    let t = told-strange (a .at) (c .before .place2 .given .0 .0) (found (drop (a .at) (a .src .now))) (sym (c .before .before .before .judge-varint .ensures) ∙ c .before .place2 .given .1) in
+    let start = c .before .before .before .before .before in
+    let a = start .args in
+    let t = told-strange (a .at) (c .before .place2 .given .0 .0) (found (drop (a .at) (a .src .now)))
+    (sym (c .before .before .before .judge-varint .ensures) ∙ c .before .place2 .given .1) in
     ap NotCanonical (sym (t .1)) ∙ ap (readAt (a .at)) (sym (t .0))
 
 pub read-judged-spec : {M : Type 1} → statement M

@@ -26,10 +26,12 @@ add-read-fifth c =
 
 read-fifth-requires : tie.Need-read-fifth-requires
 read-fifth-requires c κs =
-    let s = c .before .before .before .before .before .before .before .before in
+    let at-if1 = c .before .before .before .before .before .before in
+    let s = at-if1 .before .before in
     let d = s .args .src .now in
-    let l = long (c .before .before .before .before .before .before) in
-    let h : (127 < getD d (s .args .at + 2) 0) × (127 < getD d (s .args .at + 3) 0) = both-true _ _ (sym (c .before .before .both-high .ensures) ∙ c .before .if2 .taken) in (
+    let l = long at-if1 in
+    let h : (127 < getD d (s .args .at + 2) 0) × (127 < getD d (s .args .at + 3) 0) = both-true _ _
+    (sym (c .before .before .both-high .ensures) ∙ c .before .if2 .taken) in (
       omega arith,
       (
         fourth-passed d (s .args .at) (s .args .two) (s .pre .1 .0) (s .pre .1 .1) l (h .0) (h .1),
@@ -40,21 +42,30 @@ read-fifth-requires c κs =
 
 returns-3 : tie.Need-returns-3
 returns-3 c =
-    let s = c .before .before .before .before .before .before .before .before .before in
+    let at-if1 = c .before .before .before .before .before .before .before in
+    let s = at-if1 .before .before in
     let one = sym (c .before .before .before .both-high .ensures) ∙ c .before .before .if2 .left in
-    chosen-zero (s .args .src .now) (s .args .at) (s .args .two) (s .pre .1 .0) (s .pre .1 .1) (long (c .before .before .before .before .before .before .before)) one _ (c .before .last-of .ensures) (c .if3 .taken)
+    chosen-zero (s .args .src .now) (s .args .at) (s .args .two) (s .pre .1 .0) (s .pre .1 .1) (long at-if1) one _ (c .before .last-of .ensures)
+    (c .if3 .taken)
 
 add-t14 : tie.Need-add-t14
 add-t14 c =
-    let s = c .before .before .before .before .before .before .before .before .before .before in
-    omega (arith, c .before .before .before .before .before .wide .ensures, c .fourth-part .ensures .1, s .pre .1 .1, groups-below (s .args .src .now) (s .args .at) 2)
+    let at-wide = c .before .before .before .before .before in
+    let s = at-wide .before .before .before .before .before in
+    omega (arith, at-wide .wide .ensures, c .fourth-part .ensures .1, s .pre .1 .1, groups-below (s .args .src .now) (s .args .at) 2)
 
 returns-4 : tie.Need-returns-4
 returns-4 c =
-    let s = c .before .before .before .before .before .before .before .before .before .before .before in
-    let one = sym (c .before .before .before .before .before .both-high .ensures) ∙ c .before .before .before .before .if2 .left in
-    ap (λ (x : ℕ). Whole (record { count = s .args .two + x * 16384 + c .before .fourth-part .result; next = c .behind .result })) (c .before .before .before .before .before .before .wide .ensures)
-    ∙ chosen-read (s .args .src .now) (s .args .at) (s .args .two) (s .pre .1 .0) (s .pre .1 .1) (long (c .before .before .before .before .before .before .before .before .before)) one _ (c .before .before .before .last-of .ensures)
+    let at-if2 = c .before .before .before .before in
+    let at-both-high = at-if2 .before in
+    let at-wide = at-both-high .before in
+    let at-if1 = at-wide .before .before .before in
+    let s = at-if1 .before .before in
+    let one = sym (at-both-high .both-high .ensures) ∙ at-if2 .if2 .left in
+    ap (λ (x : ℕ). Whole (record { count = s .args .two + x * 16384 + c .before .fourth-part .result; next = c .behind .result }))
+    (at-wide .wide .ensures)
+    ∙ chosen-read (s .args .src .now) (s .args .at) (s .args .two) (s .pre .1 .0) (s .pre .1 .1) (long at-if1) one _
+    (c .before .before .before .last-of .ensures)
     (c .before .fourth-part .result) (c .behind .result) (c .before .fourth-part .ensures .0) (c .behind .ensures) (c .before .before .if3 .left)
 
 pub read-third-spec : {M : Type 1} → statement M

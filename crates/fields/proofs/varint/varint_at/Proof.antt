@@ -11,18 +11,23 @@ use Rattle.fields.proofs.varint.varint_at.Statement.{statement}
 use Rattle.fields.proofs.varint.varint_at.Tie as tie
 
 first-passed : (c : tie.Else1) → let a = c .before .before .before .args in Passed (a .src .now) (a .at) 1
-first-passed c = let a = c .before .before .before .args in first-more (a .src .now) (a .at) (first-inside (a .src .now) (a .at) (c .before .before .before .pre)) (c .if1 .left)
+first-passed c = let a = c .before .before .before .args in first-more (a .src .now) (a .at)
+    (first-inside (a .src .now) (a .at) (c .before .before .before .pre)) (c .if1 .left)
 
 second-inside : (c : tie.Else1) → let a = c .before .before .before .args in a .at + 1 < length (a .src .now)
 second-inside c = let a = c .before .before .before .args in whole-inside (a .src .now) (a .at) 1 (first-passed c) (c .before .before .before .pre)
 
 -- what two bytes say
-two : (c : tie.After-wide3) → let a = c .before .before .before .before .before .before .args in c .before .wide2 .result + c .wide3 .result * 128 ≡ value (take 2 (drop (a .at) (a .src .now)))
+two : (c : tie.After-wide3) →
+    let start = c .before .before .before .before .before .before in
+    let a = start .args in c .before .wide2 .result + c .wide3 .result * 128 ≡ value (take 2 (drop (a .at) (a .src .now)))
 two c =
-    let a = c .before .before .before .before .before .before .args in
+    let start = c .before .before .before .before .before .before in
+    let a = start .args in
     let d = a .src .now in
     ap₂ (λ (x y : ℕ). x + y * 128) (c .before .wide2 .ensures) (c .wide3 .ensures)
-    ∙ value-on d (a .at) 1 (getD d (a .at) 0 % 128) (second-inside (c .before .before .before)) (first-value d (a .at) (first-inside d (a .at) (c .before .before .before .before .before .before .pre)))
+    ∙ value-on d (a .at) 1 (getD d (a .at) 0 % 128) (second-inside (c .before .before .before))
+    (first-value d (a .at) (first-inside d (a .at) (start .pre)))
 
 shared-slice-read-first : tie.Need-shared-slice-read-first
 shared-slice-read-first c =
@@ -31,14 +36,16 @@ shared-slice-read-first c =
 
 add-t10 : tie.Need-add-t10
 add-t10 c =
-    let a = c .before .before .before .before .args in
-    omega (arith, first-inside (a .src .now) (a .at) (c .before .before .before .before .pre))
+    let start = c .before .before .before .before in
+    let a = start .args in
+    omega (arith, first-inside (a .src .now) (a .at) (start .pre))
 
 returns : tie.Need-returns
 returns c =
-    let a = c .before .before .before .before .args in
+    let start = c .before .before .before .before in
+    let a = start .args in
     (λ i. Whole (record { count = c .wide .ensures i; next = a .at + 1 }))
-    ∙ ap (readAt (a .at)) (sym (first-whole (a .src .now) (a .at) (first-inside (a .src .now) (a .at) (c .before .before .before .before .pre)) (c .before .if1 .taken)))
+    ∙ ap (readAt (a .at)) (sym (first-whole (a .src .now) (a .at) (first-inside (a .src .now) (a .at) (start .pre)) (c .before .if1 .taken)))
 
 add-second : tie.Need-add-second
 add-second c = omega (arith, second-inside c)
@@ -47,17 +54,24 @@ shared-slice-read-second : tie.Need-shared-slice-read-second
 shared-slice-read-second c = second-inside (c .before)
 
 add-t17 : tie.Need-add-t17
-add-t17 c = omega (arith, second-inside (c .before .before .before .before))
+add-t17 c =
+    let at-if1 = c .before .before .before .before in
+    omega (arith, second-inside at-if1)
 
 returns-2 : tie.Need-returns-2
 returns-2 c =
-    let a = c .before .before .before .before .before .before .before .args in
-    passed-read (a .src .now) (a .at) 1 (first-passed (c .before .before .before .before)) (second-inside (c .before .before .before .before)) (c .if2 .taken) (omega arith) _ (a .at + 2) (c .before .before .before .before .before .before .before .pre) (two (c .before)) refl
+    let at-if1 = c .before .before .before .before in
+    let start = at-if1 .before .before .before in
+    let a = start .args in
+    passed-read (a .src .now) (a .at) 1 (first-passed at-if1) (second-inside at-if1) (c .if2 .taken) (omega arith) _ (a .at + 2) (start .pre)
+    (two (c .before)) refl
 
 varint-third-requires : tie.Need-varint-third-requires
 varint-third-requires c κs =
-    let a = c .before .before .before .before .before .before .before .args in
-    (c .before .before .before .before .before .before .before .pre, (passed-more (a .src .now) (a .at) 1 (first-passed (c .before .before .before .before)) (second-inside (c .before .before .before .before)) 2 refl (c .if2 .left), two (c .before)))
+    let at-if1 = c .before .before .before .before in
+    let start = at-if1 .before .before .before in
+    let a = start .args in
+    (start .pre, (passed-more (a .src .now) (a .at) 1 (first-passed at-if1) (second-inside at-if1) 2 refl (c .if2 .left), two (c .before)))
 
 pub varint-at-spec : {M : Type 1} → statement M
 varint-at-spec =

@@ -7,13 +7,23 @@ use Rattle.flags.proofs.adding.combine_added_bytes.Statement.{statement
 use Rattle.flags.proofs.adding.combine_added_bytes.Tie as tie
 
 returns : tie.Need-returns
-returns c = c .before .before .before .before .combine-proper .ensures ∙ sym (combined-proper _ _ _ _ _ _ _ _ _ _ (sym (c .before .before .before .before .before .before .before .before .before .before .is-proper .ensures) ∙ c .before .before .before .before .before .before .before .before .before .if1 .taken) (sym (c .before .before .before .before .before .before .before .before .is-proper2 .ensures) ∙ c .before .before .before .before .before .before .before .if2 .taken))
+returns c =
+    let at-combine-proper = c .before .before .before .before in
+    let at-if2 = at-combine-proper .before .before .before in
+    let at-is-proper2 = at-if2 .before in
+    let at-if1 = at-is-proper2 .before in
+    let at-is-proper = at-if1 .before in
+    at-combine-proper .combine-proper .ensures
+    ∙ sym (combined-proper _ _ _ _ _ _ _ _ _ _ (sym (at-is-proper .is-proper .ensures) ∙ at-if1 .if1 .taken)
+    (sym (at-is-proper2 .is-proper2 .ensures) ∙ at-if2 .if2 .taken))
 
 returns-2 : tie.Need-returns-2
-returns-2 c = refused-left _ _ _ _ (c .refused .ensures) ∙ sym (combined-theirs-bad _ _ _ _ _ _ _ _ _ _ (sym (c .before .before .is-proper2 .ensures) ∙ c .before .if2 .left))
+returns-2 c = refused-left _ _ _ _ (c .refused .ensures)
+    ∙ sym (combined-theirs-bad _ _ _ _ _ _ _ _ _ _ (sym (c .before .before .is-proper2 .ensures) ∙ c .before .if2 .left))
 
 returns-3 : tie.Need-returns-3
-returns-3 c = refused-left _ _ _ _ (c .refused2 .ensures) ∙ sym (combined-ours-bad _ _ _ _ _ _ _ _ _ _ (sym (c .before .before .is-proper .ensures) ∙ c .before .if1 .left))
+returns-3 c = refused-left _ _ _ _ (c .refused2 .ensures)
+    ∙ sym (combined-ours-bad _ _ _ _ _ _ _ _ _ _ (sym (c .before .before .is-proper .ensures) ∙ c .before .if1 .left))
 
 pub combine-added-bytes-spec : {M : Type 1} → statement M
 combine-added-bytes-spec =
@@ -21,7 +31,13 @@ combine-added-bytes-spec =
     (tie.spec
     (λ c κs. search needs)
     (λ c κs. search needs)
-    (λ c κs. (sym (c .before .before .before .before .before .is-proper .ensures) ∙ c .before .before .before .before .if1 .taken, sym (c .before .before .before .is-proper2 .ensures) ∙ c .before .before .if2 .taken))
+    (λ c κs.
+    let at-if1 = c .before .before .before .before in
+    let at-is-proper = at-if1 .before in (
+      sym (at-is-proper .is-proper .ensures) ∙ at-if1 .if1 .taken,
+      sym (c .before .before .before .is-proper2 .ensures)
+          ∙ c .before .before .if2 .taken,
+    ))
     (λ c. search needs)
     (λ c. search needs)
     returns

@@ -30,25 +30,32 @@ returns : tie.Need-returns
 returns c =
     let b = c .before .before .before .before .before .before .before .before in
     let a = b .args in
-    refused-placing (c .refused .result) (a .epochs .now) (a .counts .now) (added (a .strategy) (a .added-bytes) (ours b) (theirs b)) _ (c .refused .ensures)
+    refused-placing (c .refused .result) (a .epochs .now) (a .counts .now) (added (a .strategy) (a .added-bytes) (ours b) (theirs b)) _
+    (c .refused .ensures)
     (added-lower (a .strategy) (a .added-bytes) (ours b) (theirs b) (c .before .if1 .taken))
 
 returns-2 : tie.Need-returns-2
 returns-2 c =
     let b = c .before .before .before .before .before .before .before .before .before .before in
     let a = b .args in
-    refused-placing (c .refused2 .result) (a .epochs .now) (a .counts .now) (added (a .strategy) (a .added-bytes) (ours b) (theirs b)) _ (c .refused2 .ensures)
+    refused-placing (c .refused2 .result) (a .epochs .now) (a .counts .now) (added (a .strategy) (a .added-bytes) (ours b) (theirs b)) _
+    (c .refused2 .ensures)
     (added-disputed (a .strategy) (a .added-bytes) (ours b) (theirs b) (c .before .before .before .if1 .left)
     (refused-owner _ (a .strategy) (ownerOf (a .ours)) (ownerOf (a .theirs)) (c .before .before .combine-owners .ensures) (c .before .if2 .taken)))
 
 returns-3 : tie.Need-returns-3
 returns-3 c =
-    let b = c .before .before .before .before .before .before .before .before .before .before .before .before .before .before .before .before .before .before .before .before .before in
+    let at-combine-tables = c .before .before .before .before in
+    let at-if2 = at-combine-tables .before .before .before .before .before .before .before .before in
+    let at-combine-owners = at-if2 .before in
+    let at-if1 = at-combine-owners .before in
+    let b = at-if1 .before .before .before .before .before .before .before in
     let a = b .args in
-    c .before .before .before .before .combine-tables .ensures
+    at-combine-tables .combine-tables .ensures
     ∙ sym (ap (λ (x : Answer Flags). placing x (a .epochs .now) (a .counts .now))
-    (added-owned (a .strategy) (a .added-bytes) (ours b) (theirs b) (c .before .before .before .before .before .before .before .before .before .before .before .before .before .before .if1 .left) _
-    (answered-owner _ (combinedOwner (a .strategy) (ownerOf (a .ours)) (ownerOf (a .theirs))) (c .before .before .before .before .before .before .before .before .before .before .before .before .before .combine-owners .ensures) (c .before .before .before .before .before .before .before .before .before .before .before .before .if2 .left))))
+    (added-owned (a .strategy) (a .added-bytes) (ours b) (theirs b) (at-if1 .if1 .left) _
+    (answered-owner _ (combinedOwner (a .strategy) (ownerOf (a .ours)) (ownerOf (a .theirs))) (at-combine-owners .combine-owners .ensures)
+    (at-if2 .if2 .left))))
 
 pub combine-proper-spec : {M : Type 1} → statement M
 combine-proper-spec =
@@ -59,11 +66,21 @@ combine-proper-spec =
     (λ c κs. search needs)
     (λ c κs. search needs)
     returns-2
-    (λ c. sym (length-take-le _ _ (our-proper (c .before .before .before .before .before .before .before .before .before .before .before) .epochs-long)))
-    (λ c. sym (length-take-le _ _ (our-proper (c .before .before .before .before .before .before .before .before .before .before .before .before) .counts-long)))
-    (λ c. sym (length-take-le _ _ (their-proper (c .before .before .before .before .before .before .before .before .before .before .before .before .before) .epochs-long)))
-    (λ c. sym (length-take-le _ _ (their-proper (c .before .before .before .before .before .before .before .before .before .before .before .before .before .before) .counts-long)))
-    (λ c κs. (proper-table (our-proper (c .before .before .before .before .before .before .before .before .before .before .before .before .before .before .before .before)), proper-above (their-proper (c .before .before .before .before .before .before .before .before .before .before .before .before .before .before .before .before))))
+    (λ c.
+    let start = c .before .before .before .before .before .before .before .before .before .before .before in
+    sym (length-take-le _ _ (our-proper start .epochs-long)))
+    (λ c.
+    let start = c .before .before .before .before .before .before .before .before .before .before .before .before in
+    sym (length-take-le _ _ (our-proper start .counts-long)))
+    (λ c.
+    let start = c .before .before .before .before .before .before .before .before .before .before .before .before .before in
+    sym (length-take-le _ _ (their-proper start .epochs-long)))
+    (λ c.
+    let start = c .before .before .before .before .before .before .before .before .before .before .before .before .before .before in
+    sym (length-take-le _ _ (their-proper start .counts-long)))
+    (λ c κs.
+    let start = c .before .before .before .before .before .before .before .before .before .before .before .before .before .before .before .before in
+    (proper-table (our-proper start), proper-above (their-proper start)))
     (λ c. search needs)
     (λ c. search needs)
     returns-3)

@@ -17,25 +17,35 @@ joined c =
 
 returns : tie.Need-returns
 returns c =
-    let b = c .before .before .before .before .before .before .before .before .before .before .before .before .before .before in
+    let at-place-union = c .before .before .before .before in
+    let at-if1 = at-place-union .before .before .before in
+    let b = at-if1 .before .before .before .before .before .before .before in
     let a = b .args in
-    c .before .before .before .before .place-union .ensures ∙ sym (ap (λ (x : Answer Flags). placing x (a .epochs .now) (a .counts .now)) (raised-same (a .base) (a .epoch) (a .added-bytes) (joined b) (c .before .before .before .before .before .before .before .if1 .taken)))
+    at-place-union .place-union .ensures
+    ∙ sym (ap (λ (x : Answer Flags). placing x (a .epochs .now) (a .counts .now))
+    (raised-same (a .base) (a .epoch) (a .added-bytes) (joined b) (at-if1 .if1 .taken)))
 
 returns-2 : tie.Need-returns-2
 returns-2 c =
-    let b = c .before .before .before .before .before .before .before .before .before .before .before .before .before .before in
+    let at-combine-with-higher-base-epoch = c .before .before .before .before in
+    let at-if1 = at-combine-with-higher-base-epoch .before .before .before in
+    let b = at-if1 .before .before .before .before .before .before .before in
     let a = b .args in
-    c .before .before .before .before .combine-with-higher-base-epoch .ensures ∙ sym (ap (λ (x : Answer Flags). placing x (a .epochs .now) (a .counts .now)) (raised-higher (a .base) (a .epoch) (a .added-bytes) (joined b) (c .before .before .before .before .before .before .before .if1 .left)))
+    at-combine-with-higher-base-epoch .combine-with-higher-base-epoch .ensures
+    ∙ sym (ap (λ (x : Answer Flags). placing x (a .epochs .now) (a .counts .now))
+    (raised-higher (a .base) (a .epoch) (a .added-bytes) (joined b) (at-if1 .if1 .left)))
 
 pub combine-tables-spec : {M : Type 1} → statement M
 combine-tables-spec =
     tie.close
     (tie.spec
-    (λ c κs. (c .before .before .before .before .before .before .before .before .before .pre .0, above-table (c .before .before .before .before .before .before .before .before .before .pre .1)))
+    (λ c κs.
+    let start = c .before .before .before .before .before .before .before .before .before in
+    (start .pre .0, above-table (start .pre .1)))
     (λ c. search needs)
     (λ c. search needs)
     returns
-    (λ c κs. c .before .before .before .before .before .before .before .before .before .pre)
+    (λ c κs. let start = c .before .before .before .before .before .before .before .before .before in start .pre)
     (λ c. search needs)
     (λ c. search needs)
     returns-2)

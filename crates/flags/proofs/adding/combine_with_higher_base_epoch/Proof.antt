@@ -37,20 +37,27 @@ returns : tie.Need-returns
 returns c =
     let b = c .before .before .before .before .before .before .before .before .before in
     let a = b .args in
-    let n : c .before .before .look-up .result .count ≡ held (a .epoch) (ours b) = ap (λ (s : Spot). s .count) (c .before .before .look-up .ensures) in
+    let n : c .before .before .look-up .result .count ≡ held (a .epoch) (ours b) = ap (λ (s : Spot). s .count)
+    (c .before .before .look-up .ensures) in
     let p : largest < held (a .epoch) (ours b) + a .added-bytes = omega (arith, n, c .before .if1 .taken) in
-    refused-placing (c .refused .result) (a .epochs .now) (a .counts .now) (raised (a .epoch) (a .added-bytes) (flags (a .base) (owner b) (union (ours b) (theirs b)))) _ (c .refused .ensures)
+    refused-placing (c .refused .result) (a .epochs .now) (a .counts .now)
+    (raised (a .epoch) (a .added-bytes) (flags (a .base) (owner b) (union (ours b) (theirs b)))) _ (c .refused .ensures)
     (raised-over (a .epoch) (a .added-bytes) (a .base) (owner b) (ours b) (theirs b) (above b) p)
 
 returns-2 : tie.Need-returns-2
 returns-2 c =
-    let b = c .before .before .before .before .before .before .before .before .before .before .before .before .before .before .before in
+    let at-place-around = c .before .before .before .before in
+    let at-if1 = at-place-around .before .before .before in
+    let at-look-up = at-if1 .before in
+    let b = at-look-up .before .before .before .before .before .before .before in
     let a = b .args in
-    let n : c .before .before .before .before .before .before .before .before .look-up .result .count ≡ held (a .epoch) (ours b) = ap (λ (s : Spot). s .count) (c .before .before .before .before .before .before .before .before .look-up .ensures) in
-    let p : held (a .epoch) (ours b) + a .added-bytes ≤ largest = omega (arith, n, c .before .before .before .before .before .before .before .if1 .left, b .fits .added-bytes) in
-    c .before .before .before .before .place-around .ensures
-    ∙ ap (λ (k : ℕ). after (ok (some (flags (a .base) (owner b) (union (ours b) (a .epoch ⦂ (k + a .added-bytes) ∷ theirs b))))) (a .epochs .now) (a .counts .now)) n
-    ∙ sym (ap (λ (x : Answer Flags). placing x (a .epochs .now) (a .counts .now)) (raised-made (a .epoch) (a .added-bytes) (a .base) (owner b) (ours b) (theirs b) (above b) p))
+    let n : at-look-up .look-up .result .count ≡ held (a .epoch) (ours b) = ap (λ (s : Spot). s .count) (at-look-up .look-up .ensures) in
+    let p : held (a .epoch) (ours b) + a .added-bytes ≤ largest = omega (arith, n, at-if1 .if1 .left, b .fits .added-bytes) in
+    at-place-around .place-around .ensures
+    ∙ ap (λ (k : ℕ). after (ok (some (flags (a .base) (owner b) (union (ours b) (a .epoch ⦂ (k + a .added-bytes) ∷ theirs b))))) (a .epochs .now)
+    (a .counts .now)) n
+    ∙ sym (ap (λ (x : Answer Flags). placing x (a .epochs .now) (a .counts .now))
+    (raised-made (a .epoch) (a .added-bytes) (a .base) (owner b) (ours b) (theirs b) (above b) p))
 
 pub combine-with-higher-base-epoch-spec : {M : Type 1} → statement M
 combine-with-higher-base-epoch-spec =
@@ -61,7 +68,8 @@ combine-with-higher-base-epoch-spec =
     (λ c κs. search needs)
     returns
     (λ c. search needs)
-    (λ c κs. let b = c .before .before .before .before .before .before .before .before .before .before in (b .pre .0, (c .before .before .before .look-up .ensures, b .pre .1)))
+    (λ c κs. let b = c .before .before .before .before .before .before .before .before .before .before in
+    (b .pre .0, (c .before .before .before .look-up .ensures, b .pre .1)))
     (λ c. search needs)
     (λ c. search needs)
     returns-2)

@@ -4,10 +4,16 @@ use Rattle.flags.proofs.adding.optional_combine_added_bytes.Statement.{
 use Rattle.flags.proofs.adding.optional_combine_added_bytes.Tie as tie
 
 returns : tie.Need-returns
-returns c = rw (c .before .before .before .before .before .before .before .if1 .taken) (c .before .before .before .before .combine-added-bytes .ensures)
+returns c =
+    let at-combine-added-bytes = c .before .before .before .before in
+    let at-if1 = at-combine-added-bytes .before .before .before in
+    rw (at-if1 .if1 .taken) (at-combine-added-bytes .combine-added-bytes .ensures)
 
 returns-2 : tie.Need-returns-2
-returns-2 c = rw (c .before .before .before .before .before .before .before .if1 .left) (c .before .before .before .before .combine-absent .ensures)
+returns-2 c =
+    let at-combine-absent = c .before .before .before .before in
+    let at-if1 = at-combine-absent .before .before .before in
+    rw (at-if1 .if1 .left) (at-combine-absent .combine-absent .ensures)
 
 pub optional-combine-added-bytes-spec : {M : Type 1} → statement M
 optional-combine-added-bytes-spec =

@@ -21,18 +21,26 @@ rest ours s = choice s (ownerOf ours)
 
 returns : tie.Need-returns
 returns c =
-    let a = c .before .before .before .before .before .before .args in
-    judged-out (read (a .theirs .now)) _ (c .before .before .before .before .judge .ensures) (rest (a .ours) (a .strategy)) _ _ (c .before .verdict .given .1)
+    let at-judge = c .before .before .before .before in
+    let start = at-judge .before .before in
+    let a = start .args in
+    judged-out (read (a .theirs .now)) _ (at-judge .judge .ensures) (rest (a .ours) (a .strategy)) _ _ (c .before .verdict .given .1)
 
 returns-2 : tie.Need-returns-2
 returns-2 c =
-    let a = c .before .before .before .before .before .before .args in
-    c .choose-owner .ensures ∙ judged-none (read (a .theirs .now)) _ (c .before .before .before .before .judge .ensures) (rest (a .ours) (a .strategy)) (c .before .enum-told .given .1)
+    let at-judge = c .before .before .before .before in
+    let start = at-judge .before .before in
+    let a = start .args in
+    c .choose-owner .ensures ∙ judged-none (read (a .theirs .now)) _ (at-judge .judge .ensures) (rest (a .ours) (a .strategy))
+    (c .before .enum-told .given .1)
 
 returns-3 : tie.Need-returns-3
 returns-3 c =
-    let a = c .before .before .before .before .before .before .args in
-    c .choose-owner2 .ensures ∙ judged-some (read (a .theirs .now)) _ (c .before .before .before .before .judge .ensures) (rest (a .ours) (a .strategy)) (c .before .enum-told2 .given .1)
+    let at-judge = c .before .before .before .before in
+    let start = at-judge .before .before in
+    let a = start .args in
+    c .choose-owner2 .ensures ∙ judged-some (read (a .theirs .now)) _ (at-judge .judge .ensures) (rest (a .ours) (a .strategy))
+    (c .before .enum-told2 .given .1)
 
 pub choose-beside-spec : {M : Type 1} → statement M
 choose-beside-spec =

@@ -6,11 +6,27 @@ use Rattle.flags.proofs.owners.choose_owner.Tie as tie
 
 returns : tie.Need-returns
 returns c =
-    simp (sym (c .before .before .before .before .before .before .before .is-owned .ensures) ∙ c .before .before .before .before .before .before .if1 .taken, sym (c .before .before .before .before .before .is-owned2 .ensures) ∙ c .before .before .before .before .if2 .taken, sym (c .before .same-owner .ensures) ∙ c .if3 .taken)
+    let at-if2 = c .before .before .before .before in
+    let at-is-owned2 = at-if2 .before in
+    let at-if1 = at-is-owned2 .before in
+    let at-is-owned = at-if1 .before in
+    simp (
+      sym (at-is-owned .is-owned .ensures) ∙ at-if1 .if1 .taken,
+      sym (at-is-owned2 .is-owned2 .ensures) ∙ at-if2 .if2 .taken,
+      sym (c .before .same-owner .ensures) ∙ c .if3 .taken,
+    )
 
 returns-2 : tie.Need-returns-2
 returns-2 c =
-    simp (sym (c .before .before .before .before .before .before .before .before .is-owned .ensures) ∙ c .before .before .before .before .before .before .before .if1 .taken, sym (c .before .before .before .before .before .before .is-owned2 .ensures) ∙ c .before .before .before .before .before .if2 .taken, sym (c .before .before .same-owner .ensures) ∙ c .before .if3 .left)
+    let at-if2 = c .before .before .before .before .before in
+    let at-is-owned2 = at-if2 .before in
+    let at-if1 = at-is-owned2 .before in
+    let at-is-owned = at-if1 .before in
+    simp (
+      sym (at-is-owned .is-owned .ensures) ∙ at-if1 .if1 .taken,
+      sym (at-is-owned2 .is-owned2 .ensures) ∙ at-if2 .if2 .taken,
+      sym (c .before .before .same-owner .ensures) ∙ c .before .if3 .left,
+    )
     (c .dispute .ensures)
 
 pub choose-owner-spec : {M : Type 1} → statement M

@@ -19,18 +19,26 @@ rest theirs s o = unlessRefused (read theirs) (choice s o (ownerRead (read their
 
 returns : tie.Need-returns
 returns c =
-    let a = c .before .before .before .before .before .before .before .args in
-    judged-out (read (a .ours .now)) _ (c .before .before .before .before .judge .ensures) (rest (a .theirs .now) (a .strategy)) _ _ (c .before .verdict .given .1)
+    let at-judge = c .before .before .before .before in
+    let start = at-judge .before .before .before in
+    let a = start .args in
+    judged-out (read (a .ours .now)) _ (at-judge .judge .ensures) (rest (a .theirs .now) (a .strategy)) _ _ (c .before .verdict .given .1)
 
 returns-2 : tie.Need-returns-2
 returns-2 c =
-    let a = c .before .before .before .before .before .before .before .args in
-    c .choose-beside .ensures ∙ judged-none (read (a .ours .now)) _ (c .before .before .before .before .judge .ensures) (rest (a .theirs .now) (a .strategy)) (c .before .enum-told .given .1)
+    let at-judge = c .before .before .before .before in
+    let start = at-judge .before .before .before in
+    let a = start .args in
+    c .choose-beside .ensures ∙ judged-none (read (a .ours .now)) _ (at-judge .judge .ensures) (rest (a .theirs .now) (a .strategy))
+    (c .before .enum-told .given .1)
 
 returns-3 : tie.Need-returns-3
 returns-3 c =
-    let a = c .before .before .before .before .before .before .before .args in
-    c .choose-beside2 .ensures ∙ judged-some (read (a .ours .now)) _ (c .before .before .before .before .judge .ensures) (rest (a .theirs .now) (a .strategy)) (c .before .enum-told2 .given .1)
+    let at-judge = c .before .before .before .before in
+    let start = at-judge .before .before .before in
+    let a = start .args in
+    c .choose-beside2 .ensures ∙ judged-some (read (a .ours .now)) _ (at-judge .judge .ensures) (rest (a .theirs .now) (a .strategy))
+    (c .before .enum-told2 .given .1)
 
 pub choose-owner-id-spec : {M : Type 1} → statement M
 choose-owner-id-spec =

@@ -15,7 +15,8 @@ use Rattle.flags.proofs.owners.combine_owner_id.Tie as tie
 
 -- the choice, by the arm that it takes
 abbrev chose : tie.After-choose-owner-id → Choice → Type 0
-chose c x = ownerChoice (c .before .before .before .args .strategy) (c .before .before .before .args .ours .now) (c .before .before .before .args .theirs .now) ≡ x
+chose c x = ownerChoice (c .before .before .before .args .strategy) (c .before .before .before .args .ours .now)
+    (c .before .before .before .args .theirs .now) ≡ x
 
 part : (c : tie.After-choose-owner-id) (x : Choice) → chose c x → let a = c .before .before .before .args in
     handed x (lent (a .ours)) (lent (a .theirs)) ≡ ownerHanded (a .strategy) (lent (a .ours)) (lent (a .theirs))
@@ -26,14 +27,24 @@ told c x e = sym (c .choose-owner-id .ensures) ∙ e
 
 part-result-end : tie.Need-part-result-end
 part-result-end c =
-    let a = c .before .before .before .before .before .args in
-    let l : 33 ≤ length (a .ours .now) = omega (arith, ours-owned (a .strategy) (a .ours .now) (a .theirs .now) (told (c .before .before) Ours (c .enum-told .given .1)) .1 .long) in
+    let start = c .before .before .before .before .before in
+    let a = start .args in
+    let l : 33 ≤ length (a .ours .now) = omega (
+      arith,
+      ours-owned (a .strategy) (a .ours .now) (a .theirs .now)
+          (told (c .before .before) Ours (c .enum-told .given .1)) .1 .long,
+    ) in
     l
 
 part-result-end-2 : tie.Need-part-result-end-2
 part-result-end-2 c =
-    let a = c .before .before .before .before .before .args in
-    let l : 33 ≤ length (a .theirs .now) = omega (arith, theirs-owned (a .strategy) (a .ours .now) (a .theirs .now) (told (c .before .before) Theirs (c .enum-told2 .given .1)) .1 .long) in
+    let start = c .before .before .before .before .before in
+    let a = start .args in
+    let l : 33 ≤ length (a .theirs .now) = omega (
+      arith,
+      theirs-owned (a .strategy) (a .ours .now) (a .theirs .now)
+          (told (c .before .before) Theirs (c .enum-told2 .given .1)) .1 .long,
+    ) in
     l
 
 returns : tie.Need-returns

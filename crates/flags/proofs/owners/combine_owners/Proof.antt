@@ -13,7 +13,8 @@ use Rattle.flags.proofs.owners.combine_owners.Tie as tie
 -- the choice, by the arm that it takes
 chose : (c : tie.After-choose-owner) (x : Choice) → c .choose-owner .result ≡ x → let a = c .before .args in
     chosenAs (chosen x (ownerOf (a .ours)) (ownerOf (a .theirs))) ≡ chosenAs (combinedOwner (a .strategy) (ownerOf (a .ours)) (ownerOf (a .theirs)))
-chose c x e = let a = c .before .args in ap (λ (y : Choice). chosenAs (chosen y (ownerOf (a .ours)) (ownerOf (a .theirs)))) (sym e ∙ c .choose-owner .ensures)
+chose c x e = let a = c .before .args in ap (λ (y : Choice). chosenAs (chosen y (ownerOf (a .ours)) (ownerOf (a .theirs))))
+    (sym e ∙ c .choose-owner .ensures)
 
 -- the answer with an owner
 abbrev owning : Bool → MaybeOwner → ChosenOwner

@@ -25,25 +25,33 @@ is-proper c = proper-inv (c .args .flags) (c .args .from-epochs .now) (c .args .
 abbrev told : tie.Start → Bool
 told c = roomFor (c .args .flags .records) (length (c .args .epochs .now)) (length (c .args .counts .now))
 
-room : (c : tie.Start) → told c ≡ true → (c .args .flags .records ≤ length (c .args .epochs .now)) × (c .args .flags .records ≤ length (c .args .counts .now))
+room : (c : tie.Start) → told c ≡ true → (c .args .flags .records ≤ length (c .args .epochs .now))
+    × (c .args .flags .records ≤ length (c .args .counts .now))
 room c e = room-both (c .args .flags .records) (length (c .args .epochs .now)) (length (c .args .counts .now)) e
 
 copy-records-requires : tie.Need-copy-records-requires
 copy-records-requires c κs =
-    let p = is-proper (c .before .before .before .before .before .before .before .before) in
-    ((p .epochs-long, p .counts-long), room (c .before .before .before .before .before .before .before .before) (sym (c .before .before .before .fit .ensures) ∙ c .before .before .if1 .taken))
+    let start = c .before .before .before .before .before .before .before .before in
+    let p = is-proper start in
+    ((p .epochs-long, p .counts-long), room start (sym (c .before .before .before .fit .ensures) ∙ c .before .before .if1 .taken))
 
 returns : tie.Need-returns
 returns c =
-    let b = c .before .before .before .before .before .before .before .before .before .before .before .before .before .before .before .before in
+    let at-copy-records = c .before .before .before .before .before .before .before in
+    let at-if1 = at-copy-records .before .before .before in
+    let at-fit = at-if1 .before in
+    let b = at-fit .before .before .before .before .before in
     let a = b .args in
     let f = flagsOf (a .flags) (a .from-epochs .now) (a .from-counts .now) in
     let n = proper-long (is-proper b) in
-    let r = room b (sym (c .before .before .before .before .before .before .before .before .before .before .before .fit .ensures) ∙ c .before .before .before .before .before .before .before .before .before .before .if1 .taken) in
+    let r = room b (sym (at-fit .fit .ensures) ∙ at-if1 .if1 .taken) in
     let o = ap (λ (m : MaybeOwner). ownerIf (m .owned) (m .id)) (c .before .before .owner-id .ensures) ∙ sym (owner-back (ownerOf (a .flags))) in
-    let h = c .before .new-head .ensures ∙ ap (λ x. headFor (a .flags .base) x (a .flags .records)) o ∙ ap (headFor (a .flags .base) (ownerOf (a .flags))) (sym n) in
+    let h = c .before .new-head .ensures ∙ ap (λ x. headFor (a .flags .base) x (a .flags .records)) o
+    ∙ ap (headFor (a .flags .base) (ownerOf (a .flags))) (sym n) in
     placed-left (c .present .result) _ _ f _ (a .flags .records) _ _ (c .present .ensures) h
-    (subst (λ (rs : List At). Placed rs 0 (a .flags .records) (a .epochs .now) (a .counts .now) (c .before .before .before .before .before .before .before .copy-records .last .1 .1 .1 .0) (c .before .before .before .before .before .before .before .copy-records .last .1 .1 .1 .1 .0)) (take-records (a .flags .records) (a .from-epochs .now) (a .from-counts .now)) (c .before .before .before .before .before .before .before .copy-records .ensures))
+    (subst (λ (rs : List At). Placed rs 0 (a .flags .records) (a .epochs .now) (a .counts .now) (at-copy-records .copy-records .last .1 .1 .1 .0)
+    (at-copy-records .copy-records .last .1 .1 .1 .1 .0)) (take-records (a .flags .records) (a .from-epochs .now) (a .from-counts .now))
+    (at-copy-records .copy-records .ensures))
     (omega (arith, n, r .0)) (omega (arith, n, r .1))
 
 returns-2 : tie.Need-returns-2

@@ -50,7 +50,9 @@ order : (c : tie.Start) → (c .args .spot .below ≤ c .args .spot .upto) × (c
 order c = spot-order (c .pre .0) (c .pre .1 .1) (c .pre .1 .0)
 
 add-union-fits : tie.Need-add-union-fits
-add-union-fits c = omega (arith, order (c .before .before .before .before .before .before) .0, order (c .before .before .before .before .before .before) .1)
+add-union-fits c =
+    let start = c .before .before .before .before .before .before in
+    omega (arith, order start .0, order start .1)
 
 union-fits-requires : tie.Need-union-fits-requires
 union-fits-requires c κs =
@@ -67,25 +69,45 @@ copy-records-requires c κs =
     ((p, omega (arith, p, b .pre .0 .even)), (omega (arith, r .0), omega (arith, r .1)))
 
 -- the record has its place in both tables
-place : (c : tie.After-slice-known4) → let b = c .before .before .before .before .before .before .before .before .before .before .before .before .before .before .before in let l = c .before .before .before .before .copy-records .last .1 .1 .1 in
+place : (c : tie.After-slice-known4) →
+    let at-copy-records = c .before .before .before .before in
+    let b = at-copy-records .before .before .before .before .before .before .before .before .before .before .before in
+    let l = at-copy-records .copy-records .last .1 .1 .1 in
     (b .args .spot .below < length (l .0)) × (b .args .spot .below < length (l .1 .0))
 place c =
-    let r = room (c .before .before .before .before .before .before .before .before .before .before .before .before .before .before .before) (sym (c .before .before .before .before .before .before .before .before .union-fits .ensures) ∙ c .before .before .before .before .before .before .before .if1 .taken) in
-    let k = c .before .before .before .before .copy-records .kept .1 .1 .1 in
+    let at-copy-records = c .before .before .before .before in
+    let at-if1 = at-copy-records .before .before .before in
+    let at-union-fits = at-if1 .before in
+    let start = at-union-fits .before .before .before .before .before .before .before in
+    let r = room start (sym (at-union-fits .union-fits .ensures) ∙ at-if1 .if1 .taken) in
+    let k = at-copy-records .copy-records .kept .1 .1 .1 in
     (omega (arith, r .0, k .0), omega (arith, r .1, k .1 .0))
 
 union-into-requires : tie.Need-union-into-requires
 union-into-requires c κs =
-    let b = c .before .before .before .before .before .before .before .before .before .before .before .before .before .before .before .before .before in
-    let r = room b (sym (c .before .before .before .before .before .before .before .before .before .before .union-fits .ensures) ∙ c .before .before .before .before .before .before .before .before .before .if1 .taken) in
-    let k = c .before .before .before .before .before .before .copy-records .kept .1 .1 .1 in
-    (b .pre .0, (above-table (b .pre .1 .1), ((order b .1, omega arith), (simp length-set (omega (arith, r .0, k .0)), simp length-set (omega (arith, r .1, k .1 .0))))))
+    let at-copy-records = c .before .before .before .before .before .before in
+    let at-if1 = at-copy-records .before .before .before in
+    let at-union-fits = at-if1 .before in
+    let b = at-union-fits .before .before .before .before .before .before .before in
+    let r = room b (sym (at-union-fits .union-fits .ensures) ∙ at-if1 .if1 .taken) in
+    let k = at-copy-records .copy-records .kept .1 .1 .1 in (
+      b .pre .0,
+      (
+        above-table (b .pre .1 .1),
+        ((order b .1, omega arith), (simp length-set (omega (arith, r .0, k .0)), simp length-set (omega (arith, r .1, k .1 .0)))),
+      ),
+    )
 
 returns : tie.Need-returns
 returns c =
-    let b = c .before .before .before .before .before .before .before .before .before .before .before .before .before .before .before .before .before .before .before .before .before .before .before .before in
-    let r = room b (sym (c .before .before .before .before .before .before .before .before .before .before .before .before .before .before .before .before .before .union-fits .ensures) ∙ c .before .before .before .before .before .before .before .before .before .before .before .before .before .before .before .before .if1 .taken) in
-    let q = around-placed (b .pre .0) (b .pre .1 .1) (b .pre .1 .0) (b .args .count) (c .before .before .before .before .before .before .before .before .before .before .before .before .before .copy-records .ensures) (c .before .before .before .before .before .before .union-into .ensures) in
+    let at-union-into = c .before .before .before .before .before .before in
+    let at-copy-records = at-union-into .before .before .before .before .before .before .before in
+    let at-if1 = at-copy-records .before .before .before in
+    let at-union-fits = at-if1 .before in
+    let b = at-union-fits .before .before .before .before .before .before .before in
+    let r = room b (sym (at-union-fits .union-fits .ensures) ∙ at-if1 .if1 .taken) in
+    let q = around-placed (b .pre .0) (b .pre .1 .1) (b .pre .1 .0) (b .args .count) (at-copy-records .copy-records .ensures)
+    (at-union-into .union-into .ensures) in
     let h = c .before .new-head .ensures ∙ ap (headFor (b .args .base) (placed b .owner)) (q .behind ∙ zero-add (length (records b))) in
     placed-left (c .present .result) _ _ (placed b) _ _ _ _ (c .present .ensures) h q (omega (arith, long b, r .0)) (omega (arith, long b, r .1))
 
@@ -102,16 +124,33 @@ place-around-spec =
     add-union-fits
     union-fits-requires
     copy-records-requires
-    (λ c. omega (arith, place c .0, c .before .before .before .before .before .before .before .before .before .before .before .before .before .before .before .good .1 .1 .1 .1 .1 .1 .1 .1 .1 .0))
+    (λ c.
+    let start = c .before .before .before .before .before .before .before .before .before .before .before .before .before .before .before in
+    omega (arith, place c .0, start .good .1 .1 .1 .1 .1 .1 .1 .1 .1 .0))
     (λ c. place c .0)
-    (λ c. omega (arith, place c .1, c .before .before .before .before .before .before .before .before .before .before .before .before .before .before .before .good .1 .1 .1 .1 .1 .1 .1 .1 .1 .1 .0))
+    (λ c.
+    let start = c .before .before .before .before .before .before .before .before .before .before .before .before .before .before .before in
+    omega (arith, place c .1, start .good .1 .1 .1 .1 .1 .1 .1 .1 .1 .1 .0))
     (λ c. place c .1)
-    (λ c. omega (arith, order (c .before .before .before .before .before .before .before .before .before .before .before .before .before .before .before .before .before) .0, order (c .before .before .before .before .before .before .before .before .before .before .before .before .before .before .before .before .before) .1))
+    (λ c.
+    let start = c .before .before .before .before .before .before .before .before .before .before .before .before .before .before .before .before
+    .before in
+    omega (arith, order start .0, order start .1))
     union-into-requires
     (λ c κs. search needs)
     (λ c κs. search needs)
-    (λ c. c .before .before .before .before .before .before .union-into .kept .1 .1 .1 .1 .1 .1 .0 ∙ length-set (c .before .before .before .before .before .before .before .before .before .before .before .before .before .copy-records .last .1 .1 .1 .0) (c .before .before .before .before .before .before .before .before .before .before .before .before .before .before .before .before .before .before .before .before .before .before .before .before .args .spot .below) (c .before .before .before .before .before .before .before .before .before .before .before .before .before .before .before .before .before .before .before .before .before .before .before .before .args .epoch) ∙ c .before .before .before .before .before .before .before .before .before .before .before .before .before .copy-records .kept .1 .1 .1 .0)
-    (λ c. c .before .before .before .before .before .before .union-into .kept .1 .1 .1 .1 .1 .1 .1 .0 ∙ length-set (c .before .before .before .before .before .before .before .before .before .before .before .before .before .copy-records .last .1 .1 .1 .1 .0) (c .before .before .before .before .before .before .before .before .before .before .before .before .before .before .before .before .before .before .before .before .before .before .before .before .args .spot .below) (c .before .before .before .before .before .before .before .before .before .before .before .before .before .before .before .before .before .before .before .before .before .before .before .before .args .count) ∙ c .before .before .before .before .before .before .before .before .before .before .before .before .before .copy-records .kept .1 .1 .1 .1 .0)
+    (λ c.
+    let at-union-into = c .before .before .before .before .before .before in
+    let at-copy-records = at-union-into .before .before .before .before .before .before .before in
+    let start = at-copy-records .before .before .before .before .before .before .before .before .before .before .before in
+    at-union-into .union-into .kept .1 .1 .1 .1 .1 .1 .0 ∙ length-set (at-copy-records .copy-records .last .1 .1 .1 .0) (start .args .spot .below)
+    (start .args .epoch) ∙ at-copy-records .copy-records .kept .1 .1 .1 .0)
+    (λ c.
+    let at-union-into = c .before .before .before .before .before .before in
+    let at-copy-records = at-union-into .before .before .before .before .before .before .before in
+    let start = at-copy-records .before .before .before .before .before .before .before .before .before .before .before in
+    at-union-into .union-into .kept .1 .1 .1 .1 .1 .1 .1 .0 ∙ length-set (at-copy-records .copy-records .last .1 .1 .1 .1 .0)
+    (start .args .spot .below) (start .args .count) ∙ at-copy-records .copy-records .kept .1 .1 .1 .1 .0)
     returns
     (λ c κs. search needs)
     returns-2)

@@ -16,7 +16,8 @@ use Rattle.flags.proofs.placing.place_union.Tie as tie
 
 -- the records that are to be placed
 abbrev records : tie.Start → List At
-records c = union (recordsOf (c .args .our-epochs .now) (c .args .our-counts .now)) (recordsOf (c .args .their-epochs .now) (c .args .their-counts .now))
+records c = union (recordsOf (c .args .our-epochs .now) (c .args .our-counts .now))
+    (recordsOf (c .args .their-epochs .now) (c .args .their-counts .now))
 
 -- the flags
 abbrev placed : tie.Start → Flags
@@ -27,7 +28,8 @@ abbrev told : tie.Start → Bool
 told c = roomFor (0 + length (records c)) (length (c .args .epochs .now)) (length (c .args .counts .now))
 
 room : (c : tie.Start) → told c ≡ true → (length (records c) ≤ length (c .args .epochs .now)) × (length (records c) ≤ length (c .args .counts .now))
-room c e = rw (zero-add (length (records c))) at (room-both (0 + length (records c)) (length (c .args .epochs .now)) (length (c .args .counts .now)) e)
+room c e = rw (zero-add (length (records c))) at
+    (room-both (0 + length (records c)) (length (c .args .epochs .now)) (length (c .args .counts .now)) e)
 
 union-into-requires : tie.Need-union-into-requires
 union-into-requires c κs =
@@ -37,9 +39,12 @@ union-into-requires c κs =
 
 returns : tie.Need-returns
 returns c =
-    let b = c .before .before .before .before .before .before .before .before .before .before .before .before .before .before .before .before .before in
-    let q = c .before .before .before .before .before .before .union-into .ensures in
-    let r = room b (sym (c .before .before .before .before .before .before .before .before .before .before .union-fits .ensures) ∙ c .before .before .before .before .before .before .before .before .before .if1 .taken) in
+    let at-union-into = c .before .before .before .before .before .before in
+    let at-if1 = at-union-into .before .before .before in
+    let at-union-fits = at-if1 .before in
+    let b = at-union-fits .before .before .before .before .before .before .before in
+    let q = at-union-into .union-into .ensures in
+    let r = room b (sym (at-union-fits .union-fits .ensures) ∙ at-if1 .if1 .taken) in
     let h = c .before .new-head .ensures ∙ ap (headFor (b .args .base) (placed b .owner)) (q .behind ∙ zero-add (length (records b))) in
     placed-left (c .present .result) _ _ (placed b) _ _ _ _ (c .present .ensures) h q (r .0) (r .1)
 
@@ -53,7 +58,9 @@ pub place-union-spec : {M : Type 1} → statement M
 place-union-spec =
     tie.close
     (tie.spec
-    (λ c κs. (c .before .before .before .before .before .before .pre .0, (c .before .before .before .before .before .before .pre .1, (omega arith, omega arith))))
+    (λ c κs.
+    let start = c .before .before .before .before .before .before in
+    (start .pre .0, (start .pre .1, (omega arith, omega arith))))
     union-into-requires
     (λ c κs. search needs)
     (λ c κs. search needs)

@@ -18,21 +18,30 @@ longest c = union-most (c .pre .0) (c .pre .1 .0) (c .args .i) (c .pre .1 .1 .1)
 
 returns : tie.Need-returns
 returns c =
-    let a = c .before .before .before .before .before .before .args in
+    let start = c .before .before .before .before .before .before in
+    let a = start .args in
     let most = a .before + (length (a .our-epochs .now) - a .i) + length (a .their-epochs .now) in
-    sym (room-less most (a .epochs-len) (a .counts-len) (a .before + length (union (drop (a .i) (recordsOf (a .our-epochs .now) (a .our-counts .now))) (recordsOf (a .their-epochs .now) (a .their-counts .now))))
-    (omega (arith, longest (c .before .before .before .before .before .before))) (sym (c .before .fit .ensures) ∙ c .if1 .taken))
+    sym (room-less most (a .epochs-len) (a .counts-len)
+    (a .before + length (union (drop (a .i) (recordsOf (a .our-epochs .now) (a .our-counts .now)))
+    (recordsOf (a .their-epochs .now) (a .their-counts .now))))
+    (omega (arith, longest start)) (sym (c .before .fit .ensures) ∙ c .if1 .taken))
 
 union-len-requires : tie.Need-union-len-requires
 union-len-requires c κs =
-    let p = c .before .before .before .before .before .before .pre in
+    let start = c .before .before .before .before .before .before in
+    let p = start .pre in
     (p .0, (p .1 .0, (p .1 .1 .1, omega arith)))
 
 add-fit : tie.Need-add-fit
-add-fit c = omega (arith, c .union-len .ensures, longest (c .before .before .before .before .before .before .before))
+add-fit c =
+    let start = c .before .before .before .before .before .before .before in
+    omega (arith, c .union-len .ensures, longest start)
 
 returns-2 : tie.Need-returns-2
-returns-2 c = c .fit2 .ensures ∙ ap (λ (n : ℕ). roomFor (c .before .before .before .before .before .before .before .before .args .before + n) (c .before .before .before .before .before .before .before .before .args .epochs-len) (c .before .before .before .before .before .before .before .before .args .counts-len)) (c .before .union-len .ensures)
+returns-2 c =
+    let start = c .before .before .before .before .before .before .before .before in
+    c .fit2 .ensures ∙ ap (λ (n : ℕ). roomFor (start .args .before + n) (start .args .epochs-len) (start .args .counts-len))
+    (c .before .union-len .ensures)
 
 pub union-fits-spec : {M : Type 1} → statement M
 union-fits-spec =

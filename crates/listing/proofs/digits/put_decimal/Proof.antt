@@ -23,11 +23,14 @@ add-end c = omega (arith, c .decimal-len .ensures .counts)
 loop-holds : tie.Need-loop-holds Inv-loop μ-loop
 loop-holds c =
     let e = c .decimal-len .ensures .counts in
-    let end : c .before .before .args .at + c .decimal-len .result ≡ c .before .before .args .at + length (decimal (c .before .before .args .n)) = omega arith in
+    let end : c .before .before .args .at + c .decimal-len .result ≡ c .before .before .args .at + length
+    (decimal (c .before .before .args .n)) = omega arith in
     (backing-start _ _ _ _ end, omega arith, end)
 
 -- a digit is left before the place reached
-some-left : (c : tie.In-loop Inv-loop μ-loop) → c .before .before .before .before .args .at < c .before .loop .i
+some-left : (c : tie.In-loop Inv-loop μ-loop) →
+    let start = c .before .before .before .before in
+    start .args .at < c .before .loop .i
 some-left c = omega (arith, c .before .loop .inv .0 .reached, length-more (c .before .loop .rest) (c .loop-test .taken))
 
 loop-again : tie.Need-loop-again Inv-loop μ-loop

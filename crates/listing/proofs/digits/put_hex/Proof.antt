@@ -25,7 +25,8 @@ room c =
 
 loop-again : tie.Need-loop-again Inv-loop μ-loop
 loop-again c =
-    hex-put _ _ (c .before .before .before .loop-test .taken) (c .before .before .before .before .loop .inv) (c .before .hex-digit .ensures) (c .hex-digit2 .ensures)
+    let at-loop = c .before .before .before .before in
+    hex-put _ _ (c .before .before .before .loop-test .taken) (at-loop .loop .inv) (c .before .hex-digit .ensures) (c .hex-digit2 .ensures)
 
 returns : tie.Need-returns Inv-loop μ-loop
 returns c = parts-done (c .before .loop .inv) (hex-end _ _ (c .loop-test .left))

@@ -10,15 +10,19 @@ use Rattle.listing.proofs.flags.answer_len.Tie as tie
 
 flags-len-requires : tie.Need-flags-len-requires
 flags-len-requires c κs =
-    let p = c .before .before .before .before .before .before .before .pre in
+    let start = c .before .before .before .before .before .before .before in
+    let p = start .pre in
     (held-epochs p ∙ sym (held-counts p), omega (arith, held-epochs p, p .few))
 
 returns-2 : tie.Need-returns-2
 returns-2 c =
-    rw (c .before .before .before .before .outcome .given .1) (c .line-len .ensures .counts ∙ ap (λ n. length (line "refused " n)) (c .before .number .ensures))
+    let at-outcome = c .before .before .before .before in
+    rw (at-outcome .outcome .given .1) (c .line-len .ensures .counts ∙ ap (λ n. length (line "refused " n)) (c .before .number .ensures))
 
 returns-3 : tie.Need-returns-3
-returns-3 c = rw (c .before .before .before .before .enum-told2 .given .1) (c .flags-len .ensures)
+returns-3 c =
+    let at-enum-told2 = c .before .before .before .before in
+    rw (at-enum-told2 .enum-told2 .given .1) (c .flags-len .ensures)
 
 pub answer-len-spec : {M : Type 1} → statement M
 answer-len-spec =
@@ -31,8 +35,8 @@ answer-len-spec =
     (λ c. search needs)
     (λ c κs. search needs)
     (λ c. search needs)
-    (λ c. sym (held-epochs (c .before .before .before .before .before .before .pre)))
-    (λ c. sym (held-counts (c .before .before .before .before .before .before .before .pre)))
+    (λ c. let start = c .before .before .before .before .before .before in sym (held-epochs (start .pre)))
+    (λ c. let start = c .before .before .before .before .before .before .before in sym (held-counts (start .pre)))
     flags-len-requires
     (λ c. search needs)
     returns-2

@@ -10,11 +10,15 @@ use Rattle.listing.proofs.flags.flags_len.Tie as tie
 
 returns : tie.Need-returns
 returns c =
-    let a = c .before .before .before .before .before .before .before .before .before .before .before .before .args in
+    let at-owner-len = c .before .before .before .before .before .before in
+    let at-line-len = at-owner-len .before in
+    let at-type-byte = at-line-len .before in
+    let start = at-type-byte .before .before .before .before in
+    let a = start .args in
     omega (
       arith,
-      c .before .before .before .before .before .before .before .line-len .ensures .counts ∙ ap (λ n. length (line "kind " n)) (c .before .before .before .before .before .before .before .before .type-byte .ensures),
-      c .before .before .before .before .before .before .owner-len .ensures .counts,
+      at-line-len .line-len .ensures .counts ∙ ap (λ n. length (line "kind " n)) (at-type-byte .type-byte .ensures),
+      at-owner-len .owner-len .ensures .counts,
       c .before .before .before .line-len2 .ensures .counts,
       c .records-len .ensures .counts,
       c .before .line-len3 .ensures .counts,

@@ -12,7 +12,8 @@ long c = search needs
 
 returns : tie.Need-returns
 returns c =
-    let owner = c .before .before .before .before .args .head .owner in
+    let start = c .before .before .before .before in
+    let owner = start .args .head .owner in
     let o = sym (c .before .before .before .is-owned .ensures) ∙ c .before .before .if1 .taken in
     record { counts = rw o (omega (arith, length-owner owner, length-hex owner)); bounded = omega (arith, long c) }
 

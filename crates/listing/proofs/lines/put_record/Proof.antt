@@ -8,14 +8,21 @@ use Rattle.listing.proofs.lines.put_record.Statement.{statement}
 use Rattle.listing.proofs.lines.put_record.Tie as tie
 
 put-decimal-requires : tie.Need-put-decimal-requires
-put-decimal-requires c κs = let a = c .before .before .before .before .before .before .before .args in omega (arith, length-record (a .epoch) (a .count))
+put-decimal-requires c κs =
+    let start = c .before .before .before .before .before .before .before in
+    let a = start .args in omega (arith, length-record (a .epoch) (a .count))
 
 put-line-requires : tie.Need-put-line-requires
-put-line-requires c κs = let a = c .before .before .before .before .before .before .before .before .before .before .before .before .args in omega (arith, length-record (a .epoch) (a .count))
+put-line-requires c κs =
+    let start = c .before .before .before .before .before .before .before .before .before .before .before .before in
+    let a = start .args in omega (arith, length-record (a .epoch) (a .count))
 
 returns : tie.Need-returns
 returns c =
-    parts-last (parts-put (parts-put (parts-start _ _ _) refl (c .before .before .before .before .before .before .before .before .before .before .before .put-text .ensures)) refl (c .before .before .before .before .before .before .before .put-decimal .ensures)) (c .before .before .put-line .ensures)
+    let at-put-decimal = c .before .before .before .before .before .before .before in
+    let at-put-text = at-put-decimal .before .before .before .before in
+    parts-last (parts-put (parts-put (parts-start _ _ _) refl (at-put-text .put-text .ensures)) refl (at-put-decimal .put-decimal .ensures))
+    (c .before .before .put-line .ensures)
 
 pub put-record-spec : {M : Type 1} → statement M
 put-record-spec =

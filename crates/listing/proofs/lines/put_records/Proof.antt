@@ -23,19 +23,29 @@ loop-holds c = parts-start _ _ _
 
 put-record-requires : tie.Need-put-record-requires Inv-loop μ-loop
 put-record-requires c κs =
-    let s = c .before .before .before .before .before .before .before .before in
-    let l = c .before .before .before .before .loop in
-    omega (arith, parts-room (l .inv) (s .pre .1), length-on (s .args .epochs .now) (s .args .counts .now) (l .k) (s .pre .0) (c .before .before .before .loop-test .taken))
+    let at-loop = c .before .before .before .before in
+    let s = at-loop .before .before .before .before in
+    let l = at-loop .loop in
+    omega (
+      arith,
+      parts-room (l .inv) (s .pre .1),
+      length-on (s .args .epochs .now) (s .args .counts .now) (l .k) (s .pre .0)
+          (c .before .before .before .loop-test .taken),
+    )
 
 loop-again : tie.Need-loop-again Inv-loop μ-loop
 loop-again c =
-    let s = c .before .before .before .before .before .before .before .before .before .before .before in
-    let l = c .before .before .before .before .before .before .before .loop in
-    parts-put (l .inv) (lines-on (s .args .epochs .now) (s .args .counts .now) (l .k) (s .pre .0) (c .before .before .before .before .before .before .loop-test .taken)) (c .before .before .put-record .ensures)
+    let at-loop-test = c .before .before .before .before .before .before in
+    let at-loop = at-loop-test .before in
+    let s = at-loop .before .before .before .before in
+    let l = at-loop .loop in
+    parts-put (l .inv) (lines-on (s .args .epochs .now) (s .args .counts .now) (l .k) (s .pre .0) (at-loop-test .loop-test .taken))
+    (c .before .before .put-record .ensures)
 
 returns : tie.Need-returns Inv-loop μ-loop
 returns c =
-    let a = c .before .before .before .before .before .args in
+    let start = c .before .before .before .before .before in
+    let a = start .args in
     let l = c .before .loop in
     parts-done (l .inv) (lines-end (a .epochs .now) (a .counts .now) (l .k) (c .loop-test .left))
 

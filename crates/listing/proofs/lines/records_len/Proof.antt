@@ -22,12 +22,19 @@ abbrev μ-loop : tie.MeasureT-loop
 
 loop-again : tie.Need-loop-again Inv-loop μ-loop
 loop-again c =
-    let s = c .before .before .before .before .before .before .before in
-    omega (arith, c .record-len .ensures, length-on (s .args .epochs .now) (s .args .counts .now) (c .before .before .before .before .loop .k) (s .pre .0) (c .before .before .before .loop-test .taken))
+    let at-loop = c .before .before .before .before in
+    let s = at-loop .before .before .before in
+    omega (
+      arith,
+      c .record-len .ensures,
+      length-on (s .args .epochs .now) (s .args .counts .now) (at-loop .loop .k) (s .pre .0)
+          (c .before .before .before .loop-test .taken),
+    )
 
 returns : tie.Need-returns Inv-loop μ-loop
 returns c =
-    let a = c .before .before .before .before .args in
+    let start = c .before .before .before .before in
+    let a = start .args in
     let l = c .before .loop in
     let e = ap length (lines-end (a .epochs .now) (a .counts .now) (l .k) (c .loop-test .left)) in
     record { counts = omega arith; bounded = omega arith }

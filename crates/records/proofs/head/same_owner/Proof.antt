@@ -25,8 +25,11 @@ loop-again c =
     let a = c .before .before .args in
     let l = c .before .loop in
     let p : l .i < length (a .t1) = search needs in
-    let q : l .i < length (a .t2) = search needs in
-    (omega (arith, c .loop-test .taken), l .inv .1 ∙ rw (same-on (a .t1) (a .t2) (l .i) p q) (sym (and-assoc (l .good) (eqb (getD (a .t1) (l .i) 0) (getD (a .t2) (l .i) 0)) _)))
+    let q : l .i < length (a .t2) = search needs in (
+      omega (arith, c .loop-test .taken),
+      l .inv .1 ∙ rw (same-on (a .t1) (a .t2) (l .i) p q)
+          (sym (and-assoc (l .good) (eqb (getD (a .t1) (l .i) 0) (getD (a .t2) (l .i) 0)) _)),
+    )
 
 returns : tie.Need-returns Inv-loop μ-loop
 returns c =

@@ -21,19 +21,22 @@ abbrev μ-loop : tie.MeasureT-loop
 loop-holds : tie.Need-loop-holds Inv-loop μ-loop
 loop-holds c = filling-start _ _ _ _
 
-room : (c : tie.After-shared-slice-known Inv-loop μ-loop) → (c .before .before .loop .k < length (c .before .before .loop .epochs)) × (c .before .before .loop .k < length (c .before .before .loop .counts))
+room : (c : tie.After-shared-slice-known Inv-loop μ-loop) → (c .before .before .loop .k < length (c .before .before .loop .epochs))
+    × (c .before .before .loop .k < length (c .before .before .loop .counts))
 room c =
     let b = c .before .before in
     let a = b .before .args in
     let p = b .before .pre in
-    filling-room (b .loop .inv) (first-on (a .from-epochs .now) (a .from-counts .now) (a .end) (b .loop .a) (p .0 .0) (p .0 .1) (c .before .loop-test .taken)) (p .1 .in-epochs) (p .1 .in-counts)
+    filling-room (b .loop .inv) (first-on (a .from-epochs .now) (a .from-counts .now) (a .end) (b .loop .a) (p .0 .0) (p .0 .1)
+    (c .before .loop-test .taken)) (p .1 .in-epochs) (p .1 .in-counts)
 
 loop-again : tie.Need-loop-again Inv-loop μ-loop
 loop-again c =
     let b = c .before .before .before in
     let a = b .before .args in
     let p = b .before .pre in
-    filling-step (b .loop .inv) (first-on (a .from-epochs .now) (a .from-counts .now) (a .end) (b .loop .a) (p .0 .0) (p .0 .1) (c .before .before .loop-test .taken))
+    filling-step (b .loop .inv) (first-on (a .from-epochs .now) (a .from-counts .now) (a .end) (b .loop .a) (p .0 .0) (p .0 .1)
+    (c .before .before .loop-test .taken))
 
 returns : tie.Need-returns Inv-loop μ-loop
 returns c =

@@ -14,7 +14,8 @@ find-requires c κs =
 returns : tie.Need-returns
 returns c =
     let s = c .before .before .before .before .before .before in
-    lead-place (s .args .our-epochs .now) (s .args .their-epochs .now) (s .args .i) (s .args .j) (c .before .before .before .if1 .taken) (c .find .ensures)
+    lead-place (s .args .our-epochs .now) (s .args .their-epochs .now) (s .args .i) (s .args .j) (c .before .before .before .if1 .taken)
+    (c .find .ensures)
 
 add-result : tie.Need-add-result
 add-result c =

@@ -13,8 +13,9 @@ copy-run-requires c κs =
 
 returns : tie.Need-returns
 returns c =
-    let s = c .before .before .before .before .before .before .before .before .before .before .before in
-    let q = c .before .before .before .before .copy-run .ensures in
+    let at-copy-run = c .before .before .before .before in
+    let s = at-copy-run .before .before .before .before .before .before .before in
+    let q = at-copy-run .copy-run .ensures in
     let l = first-long (s .args .from-epochs .now) (s .args .from-counts .now) (s .args .n) (s .pre .0 .0) (s .pre .0 .1) in
     record { behind = omega arith; epochs-set = q .epochs-set; counts-set = q .counts-set }
 

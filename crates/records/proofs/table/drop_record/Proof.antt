@@ -21,10 +21,16 @@ loop-holds c = (omega arith, omega arith, down-start _ _ _ _ (omega arith), down
 
 loop-again : tie.Need-loop-again Inv-loop μ-loop
 loop-again c =
+    let start = c .before .before .before .before in
     let l = c .before .before .before .loop in
-    let p = c .before .before .before .before .pre in
-    let t = c .before .before .loop-test .taken in
-    (omega arith, omega arith, down-step (l .inv .2) 0 (p .1 .0) (omega arith) t (omega arith), down-step (l .inv .3) 0 (p .1 .1) (omega arith) t (omega arith))
+    let p = start .pre in
+    let t = c .before .before .loop-test .taken in (
+      omega arith,
+      omega arith,
+      down-step (l .inv .2) 0 (p .1 .0) (omega arith) t (omega arith),
+      down-step (l .inv .3) 0 (p .1 .1) (omega arith) t
+          (omega arith),
+    )
 
 same-length : tie.Need-same-length Inv-loop μ-loop
 same-length c = c .before .loop .inv .2 .long

@@ -45,7 +45,8 @@ loop-again-2 c =
 returns : tie.Need-returns Inv-loop μ-loop
 returns c =
     let l = c .before .before .before .before in
-    done-behind (l .loop .inv) (c .before .before .before .loop-test .left) (place-past _ _ _ (l .before .pre) (c .before .before .if2 .taken) (c .if3 .taken))
+    done-behind (l .loop .inv) (c .before .before .before .loop-test .left)
+    (place-past _ _ _ (l .before .pre) (c .before .before .if2 .taken) (c .if3 .taken))
 
 returns-2 : tie.Need-returns-2 Inv-loop μ-loop
 returns-2 c =

@@ -16,7 +16,12 @@ returns c =
 returns-2 : tie.Need-returns-2
 unfolding proper
 returns-2 c =
-    simp (sym (c .before .before .before .agree .ensures) ∙ c .before .before .if1 .taken, le-leb _ _ (c .before .if2 .left), lt-leb _ _ (c .if3 .taken))
+    simp (
+      sym (c .before .before .before .agree .ensures) ∙ c .before .before .if1 .taken,
+      le-leb _ _ (c .before .if2 .left),
+      lt-leb _ _
+          (c .if3 .taken),
+    )
 
 slice-aggregate-ascend : tie.Need-slice-aggregate-ascend
 slice-aggregate-ascend c = sym (length-take-le _ _ (omega arith))
@@ -25,7 +30,12 @@ returns-3 : tie.Need-returns-3
 unfolding proper
 returns-3 c =
     let b = c .before .before in
-    simp (sym (b .before .before .before .agree .ensures) ∙ b .before .before .if1 .taken, le-leb _ _ (b .before .if2 .left), le-leb _ _ (b .if3 .left))
+    simp (
+      sym (b .before .before .before .agree .ensures) ∙ b .before .before .if1 .taken,
+      le-leb _ _ (b .before .if2 .left),
+      le-leb _ _
+          (b .if3 .left),
+    )
     (c .ascend .ensures)
 
 returns-4 : tie.Need-returns-4

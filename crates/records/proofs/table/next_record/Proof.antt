@@ -27,9 +27,12 @@ returns-2 c =
 
 returns-3 : tie.Need-returns-3
 returns-3 c =
-    let s = c .before .before .before .before .before .before .before .before .before .before .before .before .before .before in
-    step-selected (s .pre .0) (s .pre .1 .0) (s .pre .1 .1) (c .before .before .before .before .before .before .before .before .before .if1 .left) (c .before .before .before .before .before .before .before .if2 .left)
-    (c .before .before .before .before .before .lesser .ensures) (c .before .before .standing .ensures) (c .before .upto .ensures) (c .upto2 .ensures)
+    let at-lesser = c .before .before .before .before .before in
+    let at-if2 = at-lesser .before .before in
+    let at-if1 = at-if2 .before .before in
+    let s = at-if1 .before .before .before .before .before in
+    step-selected (s .pre .0) (s .pre .1 .0) (s .pre .1 .1) (at-if1 .if1 .left) (at-if2 .if2 .left)
+    (at-lesser .lesser .ensures) (c .before .before .standing .ensures) (c .before .upto .ensures) (c .upto2 .ensures)
 
 pub next-record-spec : {M : Type 1} → statement M
 next-record-spec =

@@ -27,7 +27,8 @@ abbrev μ-loop : tie.MeasureT-loop
 
 -- the records that are left at places a and b, of all that are asked for
 abbrev left : tie.Start Inv-loop μ-loop → ℕ → ℕ → List At
-left s a b = union (drop a (recordsOf (s .args .our-epochs .now) (s .args .our-counts .now))) (drop b (recordsOf (s .args .their-epochs .now) (s .args .their-counts .now)))
+left s a b = union (drop a (recordsOf (s .args .our-epochs .now) (s .args .our-counts .now)))
+    (drop b (recordsOf (s .args .their-epochs .now) (s .args .their-counts .now)))
 
 abbrev all : tie.Start Inv-loop μ-loop → List At
 all s = left s (s .args .i) (s .args .j)
@@ -36,7 +37,9 @@ room : (s : tie.Start Inv-loop μ-loop) → Room (all s) (s .args .at) (s .args 
 room s = record { in-epochs = s .pre .1 .1 .1 .0; in-counts = s .pre .1 .1 .1 .1 }
 
 lead-end-requires : tie.Need-lead-end-requires Inv-loop μ-loop
-lead-end-requires c κs = let p = c .before .before .before .before .before .before .pre in (p .0 .rises, p .1 .1 .0 .0)
+lead-end-requires c κs =
+    let start = c .before .before .before .before .before .before in
+    let p = start .pre in (p .0 .rises, p .1 .1 .0 .0)
 
 -- the lead of ours ends within the table, and stands before the rest
 abbrev led : tie.After-lead-end Inv-loop μ-loop → tie.Start Inv-loop μ-loop
@@ -45,11 +48,17 @@ led c = c .before .before .before .before .before .before .before
 lead-inside : (c : tie.After-lead-end Inv-loop μ-loop) → c .lead-end .result ≤ length (led c .args .our-epochs .now)
 lead-inside c =
     let s = led c in
-    omega (arith, c .lead-end .ensures, lead-within (s .args .our-epochs .now) (s .args .their-epochs .now) (s .args .i) (s .args .j) (s .pre .1 .1 .0 .0))
+    omega (
+      arith,
+      c .lead-end .ensures,
+      lead-within (s .args .our-epochs .now) (s .args .their-epochs .now) (s .args .i) (s .args .j)
+          (s .pre .1 .1 .0 .0),
+    )
 
 lead-first : (c : tie.After-lead-end Inv-loop μ-loop)
     → let s = led c in
-    all s ≡ run (s .args .i) (c .lead-end .result) (recordsOf (s .args .our-epochs .now) (s .args .our-counts .now)) ++ left s (c .lead-end .result) (s .args .j)
+    all s ≡ run (s .args .i) (c .lead-end .result) (recordsOf (s .args .our-epochs .now) (s .args .our-counts .now)) ++ left s (c .lead-end .result)
+    (s .args .j)
 lead-first c =
     let s = led c in
     union-lead (s .pre .0) (s .pre .1 .0) (s .args .i) (s .args .j) (s .pre .1 .1 .0 .0) (c .lead-end .ensures)
@@ -62,8 +71,10 @@ copy-run-requires c κs =
 
 loop-holds : tie.Need-loop-holds Inv-loop μ-loop
 loop-holds c =
-    let p = c .before .before .before .before .before .before .before .before .before .before .before .before .before .before .pre in
-    (walking-start (p .0) (p .1 .0) (lead-inside (c .before .before .before .before .before .before .before), p .1 .1 .0 .1), filling-start _ _ _ _)
+    let at-lead-end = c .before .before .before .before .before .before .before in
+    let start = at-lead-end .before .before .before .before .before .before .before in
+    let p = start .pre in
+    (walking-start (p .0) (p .1 .0) (lead-inside at-lead-end, p .1 .1 .0 .1), filling-start _ _ _ _)
 
 -- at the loop, from the start
 abbrev begun : tie.At-loop Inv-loop μ-loop → tie.Start Inv-loop μ-loop
@@ -71,9 +82,12 @@ begun c = c .before .before .before .before .before .before .before .before .bef
 
 filling : (c : tie.At-loop Inv-loop μ-loop)
     → let s = begun c in
-    Filling (all s) (left s (c .loop .a) (c .loop .b)) (s .args .at) (c .loop .k) (s .args .epochs .now) (s .args .counts .now) (c .loop .epochs) (c .loop .counts)
+    Filling (all s) (left s (c .loop .a) (c .loop .b)) (s .args .at) (c .loop .k) (s .args .epochs .now) (s .args .counts .now) (c .loop .epochs)
+    (c .loop .counts)
 filling c =
-    filling-then (filling-run (filling-start (all (begun c)) _ _ _) (lead-first (c .before .before .before .before .before .before .before .before)) (c .before .before .before .before .before .copy-run .ensures)) (c .loop .inv .1)
+    let at-copy-run = c .before .before .before .before .before in
+    let at-lead-end = at-copy-run .before .before .before in
+    filling-then (filling-run (filling-start (all (begun c)) _ _ _) (lead-first at-lead-end) (at-copy-run .copy-run .ensures)) (c .loop .inv .1)
 
 next-record-requires : tie.Need-next-record-requires Inv-loop μ-loop
 next-record-requires c κs =
@@ -102,7 +116,8 @@ loop-again c =
 ours-left : (c : tie.Then1 Inv-loop μ-loop)
     → let l = c .before .before in
     let s = begun l in
-    left s (l .loop .a) (l .loop .b) ≡ run (l .loop .a) (length (s .args .our-epochs .now)) (recordsOf (s .args .our-epochs .now) (s .args .our-counts .now)) ++ []
+    left s (l .loop .a) (l .loop .b) ≡ run (l .loop .a) (length (s .args .our-epochs .now))
+    (recordsOf (s .args .our-epochs .now) (s .args .our-counts .now)) ++ []
 ours-left c =
     let l = c .before .before in
     let p = begun l .pre in
@@ -117,14 +132,16 @@ copy-run-requires-2 c κs =
 
 returns : tie.Need-returns Inv-loop μ-loop
 returns c =
-    let t = c .before .before .before .before .before .before .before in
-    filling-done (filling-run (filling (t .before .before)) (ours-left t) (c .before .before .before .before .copy-run2 .ensures)) refl
+    let at-copy-run2 = c .before .before .before .before in
+    let t = at-copy-run2 .before .before .before in
+    filling-done (filling-run (filling (t .before .before)) (ours-left t) (at-copy-run2 .copy-run2 .ensures)) refl
 
 -- ours are passed
 theirs-left : (c : tie.After-loop Inv-loop μ-loop)
     → let l = c .before in
     let s = begun l in
-    left s (l .loop .a) (l .loop .b) ≡ run (l .loop .b) (length (s .args .their-epochs .now)) (recordsOf (s .args .their-epochs .now) (s .args .their-counts .now)) ++ []
+    left s (l .loop .a) (l .loop .b) ≡ run (l .loop .b) (length (s .args .their-epochs .now))
+    (recordsOf (s .args .their-epochs .now) (s .args .their-counts .now)) ++ []
 theirs-left c =
     let l = c .before in
     let p = begun l .pre in
@@ -138,8 +155,9 @@ copy-run-requires-3 c κs =
 
 returns-2 : tie.Need-returns-2 Inv-loop μ-loop
 returns-2 c =
-    let t = c .before .before .before .before .before .before .before in
-    filling-done (filling-run (filling (t .before)) (theirs-left t) (c .before .before .before .before .copy-run3 .ensures)) refl
+    let at-copy-run3 = c .before .before .before .before in
+    let t = at-copy-run3 .before .before .before in
+    filling-done (filling-run (filling (t .before)) (theirs-left t) (at-copy-run3 .copy-run3 .ensures)) refl
 
 pub union-into-spec : {M : Type 1} → statement M
 union-into-spec =

@@ -21,12 +21,14 @@ abbrev μ-loop : tie.MeasureT-loop
 
 loop-holds : tie.Need-loop-holds Inv-loop μ-loop
 loop-holds c =
-    let p = c .before .before .before .before .pre in
+    let start = c .before .before .before .before in
+    let p = start .pre in
     (walking-start (p .0) (p .1 .0) (p .1 .1), omega arith, omega arith)
 
 next-record-requires : tie.Need-next-record-requires Inv-loop μ-loop
 next-record-requires c κs =
-    let p = c .before .before .before .before .before .before .pre in
+    let start = c .before .before .before .before .before .before in
+    let p = start .pre in
     (p .0, (p .1 .0, walking-within (c .before .loop .inv .0) (c .loop-test .taken)))
 
 loop-again : tie.Need-loop-again Inv-loop μ-loop

@@ -41,9 +41,12 @@ remaining-into-requires c κs =
 
 returns : tie.Need-returns
 returns c =
-    let b = c .before .before .before .before .before .before .before .before .before .before .before .before .before .before .before .before .before .before .before in
-    let q = c .before .before .before .before .before .before .remaining-into .ensures in
-    let r = room b (sym (c .before .before .before .before .before .before .before .before .before .before .remaining-fits .ensures) ∙ c .before .before .before .before .before .before .before .before .before .if1 .taken) in
+    let at-remaining-into = c .before .before .before .before .before .before in
+    let at-if1 = at-remaining-into .before .before .before in
+    let at-remaining-fits = at-if1 .before in
+    let b = at-remaining-fits .before .before .before .before .before .before .before .before .before in
+    let q = at-remaining-into .remaining-into .ensures in
+    let r = room b (sym (at-remaining-fits .remaining-fits .ensures) ∙ at-if1 .if1 .taken) in
     let h = c .before .new-head .ensures ∙ ap (headFor (b .args .base) (placed b .owner)) (q .behind ∙ zero-add (length (records b))) in
     placed-left (c .present .result) _ _ (placed b) _ _ _ _ (c .present .ensures) h q (r .0) (r .1)
 

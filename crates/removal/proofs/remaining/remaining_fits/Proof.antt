@@ -16,7 +16,8 @@ use Rattle.removal.proofs.remaining.remaining_fits.Tie as tie
 
 -- the union, the sections, and how many remain
 abbrev records : tie.Start → List At
-records c = union (recordsOf (c .args .our-epochs .now) (c .args .our-counts .now)) (recordsOf (c .args .their-epochs .now) (c .args .their-counts .now))
+records c = union (recordsOf (c .args .our-epochs .now) (c .args .our-counts .now))
+    (recordsOf (c .args .their-epochs .now) (c .args .their-counts .now))
 
 abbrev sections : tie.Start → List At
 sections c = recordsOf (c .args .removed-epochs .now) (c .args .removed-bytes .now)
@@ -35,7 +36,8 @@ returns c =
 
 returns-2 : tie.Need-returns-2
 returns-2 c =
-    let a = c .before .before .before .before .before .before .before .before .before .before .args in
+    let start = c .before .before .before .before .before .before .before .before .before .before in
+    let a = start .args in
     c .fit2 .ensures ∙ ap (λ (n : ℕ). roomFor n (a .epochs-len) (a .counts-len)) (c .before .remaining-len .ensures)
 
 pub remaining-fits-spec : {M : Type 1} → statement M

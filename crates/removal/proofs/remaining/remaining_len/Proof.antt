@@ -18,7 +18,8 @@ Inv-loop our-epochs our-counts their-epochs their-counts removed-epochs removed-
     let ours = recordsOf our-epochs our-counts in
     let theirs = recordsOf their-epochs their-counts in
     let sections = recordsOf removed-epochs removed-bytes in
-    Walking ours theirs end a b × (n ≤ a + b) × (n + length (minus (union (drop a ours) (drop b theirs)) sections) ≡ length (minus (union ours theirs) sections))
+    Walking ours theirs end a b × (n ≤ a + b)
+    × (n + length (minus (union (drop a ours) (drop b theirs)) sections) ≡ length (minus (union ours theirs) sections))
 
 abbrev μ-loop : tie.MeasureT-loop
 μ-loop our-epochs our-counts their-epochs their-counts removed-epochs removed-bytes end a₀ b₀ n₀ a b n = end - (a + b)
@@ -29,32 +30,39 @@ sections c = recordsOf (c .args .removed-epochs .now) (c .args .removed-bytes .n
 
 loop-holds : tie.Need-loop-holds Inv-loop μ-loop
 loop-holds c =
-    let p = c .before .before .before .before .before .before .pre in
+    let start = c .before .before .before .before .before .before in
+    let p = start .pre in
     (walking-start (p .0) (p .1 .0) (omega arith, omega arith), omega arith, omega arith)
 
 next-record-requires : tie.Need-next-record-requires Inv-loop μ-loop
 next-record-requires c κs =
-    let p = c .before .before .before .before .before .before .before .before .pre in
+    let start = c .before .before .before .before .before .before .before .before in
+    let p = start .pre in
     (p .0, (p .1 .0, walking-within (c .before .loop .inv .0) (c .loop-test .taken)))
 
 loop-again : tie.Need-loop-again Inv-loop μ-loop
 loop-again c =
-    let l = c .before .before .before .before .loop in
+    let at-loop = c .before .before .before .before in
+    let start = at-loop .before .before .before .before .before .before .before in
+    let l = at-loop .loop in
     let s = c .before .before .next-record .ensures in
-    let m = next-stays s (sections (c .before .before .before .before .before .before .before .before .before .before .before)) (c .before .remove-from .result) (c .before .remove-from .ensures) (c .if1 .taken) in
+    let m = next-stays s (sections start) (c .before .remove-from .result) (c .before .remove-from .ensures) (c .if1 .taken) in
     (walking-step (l .inv .0) s, omega (arith, s .falls), omega (arith, l .inv .2, ap (length {A = At}) m))
 
 loop-again-2 : tie.Need-loop-again-2 Inv-loop μ-loop
 loop-again-2 c =
-    let l = c .before .before .before .before .loop in
+    let at-loop = c .before .before .before .before in
+    let start = at-loop .before .before .before .before .before .before .before in
+    let l = at-loop .loop in
     let s = c .before .before .next-record .ensures in
-    let m = next-gone s (sections (c .before .before .before .before .before .before .before .before .before .before .before)) (c .before .remove-from .result) (c .before .remove-from .ensures) (c .if1 .left) in
+    let m = next-gone s (sections start) (c .before .remove-from .result) (c .before .remove-from .ensures) (c .if1 .left) in
     (walking-step (l .inv .0) s, omega (arith, s .falls), omega (arith, l .inv .2, ap (length {A = At}) m))
 
 returns : tie.Need-returns Inv-loop μ-loop
 returns c =
+    let start = c .before .before .before .before .before .before .before .before in
     let l = c .before .loop in
-    omega (arith, l .inv .2, ap (length {A = At}) (minus-done _ (sections (c .before .before .before .before .before .before .before .before)) (walking-done (l .inv .0) (c .loop-test .left))))
+    omega (arith, l .inv .2, ap (length {A = At}) (minus-done _ (sections start) (walking-done (l .inv .0) (c .loop-test .left))))
 
 pub remaining-len-spec : {M : Type 1} → statement M
 remaining-len-spec =
@@ -66,7 +74,7 @@ remaining-len-spec =
     loop-holds
     (λ c. omega arith)
     next-record-requires
-    (λ c κs. c .before .before .before .before .before .before .before .before .before .pre .1 .1)
+    (λ c κs. let start = c .before .before .before .before .before .before .before .before .before in start .pre .1 .1)
     (λ c. omega arith)
     (λ c. omega (arith, c .before .before .next-record .ensures .falls))
     loop-again

@@ -27,22 +27,29 @@ returns : tie.Need-returns
 returns c =
     let b = c .before .before .before .before .before .before .before .before .before .before in
     let a = b .args in
-    refused-placing (c .refused .result) (a .epochs .now) (a .counts .now) (removed (a .strategy) (removal b) (ours b) (theirs b)) _ (c .refused .ensures)
+    refused-placing (c .refused .result) (a .epochs .now) (a .counts .now) (removed (a .strategy) (removal b) (ours b) (theirs b)) _
+    (c .refused .ensures)
     (removed-lower (a .strategy) (removal b) (ours b) (theirs b) (c .before .if1 .taken))
 
 returns-2 : tie.Need-returns-2
 returns-2 c =
-    let b = c .before .before .before .before .before .before .before .before .before .before .before .before .before .before .before .before .before in
+    let at-combine-same-base-epoch = c .before .before .before .before in
+    let at-if2 = at-combine-same-base-epoch .before .before .before in
+    let b = at-if2 .before .before .before .before .before .before .before .before .before .before in
     let a = b .args in
-    c .before .before .before .before .combine-same-base-epoch .ensures
-    ∙ sym (ap (λ (x : Answer Flags). placing x (a .epochs .now) (a .counts .now)) (removed-beside (a .strategy) (removal b) (ours b) (theirs b) (c .before .before .before .before .before .before .before .if2 .taken)))
+    at-combine-same-base-epoch .combine-same-base-epoch .ensures
+    ∙ sym (ap (λ (x : Answer Flags). placing x (a .epochs .now) (a .counts .now))
+    (removed-beside (a .strategy) (removal b) (ours b) (theirs b) (at-if2 .if2 .taken)))
 
 returns-3 : tie.Need-returns-3
 returns-3 c =
-    let b = c .before .before .before .before .before .before .before .before .before .before .before .before .before .before .before .before .before in
+    let at-combine-with-higher-base-epoch-remove-bytes = c .before .before .before .before in
+    let at-if2 = at-combine-with-higher-base-epoch-remove-bytes .before .before .before in
+    let at-if1 = at-if2 .before in
+    let b = at-if1 .before .before .before .before .before .before .before .before .before in
     let a = b .args in
-    let p : a .ours .base < a .theirs .base = omega (arith, c .before .before .before .before .before .before .before .before .if1 .left, c .before .before .before .before .before .before .before .if2 .left) in
-    c .before .before .before .before .combine-with-higher-base-epoch-remove-bytes .ensures
+    let p : a .ours .base < a .theirs .base = omega (arith, at-if1 .if1 .left, at-if2 .if2 .left) in
+    at-combine-with-higher-base-epoch-remove-bytes .combine-with-higher-base-epoch-remove-bytes .ensures
     ∙ sym (ap (λ (x : Answer Flags). placing x (a .epochs .now) (a .counts .now)) (removed-above (a .strategy) (removal b) (ours b) (theirs b) p))
 
 pub combine-proper-spec : {M : Type 1} → statement M
@@ -51,11 +58,15 @@ combine-proper-spec =
     (tie.spec
     (λ c κs. search needs)
     returns
-    (λ c κs. (c .before .before .before .before .before .before .before .before .before .before .before .before .pre .0, c .before .before .before .before .before .before .before .before .before .before .before .before .pre .1 .0))
+    (λ c κs.
+    let start = c .before .before .before .before .before .before .before .before .before .before .before .before in
+    (start .pre .0, start .pre .1 .0))
     (λ c. search needs)
     (λ c. search needs)
     returns-2
-    (λ c κs. c .before .before .before .before .before .before .before .before .before .before .before .before .pre)
+    (λ c κs.
+    let start = c .before .before .before .before .before .before .before .before .before .before .before .before in
+    start .pre)
     (λ c. search needs)
     (λ c. search needs)
     returns-3)

@@ -36,12 +36,16 @@ returns c =
 
 returns-2 : tie.Need-returns-2
 returns-2 c =
-    let b = c .before .before .before .before .before .before .before .before .before .before .before .before .before .before .before .before .before .before .before .before in
+    let at-place-union = c .before .before .before .before in
+    let at-if1 = at-place-union .before .before .before .before .before .before .before .before in
+    let at-combine-owners = at-if1 .before in
+    let b = at-combine-owners .before .before .before .before .before .before .before in
     let a = b .args in
-    c .before .before .before .before .place-union .ensures
+    at-place-union .place-union .ensures
     ∙ sym (ap (λ (x : Answer Flags). placing x (a .epochs .now) (a .counts .now))
     (beside-owned (a .strategy) (ours b) (theirs b) _
-    (answered-owner _ (combinedOwner (a .strategy) (ownerOf (a .ours)) (ownerOf (a .theirs))) (c .before .before .before .before .before .before .before .before .before .before .before .before .before .combine-owners .ensures) (c .before .before .before .before .before .before .before .before .before .before .before .before .if1 .left))))
+    (answered-owner _ (combinedOwner (a .strategy) (ownerOf (a .ours)) (ownerOf (a .theirs))) (at-combine-owners .combine-owners .ensures)
+    (at-if1 .if1 .left))))
 
 pub combine-same-base-epoch-spec : {M : Type 1} → statement M
 combine-same-base-epoch-spec =
@@ -50,11 +54,21 @@ combine-same-base-epoch-spec =
     (λ c κs. search needs)
     (λ c κs. search needs)
     returns
-    (λ c. sym (length-take-le _ _ (our-proper (c .before .before .before .before .before .before .before .before .before .before) .epochs-long)))
-    (λ c. sym (length-take-le _ _ (our-proper (c .before .before .before .before .before .before .before .before .before .before .before) .counts-long)))
-    (λ c. sym (length-take-le _ _ (their-proper (c .before .before .before .before .before .before .before .before .before .before .before .before) .epochs-long)))
-    (λ c. sym (length-take-le _ _ (their-proper (c .before .before .before .before .before .before .before .before .before .before .before .before .before) .counts-long)))
-    (λ c κs. (proper-table (our-proper (c .before .before .before .before .before .before .before .before .before .before .before .before .before .before .before)), proper-table (their-proper (c .before .before .before .before .before .before .before .before .before .before .before .before .before .before .before))))
+    (λ c.
+    let start = c .before .before .before .before .before .before .before .before .before .before in
+    sym (length-take-le _ _ (our-proper start .epochs-long)))
+    (λ c.
+    let start = c .before .before .before .before .before .before .before .before .before .before .before in
+    sym (length-take-le _ _ (our-proper start .counts-long)))
+    (λ c.
+    let start = c .before .before .before .before .before .before .before .before .before .before .before .before in
+    sym (length-take-le _ _ (their-proper start .epochs-long)))
+    (λ c.
+    let start = c .before .before .before .before .before .before .before .before .before .before .before .before .before in
+    sym (length-take-le _ _ (their-proper start .counts-long)))
+    (λ c κs.
+    let start = c .before .before .before .before .before .before .before .before .before .before .before .before .before .before .before in
+    (proper-table (our-proper start), proper-table (their-proper start)))
     (λ c. search needs)
     (λ c. search needs)
     returns-2)

@@ -41,10 +41,12 @@ their-proper c = proper-inv (c .args .theirs) (c .args .their-epochs .now) (c .a
 
 returns : tie.Need-returns
 returns c =
-    let b = c .before .before .before .before .before .before .before .before .before .before .before .before .before .before .before .before in
+    let at-hand-on = c .before .before .before .before in
+    let at-if1 = at-hand-on .before .before .before in
+    let b = at-if1 .before .before .before .before .before .before .before .before .before in
     let a = b .args in
-    let p : length (ours b .records) ≡ 0 = omega (arith, proper-long (our-proper b), c .before .before .before .before .before .before .before .if1 .taken) in
-    c .before .before .before .before .hand-on .ensures
+    let p : length (ours b .records) ≡ 0 = omega (arith, proper-long (our-proper b), at-if1 .if1 .taken) in
+    at-hand-on .hand-on .ensures
     ∙ sym (ap (λ (x : Answer Flags). placing x (a .epochs .now) (a .counts .now))
     (above-single (a .strategy) (removal b) (ours b) (theirs b) (ours b .records) p))
 
@@ -53,28 +55,37 @@ returns-2 c =
     let b = c .before .before .before .before .before .before .before .before .before .before .before .before in
     let a = b .args in
     let p : 0 < length (ours b .records) = omega (arith, proper-long (our-proper b), c .before .before .before .if1 .left) in
-    refused-placing (c .refused .result) (a .epochs .now) (a .counts .now) (removedAbove (a .strategy) (removal b) (ours b) (theirs b) (ours b .records)) _ (c .refused .ensures)
+    refused-placing (c .refused .result) (a .epochs .now) (a .counts .now)
+    (removedAbove (a .strategy) (removal b) (ours b) (theirs b) (ours b .records)) _ (c .refused .ensures)
     (above-disputed (a .strategy) (removal b) (ours b) (theirs b) (ours b .records) p
     (refused-owner _ (a .strategy) (ownerOf (a .ours)) (ownerOf (a .theirs)) (c .before .before .combine-owners .ensures) (c .before .if2 .taken)))
 
 returns-3 : tie.Need-returns-3
 returns-3 c =
-    let b = c .before .before .before .before .before .before .before .before .before .before .before .before .before .before .before .before .before .before .before .before .before .before .before .before .before in
+    let at-remove-bytes = c .before .before .before .before in
+    let at-owner-id = at-remove-bytes .before .before .before .before .before .before .before .before in
+    let at-if2 = at-owner-id .before .before in
+    let at-combine-owners = at-if2 .before in
+    let at-if1 = at-combine-owners .before in
+    let b = at-if1 .before .before .before .before .before .before .before .before .before in
     let a = b .args in
-    let p : 0 < length (ours b .records) = omega (arith, proper-long (our-proper b), c .before .before .before .before .before .before .before .before .before .before .before .before .before .before .before .before .if1 .left) in
-    let w : MaybeOwner = c .before .before .before .before .before .before .before .before .before .before .before .before .before .before .before .combine-owners .result .owner in
-    let i = ap (λ (m : MaybeOwner). m .id) (c .before .before .before .before .before .before .before .before .before .before .before .before .owner-id .ensures) ∙ owner-bytes (ownerOf (a .ours)) in
-    c .before .before .before .before .remove-bytes .ensures
+    let p : 0 < length (ours b .records) = omega (arith, proper-long (our-proper b), at-if1 .if1 .left) in
+    let w : MaybeOwner = at-combine-owners .combine-owners .result .owner in
+    let i = ap (λ (m : MaybeOwner). m .id) (at-owner-id .owner-id .ensures) ∙ owner-bytes (ownerOf (a .ours)) in
+    at-remove-bytes .remove-bytes .ensures
     ∙ ap (λ (j : List ℕ). placing (taken j (removal b) (joined (ours b) (theirs b) (ownerIf (w .owned) (w .id)))) (a .epochs .now) (a .counts .now)) i
     ∙ sym (ap (λ (x : Answer Flags). placing x (a .epochs .now) (a .counts .now))
     (above-owned (a .strategy) (removal b) (ours b) (theirs b) (ours b .records) p _
-    (answered-owner _ (combinedOwner (a .strategy) (ownerOf (a .ours)) (ownerOf (a .theirs))) (c .before .before .before .before .before .before .before .before .before .before .before .before .before .before .before .combine-owners .ensures) (c .before .before .before .before .before .before .before .before .before .before .before .before .before .before .if2 .left))))
+    (answered-owner _ (combinedOwner (a .strategy) (ownerOf (a .ours)) (ownerOf (a .theirs))) (at-combine-owners .combine-owners .ensures)
+    (at-if2 .if2 .left))))
 
 pub combine-with-higher-base-epoch-remove-bytes-spec : {M : Type 1} → statement M
 combine-with-higher-base-epoch-remove-bytes-spec =
     tie.close
     (tie.spec
-    (λ c κs. c .before .before .before .before .before .before .before .before .before .before .before .pre .0)
+    (λ c κs.
+    let start = c .before .before .before .before .before .before .before .before .before .before .before in
+    start .pre .0)
     (λ c. search needs)
     (λ c. search needs)
     returns
@@ -82,11 +93,24 @@ combine-with-higher-base-epoch-remove-bytes-spec =
     (λ c κs. search needs)
     returns-2
     (λ c κs. search needs)
-    (λ c. sym (length-take-le _ _ (our-proper (c .before .before .before .before .before .before .before .before .before .before .before .before .before .before .before) .epochs-long)))
-    (λ c. sym (length-take-le _ _ (our-proper (c .before .before .before .before .before .before .before .before .before .before .before .before .before .before .before .before) .counts-long)))
-    (λ c. sym (length-take-le _ _ (their-proper (c .before .before .before .before .before .before .before .before .before .before .before .before .before .before .before .before .before) .epochs-long)))
-    (λ c. sym (length-take-le _ _ (their-proper (c .before .before .before .before .before .before .before .before .before .before .before .before .before .before .before .before .before .before) .counts-long)))
-    (λ c κs. (proper-table (our-proper (c .before .before .before .before .before .before .before .before .before .before .before .before .before .before .before .before .before .before .before .before)), (proper-table (their-proper (c .before .before .before .before .before .before .before .before .before .before .before .before .before .before .before .before .before .before .before .before)), c .before .before .before .before .before .before .before .before .before .before .before .before .before .before .before .before .before .before .before .before .pre .1 .1)))
+    (λ c.
+    let start = c .before .before .before .before .before .before .before .before .before .before .before .before .before .before .before in
+    sym (length-take-le _ _ (our-proper start .epochs-long)))
+    (λ c.
+    let start = c .before .before .before .before .before .before .before .before .before .before .before .before .before .before .before .before in
+    sym (length-take-le _ _ (our-proper start .counts-long)))
+    (λ c.
+    let start = c .before .before .before .before .before .before .before .before .before .before .before .before .before .before .before .before
+    .before in
+    sym (length-take-le _ _ (their-proper start .epochs-long)))
+    (λ c.
+    let start = c .before .before .before .before .before .before .before .before .before .before .before .before .before .before .before .before
+    .before .before in
+    sym (length-take-le _ _ (their-proper start .counts-long)))
+    (λ c κs.
+    let start = c .before .before .before .before .before .before .before .before .before .before .before .before .before .before .before .before
+    .before .before .before .before in
+    (proper-table (our-proper start), (proper-table (their-proper start), start .pre .1 .1)))
     (λ c. search needs)
     (λ c. search needs)
     returns-3)

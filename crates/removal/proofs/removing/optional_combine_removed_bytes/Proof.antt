@@ -8,18 +8,30 @@ use Rattle.removal.proofs.removing.optional_combine_removed_bytes.State
 use Rattle.removal.proofs.removing.optional_combine_removed_bytes.Tie as tie
 
 returns : tie.Need-returns
-returns c = c .before .before .before .before .combine-removed-bytes .ensures ∙ sym (optional-present _ _ _ _ _ _ _ _ _ _ _ _ (c .before .before .before .before .before .before .before .if1 .taken))
+returns c =
+    let at-combine-removed-bytes = c .before .before .before .before in
+    let at-if1 = at-combine-removed-bytes .before .before .before in
+    at-combine-removed-bytes .combine-removed-bytes .ensures ∙ sym (optional-present _ _ _ _ _ _ _ _ _ _ _ _ (at-if1 .if1 .taken))
 
 returns-2 : tie.Need-returns-2
 returns-2 c =
-    let a = c .before .before .before .before .before .before .before .before .before .before .before .before .before .before .before .before .before .before .args in
-    c .before .before .before .before .combine-absent .ensures ∙ sym (optional-absent (a .ours) (a .our-epochs .now) (a .our-counts .now) (a .theirs) (a .their-epochs .now) (a .their-counts .now) _ _ (a .strategy) _ _ _ (c .before .before .before .before .before .before .before .before .before .if1 .left) (sym (c .before .before .before .before .before .before .before .before .is-proper .ensures) ∙ c .before .before .before .before .before .before .before .if2 .taken))
+    let at-combine-absent = c .before .before .before .before in
+    let at-if2 = at-combine-absent .before .before .before in
+    let at-is-proper = at-if2 .before in
+    let at-if1 = at-is-proper .before in
+    let start = at-if1 .before .before .before .before .before .before .before .before .before in
+    let a = start .args in
+    at-combine-absent .combine-absent .ensures
+    ∙ sym (optional-absent (a .ours) (a .our-epochs .now) (a .our-counts .now) (a .theirs) (a .their-epochs .now) (a .their-counts .now) _ _
+    (a .strategy) _ _ _ (at-if1 .if1 .left) (sym (at-is-proper .is-proper .ensures) ∙ at-if2 .if2 .taken))
 
 returns-3 : tie.Need-returns-3
 returns-3 c =
-    let a = c .before .before .before .before .before .before .before .before .before .before .before .before .args in
+    let start = c .before .before .before .before .before .before .before .before .before .before .before .before in
+    let a = start .args in
     refused-left _ _ _ _ (c .refused .ensures)
-    ∙ sym (optional-bad (a .ours) (a .our-epochs .now) (a .our-counts .now) (a .theirs) (a .their-epochs .now) (a .their-counts .now) _ _ (a .strategy) _ _ _ (c .before .before .before .if1 .left) (sym (c .before .before .is-proper .ensures) ∙ c .before .if2 .left))
+    ∙ sym (optional-bad (a .ours) (a .our-epochs .now) (a .our-counts .now) (a .theirs) (a .their-epochs .now) (a .their-counts .now) _ _
+    (a .strategy) _ _ _ (c .before .before .before .if1 .left) (sym (c .before .before .is-proper .ensures) ∙ c .before .if2 .left))
 
 pub optional-combine-removed-bytes-spec : {M : Type 1} → statement M
 optional-combine-removed-bytes-spec =

@@ -25,13 +25,25 @@ abbrev left : tie.Start → Removed → After
 left c x = placing (taken (c .args .id) (removalOf x (lent c)) (joined c)) (c .args .epochs .now) (c .args .counts .now)
 
 returns : tie.Need-returns
-returns c = c .before .before .before .before .place-union .ensures ∙ sym (ap (left (c .before .before .before .before .before .before .before .before .before .before .before .before .before .before .before .before .before)) (c .before .before .before .before .before .before .before .enum-told .given .1))
+returns c =
+    let at-place-union = c .before .before .before .before in
+    let at-enum-told = at-place-union .before .before .before in
+    let start = at-enum-told .before .before .before .before .before .before .before .before .before .before in
+    at-place-union .place-union .ensures ∙ sym (ap (left start) (at-enum-told .enum-told .given .1))
 
 returns-2 : tie.Need-returns-2
-returns-2 c = c .before .before .before .before .place-union2 .ensures ∙ sym (ap (left (c .before .before .before .before .before .before .before .before .before .before .before .before .before .before .before .before .before)) (c .before .before .before .before .before .before .before .enum-told2 .given .1))
+returns-2 c =
+    let at-place-union2 = c .before .before .before .before in
+    let at-enum-told2 = at-place-union2 .before .before .before in
+    let start = at-enum-told2 .before .before .before .before .before .before .before .before .before .before in
+    at-place-union2 .place-union2 .ensures ∙ sym (ap (left start) (at-enum-told2 .enum-told2 .given .1))
 
 returns-3 : tie.Need-returns-3
-returns-3 c = c .before .before .before .before .remove-rows .ensures ∙ sym (ap (left (c .before .before .before .before .before .before .before .before .before .before .before .before .before .before .before .before .before .before)) (c .before .before .before .before .before .before .before .before .removed .given .1))
+returns-3 c =
+    let at-remove-rows = c .before .before .before .before in
+    let at-removed = at-remove-rows .before .before .before .before in
+    let start = at-removed .before .before .before .before .before .before .before .before .before .before in
+    at-remove-rows .remove-rows .ensures ∙ sym (ap (left start) (at-removed .removed .given .1))
 
 remove-rows-requires : tie.Need-remove-rows-requires
 remove-rows-requires c κs =
@@ -43,9 +55,13 @@ remove-bytes-spec =
     tie.close
     (tie.spec
     (λ c. search needs)
-    (λ c κs. (c .before .before .before .before .before .before .before .before .before .before .before .before .pre .0, c .before .before .before .before .before .before .before .before .before .before .before .before .pre .1 .0))
+    (λ c κs.
+    let start = c .before .before .before .before .before .before .before .before .before .before .before .before in
+    (start .pre .0, start .pre .1 .0))
     (λ c. search needs)
-    (λ c κs. (c .before .before .before .before .before .before .before .before .before .before .before .before .pre .0, c .before .before .before .before .before .before .before .before .before .before .before .before .pre .1 .0))
+    (λ c κs.
+    let start = c .before .before .before .before .before .before .before .before .before .before .before .before in
+    (start .pre .0, start .pre .1 .0))
     (λ c. search needs)
     remove-rows-requires
     (λ c. search needs)

@@ -33,17 +33,23 @@ rows c = rowsIn (c .args .n) (lent c)
 
 remove-sections-requires : tie.Need-remove-sections-requires
 remove-sections-requires c κs =
-    let b = c .before .before .before .before .before .before .before .before .before .before .before .before .before .before in
-    (b .pre .0, (b .pre .1 .0, under-table (b .pre .1 .1) (b .args .id) (sym (c .before .before .before .before .before .only-under .ensures) ∙ c .before .before .before .before .if1 .taken)))
+    let at-if1 = c .before .before .before .before in
+    let at-only-under = at-if1 .before in
+    let b = at-only-under .before .before .before .before .before .before .before .before .before in
+    (b .pre .0, (b .pre .1 .0, under-table (b .pre .1 .1) (b .args .id) (sym (at-only-under .only-under .ensures) ∙ at-if1 .if1 .taken)))
 
 returns : tie.Need-returns
 returns c =
-    let b = c .before .before .before .before .before .before .before .before .before .before .before .before .before .before .before .before .before .before .before in
+    let at-remove-sections = c .before .before .before .before in
+    let at-if1 = at-remove-sections .before .before .before .before .before in
+    let at-only-under = at-if1 .before in
+    let b = at-only-under .before .before .before .before .before .before .before .before .before in
     let a = b .args in
-    let h : onlyUnder (a .id) (rows b) ≡ true = sym (c .before .before .before .before .before .before .before .before .before .before .only-under .ensures) ∙ c .before .before .before .before .before .before .before .before .before .if1 .taken in
-    c .before .before .before .before .remove-sections .ensures
+    let h : onlyUnder (a .id) (rows b) ≡ true = sym (at-only-under .only-under .ensures) ∙ at-if1 .if1 .taken in
+    at-remove-sections .remove-sections .ensures
     ∙ sym (ap (λ (x : Answer Flags). placing x (a .epochs .now) (a .counts .now))
-    (taken-under (a .id) (rows b) (joined b) (recordsOf (take (a .n) (a .removed-epochs .now)) (take (a .n) (a .removed-bytes .now))) h (parts-in (b .pre .1 .1 .room))))
+    (taken-under (a .id) (rows b) (joined b) (recordsOf (take (a .n) (a .removed-epochs .now)) (take (a .n) (a .removed-bytes .now))) h
+    (parts-in (b .pre .1 .1 .room))))
 
 returns-2 : tie.Need-returns-2
 returns-2 c =
@@ -56,9 +62,13 @@ pub remove-rows-spec : {M : Type 1} → statement M
 remove-rows-spec =
     tie.close
     (tie.spec
-    (λ c κs. c .before .before .before .before .before .before .before .before .pre .1 .1 .room)
-    (λ c. sym (length-take-le _ _ (c .before .before .before .before .before .before .before .before .before .before .before .pre .1 .1 .room .epochs-long)))
-    (λ c. sym (length-take-le _ _ (c .before .before .before .before .before .before .before .before .before .before .before .before .pre .1 .1 .room .bytes-long)))
+    (λ c κs. let start = c .before .before .before .before .before .before .before .before in start .pre .1 .1 .room)
+    (λ c.
+    let start = c .before .before .before .before .before .before .before .before .before .before .before in
+    sym (length-take-le _ _ (start .pre .1 .1 .room .epochs-long)))
+    (λ c.
+    let start = c .before .before .before .before .before .before .before .before .before .before .before .before in
+    sym (length-take-le _ _ (start .pre .1 .1 .room .bytes-long)))
     remove-sections-requires
     (λ c. search needs)
     (λ c. search needs)

@@ -23,26 +23,32 @@ sections c = recordsOf (c .args .removed-epochs .now) (c .args .removed-bytes .n
 
 returns : tie.Need-returns
 returns c =
-    let b = c .before .before .before .before .before .before .before .before .before .before .before .before .before .before .before .before .before .before in
+    let at-place-remaining = c .before .before .before .before in
+    let at-enum-told = at-place-remaining .before .before .before in
+    let at-judge = at-enum-told .before .before in
+    let b = at-judge .before .before .before .before .before .before .before .before .before in
     let a = b .args in
-    c .before .before .before .before .place-remaining .ensures
+    at-place-remaining .place-remaining .ensures
     ∙ sym (ap (λ (x : Answer Flags). placing x (a .epochs .now) (a .counts .now))
-    (less-fine (sections b) (joined b) (sym (c .before .before .before .before .before .before .before .before .before .judge .ensures) ∙ ap faulted (c .before .before .before .before .before .before .before .enum-told .given .1))))
+    (less-fine (sections b) (joined b) (sym (at-judge .judge .ensures) ∙ ap faulted (at-enum-told .enum-told .given .1))))
 
 returns-2 : tie.Need-returns-2
 returns-2 c =
-    let b = c .before .before .before .before .before .before .before .before .before .before .before .before .before in
+    let at-judge = c .before .before .before .before in
+    let b = at-judge .before .before .before .before .before .before .before .before .before in
     let a = b .args in
     refused-placing (c .refused .result) (a .epochs .now) (a .counts .now) (lessSections (sections b) (joined b)) _ (c .refused .ensures)
-    (less-fault (sections b) (joined b) _ (sym (c .before .before .before .before .judge .ensures) ∙ ap faulted (c .before .before .refusal .given .1)))
+    (less-fault (sections b) (joined b) _ (sym (at-judge .judge .ensures) ∙ ap faulted (c .before .before .refusal .given .1)))
 
 pub remove-sections-spec : {M : Type 1} → statement M
 remove-sections-spec =
     tie.close
     (tie.spec
-    (λ c κs. c .before .before .before .before .before .before .before .before .pre)
+    (λ c κs. let start = c .before .before .before .before .before .before .before .before in start .pre)
     (λ c. search needs)
-    (λ c κs. c .before .before .before .before .before .before .before .before .before .before .before .before .before .pre)
+    (λ c κs.
+    let start = c .before .before .before .before .before .before .before .before .before .before .before .before .before in
+    start .pre)
     (λ c. search needs)
     (λ c κs. search needs)
     (λ c. search needs)

@@ -5,7 +5,9 @@ use Rattle.removal.proofs.sections.find_at.Statement.{statement}
 use Rattle.removal.proofs.sections.find_at.Tie as tie
 
 returns : tie.Need-returns
-returns c = spot-found (c .before .before .before .before .pre) (c .before .before .before .before .args .epoch) (c .before .look-up .result) (c .before .look-up .ensures)
+returns c =
+    let start = c .before .before .before .before in
+    spot-found (start .pre) (start .args .epoch) (c .before .look-up .result) (c .before .look-up .ensures)
 
 pub find-at-spec : {M : Type 1} → statement M
 find-at-spec = tie.close (tie.spec (λ c κs. search needs) returns)

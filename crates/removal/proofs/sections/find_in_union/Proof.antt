@@ -21,7 +21,8 @@ returns c =
 returns-2 : tie.Need-returns-2
 returns-2 c =
     let b = c .before .before .before .before .before .before .before in
-    found-ours (b .args .epoch) (ours b) (theirs b) (c .find-at2 .result) (c .before .before .find-at .result) (c .before .before .find-at .ensures) (c .before .if1 .left) (c .find-at2 .ensures)
+    found-ours (b .args .epoch) (ours b) (theirs b) (c .find-at2 .result) (c .before .before .find-at .result) (c .before .before .find-at .ensures)
+    (c .before .if1 .left) (c .find-at2 .ensures)
 
 pub find-in-union-spec : {M : Type 1} → statement M
 find-in-union-spec = tie.close (tie.spec (λ c κs. search needs) returns (λ c κs. search needs) returns-2)

@@ -24,7 +24,8 @@ abbrev μ-loop : tie.MeasureT-loop
 
 -- the union, the sections, and the section at a place
 abbrev records : tie.Start Inv-loop μ-loop → List At
-records c = union (recordsOf (c .args .our-epochs .now) (c .args .our-counts .now)) (recordsOf (c .args .their-epochs .now) (c .args .their-counts .now))
+records c = union (recordsOf (c .args .our-epochs .now) (c .args .our-counts .now))
+    (recordsOf (c .args .their-epochs .now) (c .args .their-counts .now))
 
 abbrev sections : tie.Start Inv-loop μ-loop → List At
 sections c = recordsOf (c .args .epochs .now) (c .args .bytes .now)
@@ -34,27 +35,34 @@ here c i = getD (c .args .epochs .now) i 0 ⦂ getD (c .args .bytes .now) i 0
 
 loop-again : tie.Need-loop-again Inv-loop μ-loop
 loop-again c =
-    let b = c .before .before .before .before .before .before .before .before .before .before .before .before .before in
-    let l = c .before .before .before .before .before .before .loop in
-    let d = record-on (b .pre .1 .1) (l .i) (c .before .before .before .before .before .loop-test .taken) in (
+    let at-loop-test = c .before .before .before .before .before in
+    let at-loop = at-loop-test .before in
+    let b = at-loop .before .before .before .before .before .before .before in
+    let l = at-loop .loop in
+    let d = record-on (b .pre .1 .1) (l .i) (at-loop-test .loop-test .taken) in (
       omega arith,
       l .inv .1 ∙ ap (fault (b .args .base) (records b)) d
-          ∙ fault-on (b .args .base) (records b) (here b (l .i)) (drop (l .i + 1) (sections b)) (sym (c .before .before .judge-section .ensures) ∙ ap faulted (c .enum-told .given .1)),
+          ∙ fault-on (b .args .base) (records b) (here b (l .i)) (drop (l .i + 1) (sections b))
+          (sym (c .before .before .judge-section .ensures) ∙ ap faulted (c .enum-told .given .1)),
     )
 
 returns : tie.Need-returns Inv-loop μ-loop
 returns c =
-    let b = c .before .before .before .before .before .before .before .before .before .before .before .before .before .before in
-    let l = c .before .before .before .before .before .before .before .loop in
-    let d = record-on (b .pre .1 .1) (l .i) (c .before .before .before .before .before .before .loop-test .taken) in
+    let at-loop-test = c .before .before .before .before .before .before in
+    let at-loop = at-loop-test .before in
+    let b = at-loop .before .before .before .before .before .before .before in
+    let l = at-loop .loop in
+    let d = record-on (b .pre .1 .1) (l .i) (at-loop-test .loop-test .taken) in
     sym (l .inv .1 ∙ ap (fault (b .args .base) (records b)) d
-    ∙ fault-at (b .args .base) (records b) (here b (l .i)) (drop (l .i + 1) (sections b)) _ (sym (c .before .before .before .judge-section .ensures) ∙ ap faulted (c .before .refusal .given .1)))
+    ∙ fault-at (b .args .base) (records b) (here b (l .i)) (drop (l .i + 1) (sections b)) _
+    (sym (c .before .before .before .judge-section .ensures) ∙ ap faulted (c .before .refusal .given .1)))
 
 returns-2 : tie.Need-returns-2 Inv-loop μ-loop
 returns-2 c =
     let b = c .before .before .before .before .before .before .before .before in
     let l = c .before .loop in
-    let e : drop (l .i) (sections b) ≡ [] = drop-of-length-le (sections b) {i = l .i} (omega (arith, length-recordsOf (b .args .epochs .now) (b .args .bytes .now) (b .pre .1 .1 .even), c .loop-test .left)) in
+    let e : drop (l .i) (sections b) ≡ [] = drop-of-length-le (sections b) {i = l .i}
+    (omega (arith, length-recordsOf (b .args .epochs .now) (b .args .bytes .now) (b .pre .1 .1 .even), c .loop-test .left)) in
     sym (l .inv .1 ∙ ap (fault (b .args .base) (records b)) e ∙ fault-none (b .args .base) (records b))
 
 pub judge-spec : {M : Type 1} → statement M
@@ -66,9 +74,15 @@ judge-spec =
     (λ c. (omega arith, refl))
     (λ c. search needs)
     (λ c. search needs)
-    (λ c. omega (arith, c .before .before .before .before .before .before .before .before .before .pre .1 .1 .even, c .before .before .before .before .before .before .before .before .before .good))
-    (λ c. omega (arith, c .before .before .before .before .before .before .before .before .before .before .pre .1 .1 .even))
-    (λ c κs. (c .before .before .before .before .before .before .before .before .before .before .pre .0, c .before .before .before .before .before .before .before .before .before .before .pre .1 .0))
+    (λ c.
+    let start = c .before .before .before .before .before .before .before .before .before in
+    omega (arith, start .pre .1 .1 .even, start .good))
+    (λ c.
+    let start = c .before .before .before .before .before .before .before .before .before .before in
+    omega (arith, start .pre .1 .1 .even))
+    (λ c κs.
+    let start = c .before .before .before .before .before .before .before .before .before .before in
+    (start .pre .0, start .pre .1 .0))
     (λ c. search needs)
     (λ c. search needs)
     (λ c. omega arith)

@@ -23,15 +23,21 @@ loop-holds c = (omega arith, only-some (c .before .before .before .pre) (c .befo
 
 loop-again : tie.Need-loop-again Inv-loop μ-loop
 loop-again c =
-    let b = c .before .before .before .before .before .before .before .before in
-    let l = c .before .before .before .before .loop in
-    (omega arith, l .inv .1 ∙ all-same (b .pre) (b .args .id) (l .i) (c .before .before .before .loop-test .taken) (sym (c .before .same-owner .ensures) ∙ c .if2 .taken))
+    let at-loop = c .before .before .before .before in
+    let b = at-loop .before .before .before .before in
+    let l = at-loop .loop in (
+      omega arith,
+      l .inv .1 ∙ all-same (b .pre) (b .args .id) (l .i) (c .before .before .before .loop-test .taken)
+          (sym (c .before .same-owner .ensures) ∙ c .if2 .taken),
+    )
 
 returns-2 : tie.Need-returns-2 Inv-loop μ-loop
 returns-2 c =
-    let b = c .before .before .before .before .before .before .before .before in
-    let l = c .before .before .before .before .loop in
-    sym (l .inv .1 ∙ all-other (b .pre) (b .args .id) (l .i) (c .before .before .before .loop-test .taken) (sym (c .before .same-owner .ensures) ∙ c .if2 .left))
+    let at-loop = c .before .before .before .before in
+    let b = at-loop .before .before .before .before in
+    let l = at-loop .loop in
+    sym (l .inv .1 ∙ all-other (b .pre) (b .args .id) (l .i) (c .before .before .before .loop-test .taken)
+    (sym (c .before .same-owner .ensures) ∙ c .if2 .left))
 
 returns-3 : tie.Need-returns-3 Inv-loop μ-loop
 returns-3 c =
@@ -47,8 +53,8 @@ only-under-spec =
     μ-loop
     (λ c. sym (only-none (c .before .before .before .pre) (c .before .before .before .args .id) (c .if1 .taken)))
     loop-holds
-    (λ c. omega (arith, c .before .before .before .before .before .pre .ids-long, c .before .before .before .before .before .good))
-    (λ c. omega (arith, c .before .before .before .before .before .pre .ids-long))
+    (λ c. let start = c .before .before .before .before .before in omega (arith, start .pre .ids-long, start .good))
+    (λ c. let start = c .before .before .before .before .before in omega (arith, start .pre .ids-long))
     (λ c κs. search needs)
     (λ c. search needs)
     (λ c. omega arith)

@@ -26,7 +26,8 @@ loop-again : tie.Need-loop-again Inv-loop μ-loop
 loop-again c = parts-byte (c .before .before .loop .inv) (drop-next _ _ (c .before .loop-test .taken))
 
 returns-2 : tie.Need-returns-2 Inv-loop μ-loop
-returns-2 c = λ os cs. kept-whole _ _ os cs _ _ (c .before .before .if1 .left) (parts-done (c .before .loop .inv) (drop-of-length-le _ (c .loop-test .left)))
+returns-2 c = λ os cs. kept-whole _ _ os cs _ _ (c .before .before .if1 .left)
+    (parts-done (c .before .loop .inv) (drop-of-length-le _ (c .loop-test .left)))
 
 pub keep-spec : {M : Type 1} → statement M
 keep-spec =

@@ -8,14 +8,23 @@ use Rattle.repair.proofs.repairing.repair_as.Tie as tie
 
 returns : tie.Need-returns
 returns c =
-    let a = c .before .before .before .before .before .before .args in
+    let start = c .before .before .before .before .before .before in
+    let a = start .args in
     call-short (a .src .now) (a .out .now) (a .offsets .now) (a .changes .now) (a .kind) (omega (arith, c .before .head-size .ensures, c .if1 .taken))
 
 repair-multi-requires : tie.Need-repair-multi-requires
-repair-multi-requires c κs = (sym (c .before .before .before .before .is-multi .ensures) ∙ c .before .before .before .if2 .taken, omega (arith, c .before .before .before .before .before .before .head-size .ensures, c .before .before .before .before .before .if1 .left))
+repair-multi-requires c κs =
+    let at-is-multi = c .before .before .before .before in
+    let at-if1 = at-is-multi .before in
+    let at-head-size = at-if1 .before in
+    (sym (at-is-multi .is-multi .ensures) ∙ c .before .before .before .if2 .taken, omega (arith, at-head-size .head-size .ensures, at-if1 .if1 .left))
 
 repair-single-requires : tie.Need-repair-single-requires
-repair-single-requires c κs = (sym (c .before .before .before .before .is-multi .ensures) ∙ c .before .before .before .if2 .left, omega (arith, c .before .before .before .before .before .before .head-size .ensures, c .before .before .before .before .before .if1 .left))
+repair-single-requires c κs =
+    let at-is-multi = c .before .before .before .before in
+    let at-if1 = at-is-multi .before in
+    let at-head-size = at-if1 .before in
+    (sym (at-is-multi .is-multi .ensures) ∙ c .before .before .before .if2 .left, omega (arith, at-head-size .head-size .ensures, at-if1 .if1 .left))
 
 pub repair-as-spec : {M : Type 1} → statement M
 repair-as-spec =

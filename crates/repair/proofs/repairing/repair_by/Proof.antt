@@ -9,31 +9,46 @@ use Rattle.repair.proofs.repairing.repair_by.Tie as tie
 
 head-in-requires : tie.Need-head-in-requires
 head-in-requires c κs =
-    let s = c .before .before .before .before .before .before .before .before .before .before .before .before .before .before .before .before .before .before .before .before .before .before .before .before .before in
+    let at-gather = c .before .before .before .before .before in
+    let s = at-gather .before .before .before .before .before .before .before .before .before .before .before .before .before .before .before .before
+    .before .before .before .before in
     let k = c .kind-left .ensures in
-    let n : ℕ = c .before .before .before .before .before .gather .result in
+    let n : ℕ = at-gather .gather .result in
     (rw (k, left-head (s .args .kind) (s .pre .0 .0) n) (s .pre .0 .1), rw k (left-agrees (s .args .kind) (s .pre .0 .0) n))
 
 gather-requires : tie.Need-gather-requires
 gather-requires c κs =
-    let m = c .before .before .before .before .before .before .before .mark .kept in
-    let p = c .before .before .before .before .before .before .before .before .before .before .before .before .before .before .before .before .before .before .before .pre .1 in
+    let at-mark = c .before .before .before .before .before .before .before in
+    let start = at-mark .before .before .before .before .before .before .before .before .before .before .before .before in
+    let m = at-mark .mark .kept in
+    let p = start .pre .1 in
     (omega (arith, m .1 .1 .1 .0, p .0 .wide), p .2, omega (arith, m .1 .1 .1 .1 .0, p .1 .wide))
 
 settle-requires : tie.Need-settle-requires
 settle-requires c κs =
-    let s = c .before .before .before .before .before .before .before .before .before .before .before .before .before .before .before .before .before .before .before .before .before .before .before .before .before .before .before .before .before .before .before .before in
+    let at-head-in = c .before .before .before .before .before .before in
+    let at-kind-left = at-head-in .before in
+    let at-gather = at-kind-left .before .before .before .before .before in
+    let at-mark = at-gather .before .before .before .before .before .before .before .before in
+    let at-base-in = at-mark .before .before .before in
+    let at-head-size = at-base-in .before in
+    let at-shared-slice-known = at-head-size .before .before .before .before .before .before .before in
+    let s = at-shared-slice-known .before in
     let a = s .args in
     let p = s .pre in
-    let m = c .before .before .before .before .before .before .before .before .before .before .before .before .before .before .before .before .before .before .before .before .mark in
-    let g = c .before .before .before .before .before .before .before .before .before .before .before .before .gather in
-    let bytes : Bytes (a .src .now) = λ i. c .before .before .before .before .before .before .before .before .before .before .before .before .before .before .before .before .before .before .before .before .before .before .before .before .before .before .before .before .before .before .before .shared-slice-known .given i .fits in (
-      standing-ready (a .kind) (a .src .now) (p .0 .0) bytes (p .0 .1) (c .before .before .before .before .before .before .before .before .before .before .before .before .before .before .before .before .before .before .before .before .before .before .before .base-in .result) (c .before .before .before .before .before .before .before .before .before .before .before .before .before .before .before .before .before .before .before .before .before .before .before .before .head-size .result) (c .before .before .before .before .before .before .before .before .before .before .before .before .before .before .before .before .before .before .before .before .before .before .before .base-in .ensures) (c .before .before .before .before .before .before .before .before .before .before .before .before .before .before .before .before .before .before .before .before .before .before .before .before .head-size .ensures)
+    let m = at-mark .mark in
+    let g = at-gather .gather in
+    let bytes : Bytes (a .src .now) = λ i. at-shared-slice-known .shared-slice-known .given i .fits in (
+      standing-ready (a .kind) (a .src .now) (p .0 .0) bytes (p .0 .1) (at-base-in .base-in .result) (at-head-size .head-size .result)
+          (at-base-in .base-in .ensures) (at-head-size .head-size .ensures)
           (a .places .now) (a .counts .now) _ _ (p .1 .0) (p .1 .1) (m .ensures .0) (m .ensures .1)
-          (a .epochs .now) (p .1 .2) (g .result) _ _ (g .ensures) (c .before .before .before .before .before .before .before .kind-left .result) (c .before .before .before .before .before .before .before .kind-left .ensures) (c .before .before .before .before .before .before .head-in .result) (c .before .before .before .before .before .before .head-in .ensures),
-      multi-ready (a .kind) (a .src .now) (p .0 .0) bytes (p .0 .1) (c .before .before .before .before .before .before .before .before .before .before .before .before .before .before .before .before .before .before .before .before .before .before .before .base-in .result) (c .before .before .before .before .before .before .before .before .before .before .before .before .before .before .before .before .before .before .before .before .before .before .before .before .head-size .result) (c .before .before .before .before .before .before .before .before .before .before .before .before .before .before .before .before .before .before .before .before .before .before .before .base-in .ensures) (c .before .before .before .before .before .before .before .before .before .before .before .before .before .before .before .before .before .before .before .before .before .before .before .before .head-size .ensures)
+          (a .epochs .now) (p .1 .2) (g .result) _ _ (g .ensures) (at-kind-left .kind-left .result) (at-kind-left .kind-left .ensures)
+          (at-head-in .head-in .result) (at-head-in .head-in .ensures),
+      multi-ready (a .kind) (a .src .now) (p .0 .0) bytes (p .0 .1) (at-base-in .base-in .result) (at-head-size .head-size .result)
+          (at-base-in .base-in .ensures) (at-head-size .head-size .ensures)
           (a .places .now) (a .counts .now) _ _ (p .1 .0) (p .1 .1) (m .ensures .0) (m .ensures .1)
-          (a .epochs .now) (p .1 .2) (g .result) _ _ (g .ensures) (c .before .before .before .before .before .before .before .kind-left .result) (c .before .before .before .before .before .before .before .kind-left .ensures) (c .before .before .before .before .before .before .head-in .result) (c .before .before .before .before .before .before .head-in .ensures),
+          (a .epochs .now) (p .1 .2) (g .result) _ _ (g .ensures) (at-kind-left .kind-left .result) (at-kind-left .kind-left .ensures)
+          (at-head-in .head-in .result) (at-head-in .head-in .ensures),
     )
 
 pub repair-by-spec : {M : Type 1} → statement M
@@ -41,10 +56,15 @@ repair-by-spec =
     tie.close
     (tie.spec
     (λ c κs. search needs)
-    (λ c κs. c .before .before .before .before .before .before .before .before .pre .0 .1)
-    (λ c κs. (omega (arith, c .before .before .before .head-size .ensures, c .before .before .before .before .before .before .before .before .before .before .before .pre .0 .1), (c .before .before .before .before .before .before .before .before .before .before .before .pre .1 .0 .wide, c .before .before .before .before .before .before .before .before .before .before .before .pre .1 .1 .wide)))
+    (λ c κs. let start = c .before .before .before .before .before .before .before .before in start .pre .0 .1)
+    (λ c κs.
+    let start = c .before .before .before .before .before .before .before .before .before .before .before in
+    (omega (arith, c .before .before .before .head-size .ensures, start .pre .0 .1), (start .pre .1 .0 .wide, start .pre .1 .1 .wide)))
     gather-requires
-    (λ c κs. c .before .before .before .before .before .before .before .before .before .before .before .before .before .before .before .before .before .before .before .before .before .before .before .before .pre .0 .0)
+    (λ c κs.
+    let start = c .before .before .before .before .before .before .before .before .before .before .before .before .before .before .before .before
+    .before .before .before .before .before .before .before .before in
+    start .pre .0 .0)
     head-in-requires
     settle-requires
     (λ c. search needs)

@@ -7,16 +7,21 @@ use Rattle.repair.proofs.repairing.repair_faulty.Tie as tie
 
 returns : tie.Need-returns
 returns c =
-    let s = c .before .before .before .before .before .before .before .before .before .before .before .before .before .before .before .before .before .before .before in
+    let at-repair-as = c .before .before .before .before .before .before in
+    let at-kind = at-repair-as .before .before .before .before .before in
+    let at-kind-of-byte = at-kind .before .before in
+    let s = at-kind-of-byte .before .before .before .before .before .before in
     let a = s .args in
-    c .before .before .before .before .before .before .repair-as .ensures
-    ∙ call-known (a .src .now) (a .out .now) (a .offsets .now) (a .changes .now) (s .pre) _ (sym (c .before .before .before .before .before .before .before .before .before .before .before .before .before .kind-of-byte .ensures) ∙ c .before .before .before .before .before .before .before .before .before .before .before .kind .given .1)
+    at-repair-as .repair-as .ensures
+    ∙ call-known (a .src .now) (a .out .now) (a .offsets .now) (a .changes .now) (s .pre) _
+    (sym (at-kind-of-byte .kind-of-byte .ensures) ∙ at-kind .kind .given .1)
 
 returns-2 : tie.Need-returns-2
 returns-2 c =
     let s = c .before .before .before .before .before .before .before .before in
     let a = s .args in
-    call-unknown (a .src .now) (a .out .now) (a .offsets .now) (a .changes .now) (s .pre) (sym (c .before .before .kind-of-byte .ensures) ∙ c .enum-told .given .1)
+    call-unknown (a .src .now) (a .out .now) (a .offsets .now) (a .changes .now) (s .pre)
+    (sym (c .before .before .kind-of-byte .ensures) ∙ c .enum-told .given .1)
 
 pub repair-faulty-spec : {M : Type 1} → statement M
 repair-faulty-spec =

@@ -6,7 +6,9 @@ use Rattle.repair.proofs.repairing.repair_multi.Statement.{statement}
 use Rattle.repair.proofs.repairing.repair_multi.Tie as tie
 
 repair-by-requires : tie.Need-repair-by-requires
-repair-by-requires c κs = (c .before .before .before .before .before .before .before .before .before .before .pre, (blank-zeros 65536 (omega arith), blank-zeros 65536 (omega arith), blank-zeros 65536 (omega arith) .wide))
+repair-by-requires c κs =
+    let start = c .before .before .before .before .before .before .before .before .before .before in
+    (start .pre, (blank-zeros 65536 (omega arith), blank-zeros 65536 (omega arith), blank-zeros 65536 (omega arith) .wide))
 
 pub repair-multi-spec : {M : Type 1} → statement M
 repair-multi-spec =

@@ -11,9 +11,10 @@ head-in-requires c κs = let s = c .before .before .before .before in (s .pre .1
 
 settle-requires : tie.Need-settle-requires
 settle-requires c κs =
-    let s = c .before .before .before .before .before .before .before .before .before .before .before in
+    let at-head-in = c .before .before .before .before .before .before in
+    let s = at-head-in .before .before .before .before .before in
     let a = s .args in
-    let h = c .before .before .before .before .before .before .head-in in (
+    let h = at-head-in .head-in in (
       single-standing (a .kind) (a .src .now) (s .pre .0) _ _ (s .pre .1) (ap (λ (x : Head). x .records) (h .ensures)),
       single-ready (a .kind) (a .src .now) (s .pre .0) (h .result) _ _ (h .ensures),
     )

@@ -19,14 +19,22 @@ add-is-longer c =
 
 put-line-if-requires-2 : tie.Need-put-line-if-requires-2
 put-line-if-requires-2 c κs =
-    let a = c .before .before .before .before .before .before .before .before .before .before .before .before .args in
-    let b : Bool = ltb (2 + c .before .before .before .before .before .before .before .before .before .varint-len .result) (a .next - a .at) in
-    omega (arith, c .before .before .before .before .before .before .put-line-if .ensures .behind, line-if-short b (a .at) ReEncoded, c .before .before .before .before .before .before .before .before .before .before .before .before .pre .1)
+    let at-put-line-if = c .before .before .before .before .before .before in
+    let at-varint-len = at-put-line-if .before .before .before in
+    let start = at-varint-len .before .before .before in
+    let a = start .args in
+    let b : Bool = ltb (2 + at-varint-len .varint-len .result) (a .next - a .at) in
+    omega (arith, at-put-line-if .put-line-if .ensures .behind, line-if-short b (a .at) ReEncoded, start .pre .1)
 
 returns : tie.Need-returns
 returns c =
-    let a = c .before .before .before .before .before .before .before .before .before .before .before .before .before .before .before .before .before .args in
-    kept-listed (oldOf (a .at) (a .epoch) (a .count) (a .next)) (c .before .before .before .before .before .before .before .before .before .before .before .before .before .before .varint-len .result) (ltb (a .epoch) (a .highest)) (c .before .before .before .before .before .before .before .before .before .before .before .before .before .before .varint-len .ensures) (c .before .before .before .before .before .before .before .before .before .before .before .put-line-if .ensures) (c .before .before .before .before .put-line-if2 .ensures)
+    let at-put-line-if2 = c .before .before .before .before in
+    let at-put-line-if = at-put-line-if2 .before .before .before .before .before .before .before in
+    let at-varint-len = at-put-line-if .before .before .before in
+    let start = at-varint-len .before .before .before in
+    let a = start .args in
+    kept-listed (oldOf (a .at) (a .epoch) (a .count) (a .next)) (at-varint-len .varint-len .result) (ltb (a .epoch) (a .highest))
+    (at-varint-len .varint-len .ensures) (at-put-line-if .put-line-if .ensures) (at-put-line-if2 .put-line-if2 .ensures)
 
 pub list-kept-spec : {M : Type 1} → statement M
 list-kept-spec =

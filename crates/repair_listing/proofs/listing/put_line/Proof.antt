@@ -6,8 +6,11 @@ use Rattle.repair_listing.proofs.listing.put_line.Tie as tie
 
 returns : tie.Need-returns
 returns c =
-    let a = c .before .before .before .before .before .before .before .before .before .before .args in
-    listed-one (a .at) (a .change) (a .k) (a .offsets .now) (a .changes .now) _ _ (c .before .before .before .before .before .before .put-offset .ensures) (c .before .before .put-change .ensures)
+    let at-put-offset = c .before .before .before .before .before .before in
+    let start = at-put-offset .before .before .before .before in
+    let a = start .args in
+    listed-one (a .at) (a .change) (a .k) (a .offsets .now) (a .changes .now) _ _ (at-put-offset .put-offset .ensures)
+    (c .before .before .put-change .ensures)
 
 pub put-line-spec : {M : Type 1} → statement M
 put-line-spec =

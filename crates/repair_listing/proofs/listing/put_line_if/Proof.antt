@@ -5,7 +5,10 @@ use Rattle.repair_listing.proofs.listing.put_line_if.Statement.{stateme
 use Rattle.repair_listing.proofs.listing.put_line_if.Tie as tie
 
 returns : tie.Need-returns
-returns c = rw (c .before .before .before .before .before .before .before .if1 .taken) (c .before .before .before .before .put-line .ensures)
+returns c =
+    let at-put-line = c .before .before .before .before in
+    let at-if1 = at-put-line .before .before .before in
+    rw (at-if1 .if1 .taken) (at-put-line .put-line .ensures)
 
 returns-2 : tie.Need-returns-2
 returns-2 c = rw (c .if1 .left) (listed-none _ _ _)

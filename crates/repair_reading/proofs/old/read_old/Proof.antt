@@ -19,31 +19,44 @@ returns c =
 
 read-padded-requires : tie.Need-read-padded-requires
 read-padded-requires c κs =
-    let a = c .before .before .before .before .before .before .args in (
-      omega (arith, c .before .before .before .before .if1 .left),
-      (c .before .before .before .be16-at .ensures, told-strange (a .at + 2) _ (found (drop (a .at + 2) (a .src .now))) (sym (c .before .before .judge-varint .ensures) ∙ c .enum-told2 .given .1) .0),
+    let at-if1 = c .before .before .before .before in
+    let start = at-if1 .before .before in
+    let a = start .args in (
+      omega (arith, at-if1 .if1 .left),
+      (
+        c .before .before .before .be16-at .ensures,
+        told-strange (a .at + 2) _ (found (drop (a .at + 2) (a .src .now)))
+            (sym (c .before .before .judge-varint .ensures) ∙ c .enum-told2 .given .1) .0,
+      ),
     )
 
 varint-at-requires : tie.Need-varint-at-requires
 varint-at-requires c κs =
-    let a = c .before .before .before .before .before .before .args in
-    let t = told-ends (a .at + 2) _ (found (drop (a .at + 2) (a .src .now))) (sym (c .before .before .judge-varint .ensures) ∙ c .enum-told3 .given .1) in
+    let start = c .before .before .before .before .before .before in
+    let a = start .args in
+    let t = told-ends (a .at + 2) _ (found (drop (a .at + 2) (a .src .now)))
+    (sym (c .before .before .judge-varint .ensures) ∙ c .enum-told3 .given .1) in
     rw (t .is-whole)
 
 returns-2 : tie.Need-returns-2
 returns-2 c =
-    let a = c .before .before .before .before .before .before .args in
+    let at-if1 = c .before .before .before .before in
+    let start = at-if1 .before .before in
+    let a = start .args in
     let d = a .src .now in
-    sym (ap gotOf (at-incomplete d (a .at) (omega (arith, c .before .before .before .before .if1 .left))
+    sym (ap gotOf (at-incomplete d (a .at) (omega (arith, at-if1 .if1 .left))
     (told-incomplete (a .at + 2) _ (found (drop (a .at + 2) d)) (sym (c .before .before .judge-varint .ensures) ∙ c .enum-told .given .1) .0)))
 
 returns-4 : tie.Need-returns-4
 returns-4 c =
-    let a = c .before .before .before .before .before .before .before .args in
+    let at-be16-at = c .before .before .before .before in
+    let at-if1 = at-be16-at .before in
+    let start = at-if1 .before .before in
+    let a = start .args in
     let d = a .src .now in
     let v = c .varint-at .result in
     let t = told-read (a .at + 2) (v .count) (v .next) (found (drop (a .at + 2) d)) (c .varint-at .ensures) in
-    at-whole d (a .at) (omega (arith, c .before .before .before .before .before .if1 .left)) _ (v .count) (t .0) (v .next) (c .before .before .before .before .be16-at .ensures) (t .2) (t .1)
+    at-whole d (a .at) (omega (arith, at-if1 .if1 .left)) _ (v .count) (t .0) (v .next) (at-be16-at .be16-at .ensures) (t .2) (t .1)
 
 pub read-old-spec : {M : Type 1} → statement M
 read-old-spec =

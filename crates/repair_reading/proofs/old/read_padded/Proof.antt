@@ -23,15 +23,19 @@ capped-value-requires c κs =
 
 returns : tie.Need-returns
 returns c =
-    let a = c .before .before .before .before .args in
-    let p = c .before .before .before .before .pre in
-    padded-fits (a .src .now) (a .at) (p .0) (p .1 .1) (a .epoch) (c .before .before .end-of .result) (c .before .capped-value .result) (p .1 .0) (c .before .before .end-of .ensures) (c .before .capped-value .ensures) (omega (arith, c .if1 .taken))
+    let start = c .before .before .before .before in
+    let a = start .args in
+    let p = start .pre in
+    padded-fits (a .src .now) (a .at) (p .0) (p .1 .1) (a .epoch) (c .before .before .end-of .result) (c .before .capped-value .result) (p .1 .0)
+    (c .before .before .end-of .ensures) (c .before .capped-value .ensures) (omega (arith, c .if1 .taken))
 
 returns-2 : tie.Need-returns-2
 returns-2 c =
-    let a = c .before .before .before .before .args in
-    let p = c .before .before .before .before .pre in
-    padded-large (a .src .now) (a .at) (p .0) (p .1 .1) (a .epoch) (c .before .before .end-of .result) (c .before .capped-value .result) (p .1 .0) (c .before .before .end-of .ensures) (c .before .capped-value .ensures) (omega (arith, c .if1 .left))
+    let start = c .before .before .before .before in
+    let a = start .args in
+    let p = start .pre in
+    padded-large (a .src .now) (a .at) (p .0) (p .1 .1) (a .epoch) (c .before .before .end-of .result) (c .before .capped-value .result) (p .1 .0)
+    (c .before .before .end-of .ensures) (c .before .capped-value .ensures) (omega (arith, c .if1 .left))
 
 pub read-padded-spec : {M : Type 1} → statement M
 read-padded-spec =

@@ -29,16 +29,18 @@ small c =
 
 loop-again : tie.Need-loop-again Inv-loop μ-loop
 loop-again c =
-    let a = c .before .before .before .before .before .args in
+    let start = c .before .before .before .before .before in
+    let a = start .args in
     let d = a .src .now in
     let l = c .before .before .before .loop in
     let i : ℕ = l .i - 1 in
     let z : suc i ≡ l .i = omega (arith, c .before .before .loop-test .taken) in
     let m : says d i (a .end) ≡ getD d i 0 % 128 + 128 * says d (l .i) (a .end) =
-    says-more d i (a .end) (omega (arith, l .inv .1)) (c .before .before .before .before .before .pre .1) ∙ ap (λ (j : ℕ). getD d i 0 % 128 + 128 * says d j (a .end)) z in (
+    says-more d i (a .end) (omega (arith, l .inv .1)) (start .pre .1) ∙ ap (λ (j : ℕ). getD d i 0 % 128 + 128 * says d j (a .end)) z in (
       omega (arith, c .before .before .loop-test .taken),
       omega (arith, l .inv .1),
-      c .cap .ensures ∙ ap (λ (n : ℕ). capped (n * 128 + getD d i 0 % 128)) (l .inv .2) ∙ capped-turn (says d (l .i) (a .end)) (getD d i 0 % 128) ∙ ap capped (sym m),
+      c .cap .ensures ∙ ap (λ (n : ℕ). capped (n * 128 + getD d i 0 % 128)) (l .inv .2) ∙ capped-turn (says d (l .i) (a .end)) (getD d i 0 % 128)
+          ∙ ap capped (sym m),
     )
 
 returns : tie.Need-returns Inv-loop μ-loop
@@ -57,7 +59,9 @@ capped-value-spec =
     loop-holds
     (λ c. search needs)
     (λ c. record { fits = omega (arith, small c) })
-    (λ c. omega (arith, c .before .before .loop .inv .1, c .before .before .before .before .pre .1, c .before .loop-test .taken))
+    (λ c.
+    let start = c .before .before .before .before in
+    omega (arith, c .before .before .loop .inv .1, start .pre .1, c .before .loop-test .taken))
     (λ c. search needs)
     (λ c. record { fits = omega (arith, small (c .before)) })
     (λ c κs. search needs)

@@ -20,13 +20,15 @@ loop-holds c = (refl, omega (arith, c .pre, length-drop (c .args .at) (c .args .
 
 returns : tie.Need-returns Inv-loop μ-loop
 returns c =
-    let d = c .before .before .before .before .args .src .now in
+    let start = c .before .before .before .before in
+    let d = start .args .src .now in
     let l = c .before .before .before .loop in
     omega (arith, l .inv .0, high-ends d (l .k) (c .before .before .loop-test .taken) (c .if1 .taken))
 
 loop-again : tie.Need-loop-again Inv-loop μ-loop
 loop-again c =
-    let d = c .before .before .before .before .args .src .now in
+    let start = c .before .before .before .before in
+    let d = start .args .src .now in
     let l = c .before .before .before .loop in
     (omega (arith, l .inv .0, high-goes d (l .k) (c .before .before .loop-test .taken) (c .if1 .left)), l .inv .1)
 

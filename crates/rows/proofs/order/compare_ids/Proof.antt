@@ -32,13 +32,21 @@ returns : tie.Need-returns Inv-loop μ-loop
 returns c = sym (c .before .before .loop .inv .1 ∙ order-longer _ _ _ (c .before .loop-test .taken) (c .if1 .taken))
 
 returns-2 : tie.Need-returns-2 Inv-loop μ-loop
-returns-2 c = sym (at-i (c .before .before .before .before) (c .before .before .before .if1 .left) ∙ by-less _ _ _ (c .if2 .taken))
+returns-2 c =
+    let at-loop-test = c .before .before .before .before in
+    sym (at-i at-loop-test (c .before .before .before .if1 .left) ∙ by-less _ _ _ (c .if2 .taken))
 
 returns-3 : tie.Need-returns-3 Inv-loop μ-loop
-returns-3 c = sym (at-i (c .before .before .before .before .before) (c .before .before .before .before .if1 .left) ∙ by-greater _ _ _ (c .if3 .taken))
+returns-3 c =
+    let at-if1 = c .before .before .before .before in
+    let at-loop-test = at-if1 .before in
+    sym (at-i at-loop-test (at-if1 .if1 .left) ∙ by-greater _ _ _ (c .if3 .taken))
 
 loop-again : tie.Need-loop-again Inv-loop μ-loop
-loop-again c = (omega arith, at-i (c .before .before .before .before .before) (c .before .before .before .before .if1 .left) ∙ by-next _ _ _ (c .if3 .left) (c .before .if2 .left))
+loop-again c =
+    let at-if1 = c .before .before .before .before in
+    let at-loop-test = at-if1 .before in
+    (omega arith, at-i at-loop-test (at-if1 .if1 .left) ∙ by-next _ _ _ (c .if3 .left) (c .before .if2 .left))
 
 returns-4 : tie.Need-returns-4 Inv-loop μ-loop
 returns-4 c = sym (c .before .before .loop .inv .1 ∙ order-shorter _ _ _ (c .before .loop-test .left) (c .if4 .taken))

@@ -26,8 +26,12 @@ any-bytes-spec =
     (λ c. (omega arith, refl))
     (λ c. search needs)
     (λ c. search needs)
-    (λ c. sym (c .before .before .before .loop .inv .1 ∙ any-here (c .before .before .before .before .pre) _ (c .before .before .loop-test .taken) (c .if1 .taken)))
+    (λ c.
+    let start = c .before .before .before .before in
+    sym (c .before .before .before .loop .inv .1 ∙ any-here (start .pre) _ (c .before .before .loop-test .taken) (c .if1 .taken)))
     (λ c. search needs)
     (λ c. search needs)
-    (λ c. (omega arith, c .before .before .before .loop .inv .1 ∙ any-next (c .before .before .before .before .pre) _ (c .before .before .loop-test .taken) (c .if1 .left)))
+    (λ c.
+    let start = c .before .before .before .before in
+    (omega arith, c .before .before .before .loop .inv .1 ∙ any-next (start .pre) _ (c .before .before .loop-test .taken) (c .if1 .left)))
     (λ c. sym (c .before .loop .inv .1 ∙ any-end (c .before .before .pre) _ (c .loop-test .left))))

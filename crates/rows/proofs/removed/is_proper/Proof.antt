@@ -9,7 +9,8 @@ use Rattle.rows.proofs.removed.is_proper.Tie as tie
 
 returns-3 : tie.Need-returns-3
 returns-3 c =
-    let a = c .before .before .before .before .before .before .args in
+    let start = c .before .before .before .before .before .before in
+    let a = start .args in
     c .are-proper .ensures
     ∙ sym (ap (λ (x : Removed). proper x (tables (a .ids .now) (a .epochs .now) (a .bytes .now))) (c .before .before .removed .given .1))
 

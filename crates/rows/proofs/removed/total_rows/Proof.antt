@@ -22,8 +22,9 @@ abbrev μ-loop : tie.MeasureT-loop
 
 returns : tie.Need-returns Inv-loop μ-loop
 returns c =
-    let t = total-on (c .before .before .before .before .pre) (c .before .before .before .loop .i) (c .before .before .loop-test .taken) in
-    let a = c .before .before .before .before .args in
+    let start = c .before .before .before .before in
+    let t = total-on (start .pre) (c .before .before .before .loop .i) (c .before .before .loop-test .taken) in
+    let a = start .args in
     sym (within-over (totalRows (rowsIn (a .n) (tables (a .ids .now) (a .epochs .now) (a .bytes .now)))) (omega arith))
 
 returns-2 : tie.Need-returns-2 Inv-loop μ-loop
@@ -48,5 +49,7 @@ total-rows-spec =
     (λ c. search needs)
     (λ c. search needs)
     (λ c. search needs)
-    (λ c. let t = total-on (c .before .before .before .before .pre) (c .before .before .before .loop .i) (c .before .before .loop-test .taken) in omega arith)
+    (λ c.
+    let start = c .before .before .before .before in
+    let t = total-on (start .pre) (c .before .before .before .loop .i) (c .before .before .loop-test .taken) in omega arith)
     returns-2)

@@ -19,7 +19,8 @@ abbrev μ-loop : tie.MeasureT-loop
 
 loop-holds : tie.Need-loop-holds Inv-loop μ-loop
 loop-holds c =
-    let a = c .before .before .before .before .args in
+    let start = c .before .before .before .before in
+    let a = start .args in
     let t : Tables = tables (a .ids .now) (a .epochs .now) (a .bytes .now) in
     let r = room-in (a .n) t (sym (c .before .fit .ensures) ∙ c .if1 .taken) in
     (omega arith, r, proper-room r)
@@ -31,18 +32,21 @@ compare-rows-requires c κs =
 
 loop-again : tie.Need-loop-again Inv-loop μ-loop
 loop-again c =
-    let l = c .before .before .before .before .loop in
+    let at-loop = c .before .before .before .before in
+    let l = at-loop .loop in
     let r = l .inv .1 in
     (omega arith, r, l .inv .2 ∙ asc-less r (l .i) (omega arith) (sym (c .before .before .compare-rows .ensures) ∙ c .enum-told .given .1))
 
 returns : tie.Need-returns Inv-loop μ-loop
 returns c =
-    let l = c .before .before .before .before .loop in
+    let at-loop = c .before .before .before .before in
+    let l = at-loop .loop in
     sym (l .inv .2 ∙ asc-equal (l .inv .1) (l .i) (omega arith) (sym (c .before .before .compare-rows .ensures) ∙ c .enum-told2 .given .1))
 
 returns-2 : tie.Need-returns-2 Inv-loop μ-loop
 returns-2 c =
-    let l = c .before .before .before .before .loop in
+    let at-loop = c .before .before .before .before in
+    let l = at-loop .loop in
     sym (l .inv .2 ∙ asc-greater (l .inv .1) (l .i) (omega arith) (sym (c .before .before .compare-rows .ensures) ∙ c .enum-told3 .given .1))
 
 returns-3 : tie.Need-returns-3 Inv-loop μ-loop
@@ -52,7 +56,8 @@ returns-3 c =
 
 returns-4 : tie.Need-returns-4 Inv-loop μ-loop
 returns-4 c =
-    let a = c .before .before .before .before .args in
+    let start = c .before .before .before .before in
+    let a = start .args in
     sym (proper-short (a .n) (tables (a .ids .now) (a .epochs .now) (a .bytes .now)) (sym (c .before .fit .ensures) ∙ c .if1 .left))
 
 pub are-proper-spec : {M : Type 1} → statement M
@@ -63,7 +68,9 @@ are-proper-spec =
     μ-loop
     (λ c κs. search needs)
     loop-holds
-    (λ c. omega (arith, c .before .before .before .before .before .good, c .loop .inv .1 .ids-long))
+    (λ c.
+    let start = c .before .before .before .before .before in
+    omega (arith, start .good, c .loop .inv .1 .ids-long))
     (λ c. search needs)
     compare-rows-requires
     (λ c. search needs)

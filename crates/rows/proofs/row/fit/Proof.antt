@@ -11,4 +11,5 @@ fit-spec =
     (tie.spec
     (λ c. let a = c .before .args in sym (short-ids (a .n) (tables (a .ids .now) (a .epochs .now) (a .bytes .now)) (c .if1 .taken)))
     (λ c. let a = c .before .before .args in sym (short-epochs (a .n) (tables (a .ids .now) (a .epochs .now) (a .bytes .now)) (c .if2 .taken)))
-    (λ c. let a = c .before .before .args in sym (by-bytes (a .n) (tables (a .ids .now) (a .epochs .now) (a .bytes .now)) (c .before .if1 .left) (c .if2 .left))))
+    (λ c. let a = c .before .before .args in
+    sym (by-bytes (a .n) (tables (a .ids .now) (a .epochs .now) (a .bytes .now)) (c .before .if1 .left) (c .if2 .left))))

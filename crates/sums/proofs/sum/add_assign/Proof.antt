@@ -15,19 +15,27 @@ rhs c = tables (c .args .rhs-ids .now) (c .args .rhs-epochs .now) (c .args .rhs-
 
 returns : tie.Need-returns
 returns c =
-    let b = c .before .before .before .before .before .before .before .before .before .before .before .before .before .before .before .before .before .before .before .before in
-    c .before .before .before .before .before .add-proper .ensures
-    ∙ summed-proper (b .args .version) (b .args .lhs .removed) (ours b) (b .args .rhs .removed) (rhs b) (sym (c .before .before .before .before .before .before .before .before .before .before .before .before .is-proper .ensures) ∙ c .before .before .before .before .before .before .before .before .before .before .before .if1 .taken) (sym (c .before .before .before .before .before .before .before .before .before .before .is-proper2 .ensures) ∙ c .before .before .before .before .before .before .before .before .before .if2 .taken)
+    let at-add-proper = c .before .before .before .before .before in
+    let at-if2 = at-add-proper .before .before .before .before in
+    let at-is-proper2 = at-if2 .before in
+    let at-if1 = at-is-proper2 .before in
+    let at-is-proper = at-if1 .before in
+    let b = at-is-proper .before .before .before .before .before .before .before .before in
+    at-add-proper .add-proper .ensures
+    ∙ summed-proper (b .args .version) (b .args .lhs .removed) (ours b) (b .args .rhs .removed) (rhs b)
+    (sym (at-is-proper .is-proper .ensures) ∙ at-if1 .if1 .taken) (sym (at-is-proper2 .is-proper2 .ensures) ∙ at-if2 .if2 .taken)
 
 returns-2 : tie.Need-returns-2
 returns-2 c =
     let b = c .before .before .before .before .before .before .before .before .before .before .before in
-    summed-right-bad (b .args .version) (b .args .lhs .removed) (ours b) (b .args .rhs .removed) (rhs b) (sym (c .before .is-proper2 .ensures) ∙ c .if2 .left)
+    summed-right-bad (b .args .version) (b .args .lhs .removed) (ours b) (b .args .rhs .removed) (rhs b)
+    (sym (c .before .is-proper2 .ensures) ∙ c .if2 .left)
 
 returns-3 : tie.Need-returns-3
 returns-3 c =
     let b = c .before .before .before .before .before .before .before .before .before in
-    summed-left-bad (b .args .version) (b .args .lhs .removed) (ours b) (b .args .rhs .removed) (rhs b) (sym (c .before .is-proper .ensures) ∙ c .if1 .left)
+    summed-left-bad (b .args .version) (b .args .lhs .removed) (ours b) (b .args .rhs .removed) (rhs b)
+    (sym (c .before .is-proper .ensures) ∙ c .if1 .left)
 
 pub add-assign-spec : {M : Type 1} → statement M
 add-assign-spec =
@@ -35,7 +43,11 @@ add-assign-spec =
     (tie.spec
     (λ c κs. search needs)
     (λ c κs. search needs)
-    (λ c κs. (sym (c .before .before .before .before .before .before .is-proper .ensures) ∙ c .before .before .before .before .before .if1 .taken, sym (c .before .before .before .before .is-proper2 .ensures) ∙ c .before .before .before .if2 .taken))
+    (λ c κs.
+    let at-is-proper2 = c .before .before .before .before in
+    let at-if1 = at-is-proper2 .before in
+    let at-is-proper = at-if1 .before in
+    (sym (at-is-proper .is-proper .ensures) ∙ at-if1 .if1 .taken, sym (at-is-proper2 .is-proper2 .ensures) ∙ c .before .before .before .if2 .taken))
     (λ c. search needs)
     (λ c. search needs)
     (λ c. search needs)

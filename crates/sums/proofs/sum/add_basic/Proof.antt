@@ -11,9 +11,11 @@ use Rattle.sums.proofs.sum.add_basic.Tie as tie
 
 returns : tie.Need-returns
 returns c =
-    let b = c .before .before .before .before .before .before .before .before .before .before .before .before .before .before in
-    c .before .before .before .before .before .add-rows .ensures
-    ∙ ap (λ (l : List Row). placing (sectioned l) (tables (b .args .ids .now) (b .args .epochs .now) (b .args .bytes .now))) (one-joined (b .args .removed-bytes) (b .pre))
+    let at-add-rows = c .before .before .before .before .before in
+    let b = at-add-rows .before .before .before .before .before .before .before .before .before in
+    at-add-rows .add-rows .ensures
+    ∙ ap (λ (l : List Row). placing (sectioned l) (tables (b .args .ids .now) (b .args .epochs .now) (b .args .bytes .now)))
+    (one-joined (b .args .removed-bytes) (b .pre))
 
 pub add-basic-spec : {M : Type 1} → statement M
 add-basic-spec =
@@ -22,7 +24,9 @@ add-basic-spec =
     (λ c. search needs)
     (λ c. search needs)
     (λ c. search needs)
-    (λ c κs. (c .before .before .before .before .before .before .before .before .pre, one-proper (c .before .before .before .before .before .before .before .before .args .removed-bytes)))
+    (λ c κs.
+    let start = c .before .before .before .before .before .before .before .before in
+    (start .pre, one-proper (start .args .removed-bytes)))
     (λ c. search needs)
     (λ c. search needs)
     (λ c. search needs)

@@ -23,17 +23,30 @@ left c x = placing (sum (c .args .version) (removalOf x (ours c)) (removalOf (c 
 
 add-to-sectioned-requires : tie.Need-add-to-sectioned-requires
 add-to-sectioned-requires c κs =
-    let b = c .before .before .before .before .before .before .before .before .before .before in
-    (proper-sectioned (b .args .lhs) _ (ours b) (b .pre .0) (c .before .before .before .before .lhs2 .given .1), b .pre .1)
+    let at-lhs2 = c .before .before .before .before in
+    let b = at-lhs2 .before .before .before .before .before .before in
+    (proper-sectioned (b .args .lhs) _ (ours b) (b .pre .0) (at-lhs2 .lhs2 .given .1), b .pre .1)
 
 returns : tie.Need-returns
-returns c = c .before .before .before .before .before .add-to-none .ensures ∙ ap (left (c .before .before .before .before .before .before .before .before .before .before .before .before .before .before .before)) (sym (c .before .before .before .before .before .before .before .before .before .enum-told .given .1))
+returns c =
+    let at-add-to-none = c .before .before .before .before .before in
+    let at-enum-told = at-add-to-none .before .before .before .before in
+    let start = at-enum-told .before .before .before .before .before .before in
+    at-add-to-none .add-to-none .ensures ∙ ap (left start) (sym (at-enum-told .enum-told .given .1))
 
 returns-2 : tie.Need-returns-2
-returns-2 c = c .before .before .before .before .before .add-to-basic .ensures ∙ ap (left (c .before .before .before .before .before .before .before .before .before .before .before .before .before .before .before .before)) (sym (c .before .before .before .before .before .before .before .before .before .before .lhs .given .1))
+returns-2 c =
+    let at-add-to-basic = c .before .before .before .before .before in
+    let at-lhs = at-add-to-basic .before .before .before .before .before in
+    let start = at-lhs .before .before .before .before .before .before in
+    at-add-to-basic .add-to-basic .ensures ∙ ap (left start) (sym (at-lhs .lhs .given .1))
 
 returns-3 : tie.Need-returns-3
-returns-3 c = c .before .before .before .before .before .add-to-sectioned .ensures ∙ ap (left (c .before .before .before .before .before .before .before .before .before .before .before .before .before .before .before .before)) (sym (c .before .before .before .before .before .before .before .before .before .before .lhs2 .given .1))
+returns-3 c =
+    let at-add-to-sectioned = c .before .before .before .before .before in
+    let at-lhs2 = at-add-to-sectioned .before .before .before .before .before in
+    let start = at-lhs2 .before .before .before .before .before .before in
+    at-add-to-sectioned .add-to-sectioned .ensures ∙ ap (left start) (sym (at-lhs2 .lhs2 .given .1))
 
 pub add-proper-spec : {M : Type 1} → statement M
 add-proper-spec =

@@ -17,19 +17,37 @@ rhs c = tables (c .args .rhs-ids .now) (c .args .rhs-epochs .now) (c .args .rhs-
 
 join-in-place-requires : tie.Need-join-in-place-requires
 join-in-place-requires c κs =
-    let b = c .before .before .before .before .before .before .before .before .before .before .before .before .before .before .before .before in
-    (b .pre .0, (b .pre .1, (c .before .before .before .before .before .before .before .before .count-joined .ensures, room-in _ (ours b) (sym (c .before .before .before .before .fit .ensures) ∙ c .before .before .before .if1 .taken))))
+    let at-fit = c .before .before .before .before in
+    let at-count-joined = at-fit .before .before .before .before in
+    let b = at-count-joined .before .before .before .before .before .before .before .before in (
+      b .pre .0,
+      (
+        b .pre .1,
+        (
+          at-count-joined .count-joined .ensures,
+          room-in _ (ours b)
+              (sym (at-fit .fit .ensures) ∙ c .before .before .before .if1 .taken),
+        ),
+      ),
+    )
 
 returns : tie.Need-returns
 returns c =
-    let b = c .before .before .before .before .before .before .before .before .before .before .before .before .before .before .before .before .before .before .before .before .before .before in
-    placing-fits (joined (rowsIn (b .args .n) (ours b)) (rowsIn (b .args .m) (rhs b))) _ (ours b) (c .before .before .before .before .before .before .before .before .before .before .before .before .before .before .count-joined .ensures) _ (sym (c .before .before .before .before .before .before .before .before .before .before .fit .ensures) ∙ c .before .before .before .before .before .before .before .before .before .if1 .taken)
-    (c .before .before .before .before .before .join-in-place .ensures)
+    let at-join-in-place = c .before .before .before .before .before in
+    let at-if1 = at-join-in-place .before .before .before .before in
+    let at-fit = at-if1 .before in
+    let at-count-joined = at-fit .before .before .before .before in
+    let b = at-count-joined .before .before .before .before .before .before .before .before in
+    placing-fits (joined (rowsIn (b .args .n) (ours b)) (rowsIn (b .args .m) (rhs b))) _ (ours b) (at-count-joined .count-joined .ensures) _
+    (sym (at-fit .fit .ensures) ∙ at-if1 .if1 .taken)
+    (at-join-in-place .join-in-place .ensures)
 
 returns-2 : tie.Need-returns-2
 returns-2 c =
-    let b = c .before .before .before .before .before .before .before .before .before .before .before .before .before in
-    placing-short (joined (rowsIn (b .args .n) (ours b)) (rowsIn (b .args .m) (rhs b))) _ (ours b) (c .before .before .before .before .before .count-joined .ensures) (sym (c .before .fit .ensures) ∙ c .if1 .left)
+    let at-count-joined = c .before .before .before .before .before in
+    let b = at-count-joined .before .before .before .before .before .before .before .before in
+    placing-short (joined (rowsIn (b .args .n) (ours b)) (rowsIn (b .args .m) (rhs b))) _ (ours b) (at-count-joined .count-joined .ensures)
+    (sym (c .before .fit .ensures) ∙ c .if1 .left)
 
 pub add-rows-spec : {M : Type 1} → statement M
 add-rows-spec =

@@ -21,33 +21,55 @@ rhs c = tables (c .args .rhs-ids .now) (c .args .rhs-epochs .now) (c .args .rhs-
 
 join-in-place-requires : tie.Need-join-in-place-requires
 join-in-place-requires c κs =
-    let b = c .before .before .before .before .before .before .before .before .before .before .before .before .before .before .before .before in
-    let room = room-in _ (ours b) (sym (c .before .before .before .before .fit .ensures) ∙ c .before .before .before .if1 .taken) in
-    (proper-none _, (b .pre, (sym (ap (length {A = Row}) (joined-nothing (rowsIn (b .args .m) (rhs b))) ∙ length-rows (b .pre .room)), first-room (b .args .removed-bytes) (b .pre) (c .before .before .before .before .before .before .before .before .count-joined .ensures) room)))
+    let at-fit = c .before .before .before .before in
+    let at-count-joined = at-fit .before .before .before .before in
+    let b = at-count-joined .before .before .before .before .before .before .before .before in
+    let room = room-in _ (ours b) (sym (at-fit .fit .ensures) ∙ c .before .before .before .if1 .taken) in (
+      proper-none _,
+      (
+        b .pre,
+        (
+          sym (ap (length {A = Row}) (joined-nothing (rowsIn (b .args .m) (rhs b))) ∙ length-rows (b .pre .room)),
+          first-room
+              (b .args .removed-bytes) (b .pre) (at-count-joined .count-joined .ensures) room,
+        ),
+      ),
+    )
 
 join-in-place-requires-2 : tie.Need-join-in-place-requires-2
 join-in-place-requires-2 c κs =
-    let b = c .before .before .before .before .before .before .before .before .before .before .before .before .before .before .before .before .before .before .before .before .before .before .before .before .before .before .before .before in
+    let at-join-in-place = c .before .before .before .before .before .before .before .before .before .before .before in
+    let at-if1 = at-join-in-place .before .before .before .before in
+    let at-fit = at-if1 .before in
+    let at-count-joined = at-fit .before .before .before .before in
+    let b = at-count-joined .before .before .before .before .before .before .before .before in
     let n = b .args .removed-bytes in
-    let count = c .before .before .before .before .before .before .before .before .before .before .before .before .before .before .before .before .before .before .before .before .count-joined .ensures in
-    let room = room-in _ (ours b) (sym (c .before .before .before .before .before .before .before .before .before .before .before .before .before .before .before .before .fit .ensures) ∙ c .before .before .before .before .before .before .before .before .before .before .before .before .before .before .before .if1 .taken) in
-    let first = c .before .before .before .before .before .before .before .before .before .before .before .join-in-place .ensures in
+    let count = at-count-joined .count-joined .ensures in
+    let room = room-in _ (ours b) (sym (at-fit .fit .ensures) ∙ at-if1 .if1 .taken) in
+    let first = at-join-in-place .join-in-place .ensures in
     (then-proper n (b .pre) count room first, (one-proper n, (then-counted n (b .pre) count room first, then-room n (b .pre) count room first)))
 
 returns : tie.Need-returns
 returns c =
-    let b = c .before .before .before .before .before .before .before .before .before .before .before .before .before .before .before .before .before .before .before .before .before .before .before .before .before .before .before .before .before .before .before .before .before .before in
+    let at-join-in-place2 = c .before .before .before .before .before in
+    let at-join-in-place = at-join-in-place2 .before .before .before .before .before .before .before .before .before .before .before .before in
+    let at-if1 = at-join-in-place .before .before .before .before in
+    let at-fit = at-if1 .before in
+    let at-count-joined = at-fit .before .before .before .before in
+    let b = at-count-joined .before .before .before .before .before .before .before .before in
     let n = b .args .removed-bytes in
-    let count = c .before .before .before .before .before .before .before .before .before .before .before .before .before .before .before .before .before .before .before .before .before .before .before .before .before .before .count-joined .ensures in
-    let fits = sym (c .before .before .before .before .before .before .before .before .before .before .before .before .before .before .before .before .before .before .before .before .before .before .fit .ensures) ∙ c .before .before .before .before .before .before .before .before .before .before .before .before .before .before .before .before .before .before .before .before .before .if1 .taken in
+    let count = at-count-joined .count-joined .ensures in
+    let fits = sym (at-fit .fit .ensures) ∙ at-if1 .if1 .taken in
     placing-fits (addRow (unknown n) (rowsIn (b .args .m) (rhs b))) _ (ours b) (count ∙ ap (length {A = Row}) (one-joined n (b .pre))) _ fits
-    (then-over n (b .pre) count (room-in _ (ours b) fits) (c .before .before .before .before .before .before .before .before .before .before .before .before .before .before .before .before .before .join-in-place .ensures) (c .before .before .before .before .before .join-in-place2 .ensures))
+    (then-over n (b .pre) count (room-in _ (ours b) fits) (at-join-in-place .join-in-place .ensures) (at-join-in-place2 .join-in-place2 .ensures))
 
 returns-2 : tie.Need-returns-2
 returns-2 c =
-    let b = c .before .before .before .before .before .before .before .before .before .before .before .before .before in
+    let at-count-joined = c .before .before .before .before .before in
+    let b = at-count-joined .before .before .before .before .before .before .before .before in
     let n = b .args .removed-bytes in
-    placing-short (addRow (unknown n) (rowsIn (b .args .m) (rhs b))) _ (ours b) (c .before .before .before .before .before .count-joined .ensures ∙ ap (length {A = Row}) (one-joined n (b .pre))) (sym (c .before .fit .ensures) ∙ c .if1 .left)
+    placing-short (addRow (unknown n) (rowsIn (b .args .m) (rhs b))) _ (ours b)
+    (at-count-joined .count-joined .ensures ∙ ap (length {A = Row}) (one-joined n (b .pre))) (sym (c .before .fit .ensures) ∙ c .if1 .left)
 
 pub add-rows-to-basic-spec : {M : Type 1} → statement M
 add-rows-to-basic-spec =
@@ -56,7 +78,9 @@ add-rows-to-basic-spec =
     (λ c. search needs)
     (λ c. search needs)
     (λ c. search needs)
-    (λ c κs. (c .before .before .before .before .before .before .before .pre, one-proper (c .before .before .before .before .before .before .before .args .removed-bytes)))
+    (λ c κs.
+    let start = c .before .before .before .before .before .before .before in
+    (start .pre, one-proper (start .args .removed-bytes)))
     (λ c κs. search needs)
     join-in-place-requires
     (λ c. search needs)

@@ -23,26 +23,40 @@ left c l = placing (sectioned l) (tables (c .args .ids .now) (c .args .epochs .n
 
 returns : tie.Need-returns
 returns c =
-    let b = c .before .before .before .before .before .before .before .before .before .before .before .before .before .before in
-    c .before .before .before .before .before .add-rows-to-basic .ensures ∙ ap (left b) (sym (basic-later (b .args .version) (b .args .removed-bytes) _ (c .before .before .before .before .before .before .before .before .before .if1 .taken)))
+    let at-add-rows-to-basic = c .before .before .before .before .before in
+    let at-if1 = at-add-rows-to-basic .before .before .before .before in
+    let b = at-if1 .before .before .before .before .before in
+    at-add-rows-to-basic .add-rows-to-basic .ensures ∙ ap (left b)
+    (sym (basic-later (b .args .version) (b .args .removed-bytes) _ (at-if1 .if1 .taken)))
 
 returns-2 : tie.Need-returns-2
 returns-2 c =
-    let b = c .before .before .before .before .before .before .before .before .before .before .before .before .before .before .before .before in
-    c .before .before .before .before .before .add-rows-to-basic2 .ensures
-    ∙ ap (left b) (sym (basic-made (b .args .version) (b .args .removed-bytes) (c .before .before .before .before .before .before .before .before .before .before .count-lost .ensures) (omega (arith, c .before .before .before .before .before .before .before .before .before .if2 .taken))))
+    let at-add-rows-to-basic2 = c .before .before .before .before .before in
+    let at-if2 = at-add-rows-to-basic2 .before .before .before .before in
+    let at-count-lost = at-if2 .before in
+    let b = at-count-lost .before .before .before .before .before .before in
+    at-add-rows-to-basic2 .add-rows-to-basic2 .ensures
+    ∙ ap (left b) (sym (basic-made (b .args .version) (b .args .removed-bytes) (at-count-lost .count-lost .ensures)
+    (omega (arith, at-if2 .if2 .taken))))
 
 add-rows-requires : tie.Need-add-rows-requires
-add-rows-requires c κs = (proper-none _, part-proper _ _ (rhs (c .before .before .before .before .before .before .before .before .before .before .before .before .before)) (c .before .before .before .before .before .before .before .count-lost .ensures .within) (c .before .before .before .before .before .before .before .before .before .before .before .before .before .pre))
+add-rows-requires c κs =
+    let at-count-lost = c .before .before .before .before .before .before .before in
+    let start = at-count-lost .before .before .before .before .before .before in
+    (proper-none _, part-proper _ _ (rhs start) (at-count-lost .count-lost .ensures .within) (start .pre))
 
 returns-3 : tie.Need-returns-3
 returns-3 c =
-    let b = c .before .before .before .before .before .before .before .before .before .before .before .before .before .before .before .before .before .before .before in
-    let l = c .before .before .before .before .before .before .before .before .before .before .before .before .before .count-lost .ensures in
-    c .before .before .before .before .before .add-rows .ensures
+    let at-add-rows = c .before .before .before .before .before in
+    let at-if2 = at-add-rows .before .before .before .before .before .before .before in
+    let at-count-lost = at-if2 .before in
+    let at-if1 = at-count-lost .before in
+    let b = at-if1 .before .before .before .before .before in
+    let l = at-count-lost .count-lost .ensures in
+    at-add-rows .add-rows .ensures
     ∙ ap (left b)
     (joined-nothing _ ∙ part-rows _ _ (rhs b) (l .within)
-    ∙ sym (basic-lost (b .args .version) (b .args .removed-bytes) l (omega (arith, c .before .before .before .before .before .before .before .before .before .before .before .before .before .before .if1 .left)) (omega (arith, c .before .before .before .before .before .before .before .before .before .before .before .before .if2 .left))))
+    ∙ sym (basic-lost (b .args .version) (b .args .removed-bytes) l (omega (arith, at-if1 .if1 .left)) (omega (arith, at-if2 .if2 .left))))
 
 pub add-rows-to-basic-for-version-spec : {M : Type 1} → statement M
 add-rows-to-basic-for-version-spec =

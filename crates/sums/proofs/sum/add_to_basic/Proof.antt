@@ -27,7 +27,8 @@ left c y = placing (sum (c .args .version) (basic (c .args .removed-bytes)) (rem
 returns-2 : tie.Need-returns-2
 returns-2 c =
     let b = c .before .before .before .before .before .before .before .before in
-    ap (λ (n : ℕ). done (Basic n) (ours b)) (c .saturating-add .ensures) ∙ placing-basic (ours b) _ ∙ ap (left b) (sym (c .before .before .rhs .given .1))
+    ap (λ (n : ℕ). done (Basic n) (ours b)) (c .saturating-add .ensures) ∙ placing-basic (ours b) _ ∙ ap (left b)
+    (sym (c .before .before .rhs .given .1))
 
 pub add-to-basic-spec : {M : Type 1} → statement M
 add-to-basic-spec =
@@ -37,10 +38,19 @@ add-to-basic-spec =
     (λ c. search needs)
     (λ c κs. search needs)
     (λ c. search needs)
-    (λ c κs. proper-sectioned (c .before .before .before .before .before .before .before .before .before .before .args .rhs) _ (rhs (c .before .before .before .before .before .before .before .before .before .before)) (c .before .before .before .before .before .before .before .before .before .before .pre) (c .before .before .before .before .rhs2 .given .1))
-    (λ c. placing-basic (ours (c .before .before .before .before .before .before)) _ ∙ ap (left (c .before .before .before .before .before .before)) (sym (c .enum-told .given .1)))
+    (λ c κs.
+    let at-rhs2 = c .before .before .before .before in
+    let start = at-rhs2 .before .before .before .before .before .before in
+    proper-sectioned (start .args .rhs) _ (rhs start) (start .pre) (at-rhs2 .rhs2 .given .1))
+    (λ c.
+    let start = c .before .before .before .before .before .before in
+    placing-basic (ours start) _ ∙ ap (left start) (sym (c .enum-told .given .1)))
     returns-2
     (λ c. search needs)
     (λ c. search needs)
     (λ c. search needs)
-    (λ c. c .before .before .before .before .before .add-rows-to-basic-for-version .ensures ∙ ap (left (c .before .before .before .before .before .before .before .before .before .before .before .before .before .before .before .before)) (sym (c .before .before .before .before .before .before .before .before .before .before .rhs2 .given .1))))
+    (λ c.
+    let at-add-rows-to-basic-for-version = c .before .before .before .before .before in
+    let at-rhs2 = at-add-rows-to-basic-for-version .before .before .before .before .before in
+    let start = at-rhs2 .before .before .before .before .before .before in
+    at-add-rows-to-basic-for-version .add-rows-to-basic-for-version .ensures ∙ ap (left start) (sym (at-rhs2 .rhs2 .given .1))))

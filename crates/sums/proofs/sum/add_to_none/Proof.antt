@@ -27,8 +27,11 @@ left c y = placing (sum (c .args .version) nothing (removalOf y (rhs c))) (ours 
 
 returns-3 : tie.Need-returns-3
 returns-3 c =
-    let b = c .before .before .before .before .before .before .before .before .before .before .before .before .before .before .before .before in
-    c .before .before .before .before .before .add-rows .ensures ∙ ap (λ (l : List Row). placing (sectioned l) (ours b)) (joined-nothing _) ∙ ap (left b) (sym (c .before .before .before .before .before .before .before .before .before .before .rhs2 .given .1))
+    let at-add-rows = c .before .before .before .before .before in
+    let at-rhs2 = at-add-rows .before .before .before .before .before in
+    let b = at-rhs2 .before .before .before .before .before .before in
+    at-add-rows .add-rows .ensures ∙ ap (λ (l : List Row). placing (sectioned l) (ours b)) (joined-nothing _) ∙ ap (left b)
+    (sym (at-rhs2 .rhs2 .given .1))
 
 pub add-to-none-spec : {M : Type 1} → statement M
 add-to-none-spec =
@@ -37,9 +40,16 @@ add-to-none-spec =
     (λ c. search needs)
     (λ c. search needs)
     (λ c. search needs)
-    (λ c κs. (proper-none _, proper-sectioned (c .before .before .before .before .before .before .before .before .before .before .args .rhs) _ (rhs (c .before .before .before .before .before .before .before .before .before .before)) (c .before .before .before .before .before .before .before .before .before .before .pre) (c .before .before .before .before .rhs2 .given .1)))
-    (λ c. placing-nothing (ours (c .before .before .before .before .before .before)) ∙ ap (left (c .before .before .before .before .before .before)) (sym (c .enum-told .given .1)))
-    (λ c. placing-basic (ours (c .before .before .before .before .before .before .before)) _ ∙ ap (left (c .before .before .before .before .before .before .before)) (sym (c .before .rhs .given .1)))
+    (λ c κs.
+    let at-rhs2 = c .before .before .before .before in
+    let start = at-rhs2 .before .before .before .before .before .before in
+    (proper-none _, proper-sectioned (start .args .rhs) _ (rhs start) (start .pre) (at-rhs2 .rhs2 .given .1)))
+    (λ c.
+    let start = c .before .before .before .before .before .before in
+    placing-nothing (ours start) ∙ ap (left start) (sym (c .enum-told .given .1)))
+    (λ c.
+    let start = c .before .before .before .before .before .before .before in
+    placing-basic (ours start) _ ∙ ap (left start) (sym (c .before .rhs .given .1)))
     (λ c. search needs)
     (λ c. search needs)
     (λ c. search needs)

@@ -24,8 +24,9 @@ left c y = placing (sum (c .args .version) (sectioned (rowsIn (c .args .n) (ours
 
 add-rows-requires : tie.Need-add-rows-requires
 add-rows-requires c κs =
-    let b = c .before .before .before .before .before .before .before .before .before .before in
-    (b .pre .0, proper-sectioned (b .args .rhs) _ (rhs b) (b .pre .1) (c .before .before .before .before .rhs2 .given .1))
+    let at-rhs2 = c .before .before .before .before in
+    let b = at-rhs2 .before .before .before .before .before .before in
+    (b .pre .0, proper-sectioned (b .args .rhs) _ (rhs b) (b .pre .1) (at-rhs2 .rhs2 .given .1))
 
 returns : tie.Need-returns
 returns c =
@@ -33,10 +34,18 @@ returns c =
     placing-stays (b .pre .0 .room) ∙ ap (left b) (sym (c .enum-told .given .1))
 
 returns-2 : tie.Need-returns-2
-returns-2 c = c .before .before .before .before .before .add-basic .ensures ∙ ap (left (c .before .before .before .before .before .before .before .before .before .before .before .before .before .before .before .before)) (sym (c .before .before .before .before .before .before .before .before .before .before .rhs .given .1))
+returns-2 c =
+    let at-add-basic = c .before .before .before .before .before in
+    let at-rhs = at-add-basic .before .before .before .before .before in
+    let start = at-rhs .before .before .before .before .before .before in
+    at-add-basic .add-basic .ensures ∙ ap (left start) (sym (at-rhs .rhs .given .1))
 
 returns-3 : tie.Need-returns-3
-returns-3 c = c .before .before .before .before .before .add-rows .ensures ∙ ap (left (c .before .before .before .before .before .before .before .before .before .before .before .before .before .before .before .before)) (sym (c .before .before .before .before .before .before .before .before .before .before .rhs2 .given .1))
+returns-3 c =
+    let at-add-rows = c .before .before .before .before .before in
+    let at-rhs2 = at-add-rows .before .before .before .before .before in
+    let start = at-rhs2 .before .before .before .before .before .before in
+    at-add-rows .add-rows .ensures ∙ ap (left start) (sym (at-rhs2 .rhs2 .given .1))
 
 pub add-to-sectioned-spec : {M : Type 1} → statement M
 add-to-sectioned-spec =

@@ -17,17 +17,31 @@ abbrev μ-loop : tie.MeasureT-loop
 
 -- no identifier is less than the zeros
 returns : tie.Need-returns Inv-loop μ-loop
-returns c = absurd (zeros-least 32 _ (c .before .before .before .before .compare-ids-arg2 .given .0) (sym (c .before .before .compare-ids .ensures) ∙ c .enum-told .given .1))
+returns c =
+    let at-compare-ids-arg2 = c .before .before .before .before in
+    absurd (zeros-least 32 _ (at-compare-ids-arg2 .compare-ids-arg2 .given .0)
+    (sym (c .before .before .compare-ids .ensures) ∙ c .enum-told .given .1))
 
 loop-again : tie.Need-loop-again Inv-loop μ-loop
 loop-again c =
-    let l = c .before .before .before .before .before .before .before .loop in
-    (omega arith, losing-more (c .before .before .before .before .before .before .before .before .before .before .pre) (l .i) (l .inv .1) (c .before .before .before .before .before .before .loop-test .taken) (sym (c .before .before .compare-ids .ensures) ∙ c .enum-told2 .given .1))
+    let at-loop-test = c .before .before .before .before .before .before in
+    let at-loop = at-loop-test .before in
+    let start = at-loop .before .before .before in
+    let l = at-loop .loop in (
+      omega arith,
+      losing-more (start .pre) (l .i) (l .inv .1) (at-loop-test .loop-test .taken)
+          (sym (c .before .before .compare-ids .ensures) ∙ c .enum-told2 .given .1),
+    )
 
 returns-2 : tie.Need-returns-2 Inv-loop μ-loop
 returns-2 c =
-    let l = c .before .before .before .before .before .before .before .loop in
-    losing-stop (c .before .before .before .before .before .before .before .before .before .before .pre) (l .i) (l .inv .1) (c .before .before .before .before .before .before .loop-test .taken) (c .before .before .before .before .compare-ids-arg2 .given .0) (sym (c .before .before .compare-ids .ensures) ∙ c .enum-told3 .given .1)
+    let at-compare-ids-arg2 = c .before .before .before .before in
+    let at-loop-test = at-compare-ids-arg2 .before .before in
+    let at-loop = at-loop-test .before in
+    let start = at-loop .before .before .before in
+    let l = at-loop .loop in
+    losing-stop (start .pre) (l .i) (l .inv .1) (at-loop-test .loop-test .taken) (at-compare-ids-arg2 .compare-ids-arg2 .given .0)
+    (sym (c .before .before .compare-ids .ensures) ∙ c .enum-told3 .given .1)
 
 pub count-lost-spec : {M : Type 1} → statement M
 count-lost-spec =
@@ -36,8 +50,8 @@ count-lost-spec =
     Inv-loop
     μ-loop
     (λ c. (omega arith, losing-start _))
-    (λ c. omega (arith, c .before .before .before .before .pre .room .ids-long, c .before .before .before .before .good))
-    (λ c. omega (arith, c .before .before .before .before .pre .room .ids-long))
+    (λ c. let start = c .before .before .before .before in omega (arith, start .pre .room .ids-long, start .good))
+    (λ c. let start = c .before .before .before .before in omega (arith, start .pre .room .ids-long))
     (λ c. search needs)
     (λ c κs. search needs)
     (λ c. search needs)
@@ -48,4 +62,6 @@ count-lost-spec =
     loop-again
     (λ c. search needs)
     returns-2
-    (λ c. losing-end (c .before .before .before .before .pre) _ (c .before .loop .inv .1) (c .before .loop .inv .0) (c .loop-test .left)))
+    (λ c.
+    let start = c .before .before .before .before in
+    losing-end (start .pre) _ (c .before .loop .inv .1) (c .before .loop .inv .0) (c .loop-test .left)))

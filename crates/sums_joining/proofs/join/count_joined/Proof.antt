@@ -16,7 +16,8 @@ abbrev μ-loop : tie.MeasureT-loop
 
 last-row-requires : tie.Need-last-row-requires Inv-loop μ-loop
 last-row-requires c κs =
-    let p = c .before .before .before .before .before .before .pre in
+    let start = c .before .before .before .before .before .before in
+    let p = start .pre in
     let l = c .before .loop .inv in
     (proper-first _ (l .ours-left) (p .0), (proper-first _ (l .theirs-left) (p .1), c .loop-test .taken))
 
@@ -28,8 +29,14 @@ count-joined-spec =
     μ-loop
     (λ c. counting-start _ _ _ _)
     last-row-requires
-    (λ c. omega (arith, c .before .before .loop .inv .small, c .before .before .before .before .before .before .before .pre .0 .room .ids-long, c .before .before .before .before .before .before .before .pre .1 .room .ids-long, c .before .before .before .before .before .before .before .good))
+    (λ c.
+    let start = c .before .before .before .before .before .before .before in
+    omega (arith, c .before .before .loop .inv .small, start .pre .0 .room .ids-long, start .pre .1 .room .ids-long, start .good))
     (λ c. c .last-row .ensures .falls)
     (λ c. counting-step (c .before .before .loop .inv) (c .last-row .ensures))
-    (λ c. omega (arith, c .before .loop .inv .small, c .before .before .before .before .before .before .pre .0 .room .ids-long, c .before .before .before .before .before .before .pre .1 .room .ids-long, c .before .before .before .before .before .before .good))
-    (λ c. counting-done (c .before .loop .inv) (c .before .before .before .before .before .before .pre .0) (c .loop-test .left)))
+    (λ c.
+    let start = c .before .before .before .before .before .before in
+    omega (arith, c .before .loop .inv .small, start .pre .0 .room .ids-long, start .pre .1 .room .ids-long, start .good))
+    (λ c.
+    let start = c .before .before .before .before .before .before in
+    counting-done (c .before .loop .inv) (start .pre .0) (c .loop-test .left)))

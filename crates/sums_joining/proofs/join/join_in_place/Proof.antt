@@ -15,22 +15,31 @@ abbrev μ-loop : tie.MeasureT-loop
 μ-loop ids₀ epochs₀ bytes₀ n rhs-ids rhs-epochs rhs-bytes m count i₀ j₀ k₀ ids epochs bytes i j k = i + j
 
 loop-holds : tie.Need-loop-holds Inv-loop μ-loop
-loop-holds c = let p = c .before .before .before .before .pre in walking-start _ _ _ _ _ (p .1 .1 .0) (p .1 .1 .1)
+loop-holds c =
+    let start = c .before .before .before .before in
+    let p = start .pre in walking-start _ _ _ _ _ (p .1 .1 .0) (p .1 .1 .1)
 
 last-row-requires : tie.Need-last-row-requires Inv-loop μ-loop
 last-row-requires c κs =
-    let p = c .before .before .before .before .before .before .before .before .before .pre in
-    let l = c .before .before .before .before .loop .inv in
+    let at-loop = c .before .before .before .before in
+    let start = at-loop .before .before .before .before .before in
+    let p = start .pre in
+    let l = at-loop .loop .inv in
     (walking-ours (p .0) (p .1 .0) l, (walking-theirs (p .0) (p .1 .0) l, c .before .before .before .loop-test .taken))
 
 loop-again : tie.Need-loop-again Inv-loop μ-loop
 loop-again c =
-    let p = c .before .before .before .before .before .before .before .before .before .before .before .before .before .before .before .before .before .before .before .before .pre in
-    walking-step (p .0) (p .1 .0) (c .before .before .before .before .before .before .before .before .before .before .before .before .before .before .before .loop .inv) (c .before .before .before .before .before .before .before .before .before .before .last-row .ensures) (c .before .before .before .before .before .put-row .ensures)
+    let at-put-row = c .before .before .before .before .before in
+    let at-last-row = at-put-row .before .before .before .before .before in
+    let at-loop = at-last-row .before .before .before .before .before in
+    let start = at-loop .before .before .before .before .before in
+    let p = start .pre in
+    walking-step (p .0) (p .1 .0) (at-loop .loop .inv) (at-last-row .last-row .ensures) (at-put-row .put-row .ensures)
 
 returns : tie.Need-returns Inv-loop μ-loop
 returns c =
-    let p = c .before .before .before .before .before .before .pre in
+    let start = c .before .before .before .before .before .before in
+    let p = start .pre in
     walking-done (p .0) (p .1 .0) (c .before .loop .inv) (c .loop-test .left)
 
 pub join-in-place-spec : {M : Type 1} → statement M
@@ -41,9 +50,18 @@ join-in-place-spec =
     μ-loop
     loop-holds
     last-row-requires
-    (λ c. let p = c .before .before .before .before .before .before .before .before .before .before .pre in omega (arith, walking-room (p .0) (p .1 .0) (c .before .before .before .before .before .loop .inv) (c .last-row .ensures) .0))
-    (λ c κs. let p = c .before .before .before .before .before .before .before .before .before .before .before .before .before .before .pre in walking-room (p .0) (p .1 .0) (c .before .before .before .before .before .before .before .before .before .loop .inv) (c .before .before .before .before .last-row .ensures) .1)
-    (λ c. c .before .before .before .before .before .before .before .before .before .before .last-row .ensures .falls)
+    (λ c.
+    let at-loop = c .before .before .before .before .before in
+    let start = at-loop .before .before .before .before .before in
+    let p = start .pre in omega (arith, walking-room (p .0) (p .1 .0) (at-loop .loop .inv) (c .last-row .ensures) .0))
+    (λ c κs.
+    let at-last-row = c .before .before .before .before in
+    let at-loop = at-last-row .before .before .before .before .before in
+    let start = at-loop .before .before .before .before .before in
+    let p = start .pre in walking-room (p .0) (p .1 .0) (at-loop .loop .inv) (at-last-row .last-row .ensures) .1)
+    (λ c.
+    let at-last-row = c .before .before .before .before .before .before .before .before .before .before in
+    at-last-row .last-row .ensures .falls)
     loop-again
     (λ c. backing-long (c .before .loop .inv .back) .0)
     (λ c. backing-long (c .before .loop .inv .back) .1)

@@ -14,5 +14,6 @@ count-at-spec =
     (λ c κs. search needs)
     (λ c κs. search needs)
     (λ c. search needs)
-    (λ c. ap (λ (s : Spot). s .count) (c .before .look-up .ensures) ∙ sym (total-of true _ _ _ 0 _ (sym (c .before .before .if1 .taken) ∙ c .before .before .before .same-owner .ensures)))
+    (λ c. ap (λ (s : Spot). s .count) (c .before .look-up .ensures)
+    ∙ sym (total-of true _ _ _ 0 _ (sym (c .before .before .if1 .taken) ∙ c .before .before .before .same-owner .ensures)))
     (λ c. sym (total-of false _ _ _ 0 _ (sym (c .if1 .left) ∙ c .before .same-owner .ensures))))

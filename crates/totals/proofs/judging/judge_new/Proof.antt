@@ -20,20 +20,28 @@ use Rattle.totals.proofs.judging.judge_new.Tie as tie
 abbrev Inv-loop : tie.InvT-loop
 Inv-loop owners epochs totals n old-owner old-epochs old-counts new-owner new-epochs new-counts made₀ i₀ made i =
     let ns = under new-owner new-epochs new-counts in
-    (i ≤ length new-epochs) × (made ≤ i) × NewsJudged (under old-owner old-epochs old-counts) ns (drop i ns) (rowsIn n (tables owners epochs totals)) made
+    (i ≤ length new-epochs) × (made ≤ i) × NewsJudged (under old-owner old-epochs old-counts) ns (drop i ns)
+    (rowsIn n (tables owners epochs totals)) made
 
 abbrev μ-loop : tie.MeasureT-loop
 μ-loop owners epochs totals n old-owner old-epochs old-counts new-owner new-epochs new-counts made₀ i₀ made i = length new-epochs - i
 
 -- the new row at hand, the table and the old rows
 abbrev new : tie.After-count-at Inv-loop μ-loop → Row
-new c = let a = c .before .before .before .before .before .before .before .before .before .before .before .before .args in let i = c .before .before .before .before .before .loop .i in row (a .new-owner) (getD (a .new-epochs .now) i 0) (getD (a .new-counts .now) i 0)
+new c =
+    let at-loop = c .before .before .before .before .before in
+    let start = at-loop .before .before .before .before .before .before .before in
+    let a = start .args in let i = at-loop .loop .i in row (a .new-owner) (getD (a .new-epochs .now) i 0) (getD (a .new-counts .now) i 0)
 
 abbrev table : tie.After-count-at Inv-loop μ-loop → List Row
-table c = let a = c .before .before .before .before .before .before .before .before .before .before .before .before .args in rowsIn (a .n) (tables (a .owners .now) (a .epochs .now) (a .totals .now))
+table c =
+    let start = c .before .before .before .before .before .before .before .before .before .before .before .before in
+    let a = start .args in rowsIn (a .n) (tables (a .owners .now) (a .epochs .now) (a .totals .now))
 
 abbrev olds : tie.After-count-at Inv-loop μ-loop → List Row
-olds c = let a = c .before .before .before .before .before .before .before .before .before .before .before .before .args in under (a .old-owner) (a .old-epochs .now) (a .old-counts .now)
+olds c =
+    let start = c .before .before .before .before .before .before .before .before .before .before .before .before in
+    let a = start .args in under (a .old-owner) (a .old-epochs .now) (a .old-counts .now)
 
 module _ (c : tie.After-count-at Inv-loop μ-loop) where
   found : c .before .look-up .result .total ≡ totalAt (new c) (table c)
@@ -45,25 +53,37 @@ module _ (c : tie.After-count-at Inv-loop μ-loop) where
   -- the total holds the old count
   enough : c .count-at .result ≤ c .before .look-up .result .total
   enough =
-      let p = c .before .before .before .before .before .before .before .before .before .before .before .before .pre .1 in
+      let start = c .before .before .before .before .before .before .before .before .before .before .before .before in
+      let p = start .pre .1 in
       omega (arith, found, taken, covered-total (table c) (olds c) (under-ascends _ (p .0)) (p .1 .1) (new c))
 
-  next : drop (c .before .before .before .before .before .loop .i) (under (c .before .before .before .before .before .before .before .before .before .before .before .before .args .new-owner) (c .before .before .before .before .before .before .before .before .before .before .before .before .args .new-epochs .now) (c .before .before .before .before .before .before .before .before .before .before .before .before .args .new-counts .now))
-      ≡ new c ∷ drop (c .before .before .before .before .before .loop .i + 1) (under (c .before .before .before .before .before .before .before .before .before .before .before .before .args .new-owner) (c .before .before .before .before .before .before .before .before .before .before .before .before .args .new-epochs .now) (c .before .before .before .before .before .before .before .before .before .before .before .before .args .new-counts .now))
-  next = under-on _ (c .before .before .before .before .before .before .before .before .before .before .before .before .pre .1 .1 .0) (c .before .before .before .before .before .loop .i) (c .before .before .before .before .loop-test .taken)
+  next :
+      let at-loop = c .before .before .before .before .before in
+      let start = at-loop .before .before .before .before .before .before .before in
+      drop (at-loop .loop .i) (under (start .args .new-owner) (start .args .new-epochs .now) (start .args .new-counts .now))
+      ≡ new c ∷ drop (at-loop .loop .i + 1) (under (start .args .new-owner) (start .args .new-epochs .now) (start .args .new-counts .now))
+  next =
+      let at-loop-test = c .before .before .before .before in
+      let at-loop = at-loop-test .before in
+      let start = at-loop .before .before .before .before .before .before .before in
+      under-on _ (start .pre .1 .1 .0) (at-loop .loop .i) (at-loop-test .loop-test .taken)
 
 returns : tie.Need-returns Inv-loop μ-loop
 returns c =
     let b = c .before in
-    news-over (new b) _ (next b) (c .before .before .before .before .before .before .loop .inv .2) (omega (arith, found b, taken b, enough b, c .if1 .taken))
+    let at-loop = b .before .before .before .before .before in
+    news-over (new b) _ (next b) (at-loop .loop .inv .2) (omega (arith, found b, taken b, enough b, c .if1 .taken))
 
 loop-again : tie.Need-loop-again Inv-loop μ-loop
 loop-again c =
     let b = c .before .before in
-    let l = c .before .before .before .before .before .before .before .loop in (
-      omega (arith, c .before .before .before .before .before .before .loop-test .taken),
+    let at-loop-test = b .before .before .before .before in
+    let at-loop = at-loop-test .before in
+    let l = at-loop .loop in (
+      omega (arith, at-loop-test .loop-test .taken),
       omega (arith, l .inv .1, c .one-if .ensures .1),
-      news-step (new b) _ (next b) (l .inv .2) (omega (arith, found b, taken b, enough b, c .before .if1 .left)) (c .one-if .ensures .0 ∙ rw (found b, taken b)),
+      news-step (new b) _ (next b) (l .inv .2) (omega (arith, found b, taken b, enough b, c .before .if1 .left))
+          (c .one-if .ensures .0 ∙ rw (found b, taken b)),
     )
 
 pub judge-new-spec : {M : Type 1} → statement M
@@ -76,16 +96,33 @@ judge-new-spec =
     (λ c. search needs)
     (λ c. c .before .loop-test .taken)
     (λ c. search needs)
-    (λ c. omega (arith, c .before .before .loop-test .taken, c .before .before .before .before .before .before .before .before .before .before .pre .1 .1 .0 .even))
+    (λ c.
+    let start = c .before .before .before .before .before .before .before .before .before .before in
+    omega (arith, c .before .before .loop-test .taken, start .pre .1 .1 .0 .even))
     (λ c. omega (arith, c .shared-slice-known8 .given (c .before .before .before .loop .i)))
-    (λ c κs. c .before .before .before .before .before .before .before .before .before .before .pre .0)
-    (λ c κs. c .before .before .before .before .before .before .before .before .before .before .before .pre .1 .0)
+    (λ c κs.
+    let start = c .before .before .before .before .before .before .before .before .before .before in
+    start .pre .0)
+    (λ c κs.
+    let start = c .before .before .before .before .before .before .before .before .before .before .before in
+    start .pre .1 .0)
     (λ c. enough c)
     (λ c. search needs)
     returns
     (λ c κs. search needs)
-    (λ c. omega (arith, c .before .before .before .before .before .before .loop-test .taken, c .before .before .before .before .before .before .before .loop .inv .1, c .one-if .ensures .1, c .before .before .before .before .before .before .before .before .before .before .before .before .before .before .good))
-    (λ c. omega (arith, c .before .before .before .before .before .before .loop-test .taken, c .before .before .before .before .before .before .before .before .before .before .before .before .before .before .good))
-    (λ c. omega (arith, c .before .before .before .before .before .before .loop-test .taken))
+    (λ c.
+    let at-loop-test = c .before .before .before .before .before .before in
+    let at-loop = at-loop-test .before in
+    let start = at-loop .before .before .before .before .before .before .before in
+    omega (arith, at-loop-test .loop-test .taken, at-loop .loop .inv .1, c .one-if .ensures .1, start .good))
+    (λ c.
+    let at-loop-test = c .before .before .before .before .before .before in
+    let start = at-loop-test .before .before .before .before .before .before .before .before in
+    omega (arith, at-loop-test .loop-test .taken, start .good))
+    (λ c.
+    let at-loop-test = c .before .before .before .before .before .before in
+    omega (arith, at-loop-test .loop-test .taken))
     loop-again
-    (λ c. news-end (under-end _ (c .before .before .before .before .before .before .before .before .pre .1 .1 .0) _ (c .loop-test .left)) (c .before .loop .inv .2)))
+    (λ c.
+    let start = c .before .before .before .before .before .before .before .before in
+    news-end (under-end _ (start .pre .1 .1 .0) _ (c .loop-test .left)) (c .before .loop .inv .2)))

@@ -13,8 +13,11 @@ lent c = tables (c .args .owners .now) (c .args .epochs .now) (c .args .totals .
 
 write-requires : tie.Need-write-requires
 write-requires c κs =
-    let p = c .before .before .before .before .before .before .before .before .before .before .before .before .before .before .before .before .pre in
-    (p .0, (p .1 .0, (p .1 .1, sym (ap judged (c .before .before .before .before .count .given .1)) ∙ c .before .before .before .before .before .before .judge .ensures)))
+    let at-count = c .before .before .before .before in
+    let at-judge = at-count .before .before in
+    let start = at-judge .before .before .before .before .before .before .before .before .before .before in
+    let p = start .pre in
+    (p .0, (p .1 .0, (p .1 .1, sym (ap judged (at-count .count .given .1)) ∙ at-judge .judge .ensures)))
 
 pub change-spec : {M : Type 1} → statement M
 change-spec =
@@ -28,12 +31,16 @@ change-spec =
     (λ c. search needs)
     (λ c. search needs)
     (λ c. search needs)
-    (λ c. refused-change 14 _ (lent (c .before .before .before .before .before .before .before .before .before .before .before .before)) (sym (ap judged (c .enum-told .given .1)) ∙ c .before .before .judge .ensures))
+    (λ c.
+    let start = c .before .before .before .before .before .before .before .before .before .before .before .before in
+    refused-change 14 _ (lent start) (sym (ap judged (c .enum-told .given .1)) ∙ c .before .before .judge .ensures))
     (λ c. search needs)
     (λ c. search needs)
     (λ c. search needs)
-    (λ c. refused-change 6 _ (lent (c .before .before .before .before .before .before .before .before .before .before .before .before)) (sym (ap judged (c .enum-told2 .given .1)) ∙ c .before .before .judge .ensures))
+    (λ c.
+    let start = c .before .before .before .before .before .before .before .before .before .before .before .before in
+    refused-change 6 _ (lent start) (sym (ap judged (c .enum-told2 .given .1)) ∙ c .before .before .judge .ensures))
     (λ c. search needs)
     (λ c. search needs)
     (λ c. search needs)
-    (λ c. c .before .before .before .before .before .write .ensures))
+    (λ c. let at-write = c .before .before .before .before .before in at-write .write .ensures))

@@ -24,49 +24,76 @@ abbrev news : tie.Start → List Row
 news c = under (c .args .new-owner) (c .args .new-epochs .now) (c .args .new-counts .now)
 
 -- what the first judgement told: a number of rows that go
-went : (c : tie.After-gone) → ok (c .gone .given .0 .0) ≡ judgedOld (olds (c .before .before .before .before .before .before .before .before .before)) (table (c .before .before .before .before .before .before .before .before .before))
+went : (c : tie.After-gone) →
+    let start = c .before .before .before .before .before .before .before .before .before in
+    ok (c .gone .given .0 .0) ≡ judgedOld (olds start) (table start)
 went c = sym (ap judged (c .gone .given .1)) ∙ c .before .before .judge-old .ensures
 
 -- and the second: a number of rows that are made
-came : (c : tie.After-made) → ok (c .made .given .0 .0) ≡ judgedNew (olds (c .before .before .before .before .before .before .before .before .before .before .before .before .before)) (news (c .before .before .before .before .before .before .before .before .before .before .before .before .before)) (table (c .before .before .before .before .before .before .before .before .before .before .before .before .before))
+came : (c : tie.After-made) →
+    let start = c .before .before .before .before .before .before .before .before .before .before .before .before .before in
+    ok (c .made .given .0 .0) ≡ judgedNew (olds start) (news start) (table start)
 came c = sym (ap judged (c .made .given .1)) ∙ c .before .before .judge-new .ensures
 
 -- the number that is told
 total : tie.Need-returns-5
 total c =
-    let b = c .before .before .before .before .before .before .before .before .before .before .before .before .before .before in
+    let at-gone = c .before .before .before .before .before in
+    let b = at-gone .before .before .before .before .before .before .before .before .before in
     let p = b .pre in
-    ap (λ (k : ℕ). ok (k - c .before .before .before .before .before .gone .given .0 .0 + c .before .made .given .0 .0)) (sym (length-rows (p .0 .room)))
-    ∙ verdict-rows (olds b) (news b) (table b) (went (c .before .before .before .before .before)) (p .0 .rises) (p .0 .full) (under-ascends _ (p .1 .0)) (under-ascends _ (p .1 .1)) (came (c .before))
+    ap (λ (k : ℕ). ok (k - at-gone .gone .given .0 .0 + c .before .made .given .0 .0)) (sym (length-rows (p .0 .room)))
+    ∙ verdict-rows (olds b) (news b) (table b) (went at-gone) (p .0 .rises) (p .0 .full) (under-ascends _ (p .1 .0)) (under-ascends _ (p .1 .1))
+    (came (c .before))
 
-most : (c : tie.After-known-told2) → c .before .before .before .before .before .gone .given .0 .0 ≤ c .before .before .before .before .before .before .before .before .before .before .before .before .before .before .args .n
+most : (c : tie.After-known-told2) →
+    let at-gone = c .before .before .before .before .before in
+    let start = at-gone .before .before .before .before .before .before .before .before .before in
+    at-gone .gone .given .0 .0 ≤ start .args .n
 most c =
-    let b = c .before .before .before .before .before .before .before .before .before .before .before .before .before .before in
+    let at-gone = c .before .before .before .before .before in
+    let b = at-gone .before .before .before .before .before .before .before .before .before in
     let p = b .pre in
-    rw (length-rows (p .0 .room)) at (gone-most (olds b) (news b) (table b) (went (c .before .before .before .before .before)) (p .0 .rises) (p .0 .full) (under-ascends _ (p .1 .0)) (under-ascends _ (p .1 .1)))
+    rw (length-rows (p .0 .room)) at (gone-most (olds b) (news b) (table b) (went at-gone) (p .0 .rises) (p .0 .full) (under-ascends _ (p .1 .0))
+    (under-ascends _ (p .1 .1)))
 
 fits : tie.Need-add-t18
 fits c =
     let b = c .before .before .before .before .before .before .before .before .before .before .before .before .before .before in
     let p = b .pre in
-    omega (arith, most c, made-within (olds b) (news b) (table b) (came (c .before)), under-long (b .args .new-owner) (p .1 .1), p .0 .room .ids-long, b .good)
+    omega (
+      arith,
+      most c,
+      made-within (olds b) (news b) (table b) (came (c .before)),
+      under-long (b .args .new-owner) (p .1 .1),
+      p .0 .room .ids-long,
+      b .good,
+    )
 
 pub judge-spec : {M : Type 1} → statement M
 judge-spec =
     tie.close
     (tie.spec
-    (λ c κs. (c .before .before .before .before .before .before .pre .0, c .before .before .before .before .before .before .pre .1 .0))
+    (λ c κs. let start = c .before .before .before .before .before .before in (start .pre .0, start .pre .1 .0))
     (λ c. search needs)
     (λ c. search needs)
     (λ c. search needs)
-    (λ c κs. let b = c .before .before .before .before .before .before .before .before .before .before in let p = b .pre in (p .0, (p .1 .0, (p .1 .1, verdict-covered (olds b) (news b) (table b) (went (c .before))))))
+    (λ c κs. let b = c .before .before .before .before .before .before .before .before .before .before in let p = b .pre in
+    (p .0, (p .1 .0, (p .1 .1, verdict-covered (olds b) (news b) (table b) (went (c .before))))))
     (λ c. search needs)
     (λ c. search needs)
     (λ c. search needs)
     most
     fits
-    (λ c. let b = c .before .before .before .before .before .before .before .before .before in verdict-14 (olds b) (news b) (table b) (sym (ap judged (c .enum-told .given .1)) ∙ c .before .before .judge-old .ensures))
-    (λ c. let b = c .before .before .before .before .before .before .before .before .before in absurd (old-never (olds b) (news b) (table b) (sym (ap judged (c .enum-told2 .given .1)) ∙ c .before .before .judge-old .ensures)))
-    (λ c. let b = c .before .before .before .before .before .before .before .before .before .before .before .before .before in absurd (new-never (olds b) (news b) (table b) (went (c .before .before .before .before)) (sym (ap judged (c .enum-told3 .given .1)) ∙ c .before .before .judge-new .ensures)))
-    (λ c. let b = c .before .before .before .before .before .before .before .before .before .before .before .before .before in verdict-6 (olds b) (news b) (table b) (went (c .before .before .before .before)) (sym (ap judged (c .enum-told4 .given .1)) ∙ c .before .before .judge-new .ensures))
+    (λ c. let b = c .before .before .before .before .before .before .before .before .before in verdict-14 (olds b) (news b) (table b)
+    (sym (ap judged (c .enum-told .given .1)) ∙ c .before .before .judge-old .ensures))
+    (λ c. let b = c .before .before .before .before .before .before .before .before .before in absurd
+    (old-never (olds b) (news b) (table b) (sym (ap judged (c .enum-told2 .given .1)) ∙ c .before .before .judge-old .ensures)))
+    (λ c.
+    let at-gone = c .before .before .before .before in
+    let b = at-gone .before .before .before .before .before .before .before .before .before in
+    absurd (new-never (olds b) (news b) (table b) (went at-gone) (sym (ap judged (c .enum-told3 .given .1)) ∙ c .before .before .judge-new .ensures)))
+    (λ c.
+    let at-gone = c .before .before .before .before in
+    let b = at-gone .before .before .before .before .before .before .before .before .before in
+    verdict-6 (olds b) (news b) (table b) (went at-gone) (sym (ap judged (c .enum-told4 .given .1)) ∙ c .before .before .judge-new .ensures))
     total)

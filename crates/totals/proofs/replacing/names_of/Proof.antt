@@ -12,7 +12,8 @@ use Rattle.totals.proofs.replacing.names_of.Tie as tie
 returns : tie.Need-returns
 returns c =
     let h = c .before .before .before .args .head in
-    let e : c .before .owner-id .result .id ≡ idOf (ownerOf h) = ap (λ (m : MaybeOwner). m .id) (c .before .owner-id .ensures) ∙ owner-bytes (ownerOf h) in
+    let e : c .before .owner-id .result .id ≡ idOf (ownerOf h) = ap (λ (m : MaybeOwner). m .id) (c .before .owner-id .ensures) ∙ owner-bytes
+    (ownerOf h) in
     ap (λ (o : List ℕ). record { owner = o; records = h .records }) e ∙ rw (c .before .before .if1 .taken)
 
 pub names-of-spec : {M : Type 1} → statement M

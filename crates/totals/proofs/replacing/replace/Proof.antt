@@ -29,33 +29,59 @@ newGood c = properGiven (c .args .new-present) (c .args .new) (c .args .new-epoc
 
 -- all that was tested
 module _ (c : tie.After-names-of2) where
-  table-good : properTable (c .before .before .before .before .before .before .before .before .before .before .before .before .before .before .before .before .before .args .rows) (lent (c .before .before .before .before .before .before .before .before .before .before .before .before .before .before .before .before .before)) ≡ true
-  table-good = sym (c .before .before .before .before .before .before .before .is-proper .ensures) ∙ c .before .before .before .before .before .before .if1 .taken
+  table-good :
+      let start = c .before .before .before .before .before .before .before .before .before .before .before .before .before .before .before .before
+      .before in
+      properTable (start .args .rows) (lent start) ≡ true
+  table-good =
+      let at-if1 = c .before .before .before .before .before .before in
+      let at-is-proper = at-if1 .before in
+      sym (at-is-proper .is-proper .ensures) ∙ at-if1 .if1 .taken
 
-  old-good : oldGood (c .before .before .before .before .before .before .before .before .before .before .before .before .before .before .before .before .before) ≡ true
-  old-good = sym (c .before .before .before .before .before .is-good .ensures) ∙ c .before .before .before .before .if2 .taken
+  old-good :
+      let start = c .before .before .before .before .before .before .before .before .before .before .before .before .before .before .before .before
+      .before in
+      oldGood start ≡ true
+  old-good =
+      let at-if2 = c .before .before .before .before in
+      let at-is-good = at-if2 .before in
+      sym (at-is-good .is-good .ensures) ∙ at-if2 .if2 .taken
 
-  new-good : newGood (c .before .before .before .before .before .before .before .before .before .before .before .before .before .before .before .before .before) ≡ true
+  new-good :
+      let start = c .before .before .before .before .before .before .before .before .before .before .before .before .before .before .before .before
+      .before in
+      newGood start ≡ true
   new-good = sym (c .before .before .before .is-good2 .ensures) ∙ c .before .before .if3 .taken
 
 change-requires : tie.Need-change-requires
 change-requires c κs =
     let n = c .before .before .before .before .before .before .before .before .before in
-    let a = c .before .before .before .before .before .before .before .before .before .before .before .before .before .before .before .before .before .before .before .before .before .before .before .before .before .before .args in (
-      table-standing _ (lent (c .before .before .before .before .before .before .before .before .before .before .before .before .before .before .before .before .before .before .before .before .before .before .before .before .before .before)) (table-good n),
+    let at-names-of = n .before in
+    let start = at-names-of .before .before .before .before .before .before .before .before .before .before .before .before .before .before .before
+    .before in
+    let a = start .args in (
+      table-standing _ (lent start) (table-good n),
       (
-        given-table (a .old) _ _ (a .old-present) _ (c .before .before .before .before .before .before .before .before .before .before .names-of .ensures) (old-good n),
-        given-table (a .new) _ _ (a .new-present) _ (c .before .before .before .before .before .before .before .before .before .names-of2 .ensures) (new-good n),
+        given-table (a .old) _ _ (a .old-present) _ (at-names-of .names-of .ensures) (old-good n),
+        given-table (a .new) _ _ (a .new-present) _ (n .names-of2 .ensures) (new-good n),
       ),
     )
 
 returns : tie.Need-returns
 returns c =
-    let n = c .before .before .before .before .before .before .before .before .before .before .before .before .before .before .before in
-    let a = c .before .before .before .before .before .before .before .before .before .before .before .before .before .before .before .before .before .before .before .before .before .before .before .before .before .before .before .before .before .before .before .before .args in
-    c .before .before .before .before .before .change .ensures
-    ∙ rw (← given-names (a .old) (a .old-epochs .now) (a .old-counts .now) (a .old-present) _ (c .before .before .before .before .before .before .before .before .before .before .before .before .before .before .before .before .names-of .ensures), ← given-names (a .new) (a .new-epochs .now) (a .new-counts .now) (a .new-present) _ (c .before .before .before .before .before .before .before .before .before .before .before .before .before .before .before .names-of2 .ensures))
-    (replacing-proper (a .rows) (lent (c .before .before .before .before .before .before .before .before .before .before .before .before .before .before .before .before .before .before .before .before .before .before .before .before .before .before .before .before .before .before .before .before)) _ _ (table-good n) _ _ (old-good n) (new-good n))
+    let at-change = c .before .before .before .before .before in
+    let n = at-change .before .before .before .before .before .before .before .before .before .before in
+    let at-names-of = n .before in
+    let start = at-names-of .before .before .before .before .before .before .before .before .before .before .before .before .before .before .before
+    .before in
+    let a = start .args in
+    at-change .change .ensures
+    ∙ rw (
+      ← given-names (a .old) (a .old-epochs .now) (a .old-counts .now) (a .old-present) _ (at-names-of .names-of .ensures),
+      ← given-names
+          (a .new) (a .new-epochs .now) (a .new-counts .now) (a .new-present) _ (n .names-of2 .ensures),
+    )
+    (replacing-proper (a .rows) (lent start) _ _ (table-good n) _ _ (old-good n) (new-good n))
 
 pub replace-spec : {M : Type 1} → statement M
 replace-spec =
@@ -66,10 +92,28 @@ replace-spec =
     (λ c κs. search needs)
     (λ c κs. search needs)
     (λ c κs. search needs)
-    (λ c. given-even (c .before .before .before .before .before .before .before .before .before .before .before .before .before .before .before .before .before .before .before .before .before .before .before .args .old) _ _ (c .before .before .before .before .before .before .before .before .before .before .before .before .before .before .before .before .before .before .before .before .before .before .before .args .old-present) _ (c .before .before .before .before .before .before .before .names-of .ensures) (old-good (c .before .before .before .before .before .before)) .0)
-    (λ c. given-even (c .before .before .before .before .before .before .before .before .before .before .before .before .before .before .before .before .before .before .before .before .before .before .before .before .args .old) _ _ (c .before .before .before .before .before .before .before .before .before .before .before .before .before .before .before .before .before .before .before .before .before .before .before .before .args .old-present) _ (c .before .before .before .before .before .before .before .before .names-of .ensures) (old-good (c .before .before .before .before .before .before .before)) .1)
-    (λ c. given-even (c .before .before .before .before .before .before .before .before .before .before .before .before .before .before .before .before .before .before .before .before .before .before .before .before .before .args .new) _ _ (c .before .before .before .before .before .before .before .before .before .before .before .before .before .before .before .before .before .before .before .before .before .before .before .before .before .args .new-present) _ (c .before .before .before .before .before .before .before .before .names-of2 .ensures) (new-good (c .before .before .before .before .before .before .before .before)) .0)
-    (λ c. given-even (c .before .before .before .before .before .before .before .before .before .before .before .before .before .before .before .before .before .before .before .before .before .before .before .before .before .before .args .new) _ _ (c .before .before .before .before .before .before .before .before .before .before .before .before .before .before .before .before .before .before .before .before .before .before .before .before .before .before .args .new-present) _ (c .before .before .before .before .before .before .before .before .before .names-of2 .ensures) (new-good (c .before .before .before .before .before .before .before .before .before)) .1)
+    (λ c.
+    let at-names-of2 = c .before .before .before .before .before .before in
+    let at-names-of = at-names-of2 .before in
+    let start = at-names-of .before .before .before .before .before .before .before .before .before .before .before .before .before .before .before
+    .before in
+    given-even (start .args .old) _ _ (start .args .old-present) _ (at-names-of .names-of .ensures) (old-good at-names-of2) .0)
+    (λ c.
+    let at-names-of2 = c .before .before .before .before .before .before .before in
+    let at-names-of = at-names-of2 .before in
+    let start = at-names-of .before .before .before .before .before .before .before .before .before .before .before .before .before .before .before
+    .before in
+    given-even (start .args .old) _ _ (start .args .old-present) _ (at-names-of .names-of .ensures) (old-good at-names-of2) .1)
+    (λ c.
+    let at-names-of2 = c .before .before .before .before .before .before .before .before in
+    let start = at-names-of2 .before .before .before .before .before .before .before .before .before .before .before .before .before .before .before
+    .before .before in
+    given-even (start .args .new) _ _ (start .args .new-present) _ (at-names-of2 .names-of2 .ensures) (new-good at-names-of2) .0)
+    (λ c.
+    let at-names-of2 = c .before .before .before .before .before .before .before .before .before in
+    let start = at-names-of2 .before .before .before .before .before .before .before .before .before .before .before .before .before .before .before
+    .before .before in
+    given-even (start .args .new) _ _ (start .args .new-present) _ (at-names-of2 .names-of2 .ensures) (new-good at-names-of2) .1)
     change-requires
     (λ c. search needs)
     (λ c. search needs)
@@ -78,12 +122,18 @@ replace-spec =
     (λ c. search needs)
     (λ c. search needs)
     (λ c. search needs)
-    (λ c. new-bad _ (lent (c .before .before .before .before .before .before .before .before .before .before .before .before .before .before .before)) (oldGiven (c .before .before .before .before .before .before .before .before .before .before .before .before .before .before .before)) (newGiven (c .before .before .before .before .before .before .before .before .before .before .before .before .before .before .before)) (oldGood (c .before .before .before .before .before .before .before .before .before .before .before .before .before .before .before)) (newGood (c .before .before .before .before .before .before .before .before .before .before .before .before .before .before .before)) (sym (c .before .is-good2 .ensures) ∙ c .if3 .left))
+    (λ c.
+    let start = c .before .before .before .before .before .before .before .before .before .before .before .before .before .before .before in
+    new-bad _ (lent start) (oldGiven start) (newGiven start) (oldGood start) (newGood start) (sym (c .before .is-good2 .ensures) ∙ c .if3 .left))
     (λ c. search needs)
     (λ c. search needs)
     (λ c. search needs)
-    (λ c. old-bad _ (lent (c .before .before .before .before .before .before .before .before .before .before .before .before .before)) (oldGiven (c .before .before .before .before .before .before .before .before .before .before .before .before .before)) (newGiven (c .before .before .before .before .before .before .before .before .before .before .before .before .before)) (oldGood (c .before .before .before .before .before .before .before .before .before .before .before .before .before)) (newGood (c .before .before .before .before .before .before .before .before .before .before .before .before .before)) (sym (c .before .is-good .ensures) ∙ c .if2 .left))
+    (λ c.
+    let start = c .before .before .before .before .before .before .before .before .before .before .before .before .before in
+    old-bad _ (lent start) (oldGiven start) (newGiven start) (oldGood start) (newGood start) (sym (c .before .is-good .ensures) ∙ c .if2 .left))
     (λ c. search needs)
     (λ c. search needs)
     (λ c. search needs)
-    (λ c. table-bad _ (lent (c .before .before .before .before .before .before .before .before .before .before .before)) _ _ _ (sym (c .before .is-proper .ensures) ∙ c .if1 .left)))
+    (λ c.
+    let start = c .before .before .before .before .before .before .before .before .before .before .before in
+    table-bad _ (lent start) _ _ _ (sym (c .before .is-proper .ensures) ∙ c .if1 .left)))

@@ -23,14 +23,18 @@ judged : (c : tie.Start) → Counted (olds c) (news c) (rowsIn (c .args .n) (len
 judged c = counted (olds c) (news c) _ _ (c .pre .1 .1 .1)
 
 take-rows-requires : tie.Need-take-rows-requires
-take-rows-requires c κs = let b = c .before .before .before .before .before .before .before .before .before .before .before .before .before .before in (b .pre .0, (b .pre .1 .0, judged b .covers))
+take-rows-requires c κs = let b = c .before .before .before .before .before .before .before .before .before .before .before .before .before
+    .before in (b .pre .0, (b .pre .1 .0, judged b .covers))
 
 add-rows-requires : tie.Need-add-rows-requires
 add-rows-requires c κs =
-    let b = c .before .before .before .before .before .before .before .before .before .before .before .before .before .before .before .before .before .before .before .before .before .before .before in
+    let at-take-rows = c .before .before .before .before .before .before .before .before in
+    let at-if1 = at-take-rows .before .before .before .before in
+    let at-fit = at-if1 .before in
+    let b = at-fit .before .before .before .before .before .before .before .before .before .before in
     let p = b .pre in
-    let f = sym (c .before .before .before .before .before .before .before .before .before .before .before .before .before .fit .ensures) ∙ c .before .before .before .before .before .before .before .before .before .before .before .before .if1 .taken in
-    let e = c .before .before .before .before .before .before .before .before .take-rows .ensures in
+    let f = sym (at-fit .fit .ensures) ∙ at-if1 .if1 .taken in
+    let e = at-take-rows .take-rows .ensures in
     let s = under-ascends _ (p .1 .0) in
     let r = under-ascends _ (p .1 .1 .0) in (
       left-standing (olds b) (news b) (p .0) s r (judged b) f (e .0) (e .1),
@@ -45,11 +49,16 @@ add-rows-requires c κs =
 
 returns : tie.Need-returns
 returns c =
-    let b = c .before .before .before .before .before .before .before .before .before .before .before .before .before .before .before .before .before .before .before .before .before .before .before .before .before .before .before .before .before in
+    let at-add-rows = c .before .before .before .before .before in
+    let at-take-rows = at-add-rows .before .before .before .before .before .before .before .before .before in
+    let at-if1 = at-take-rows .before .before .before .before in
+    let at-fit = at-if1 .before in
+    let b = at-fit .before .before .before .before .before .before .before .before .before .before in
     let p = b .pre in
-    let f = sym (c .before .before .before .before .before .before .before .before .before .before .before .before .before .before .before .before .before .before .before .fit .ensures) ∙ c .before .before .before .before .before .before .before .before .before .before .before .before .before .before .before .before .before .before .if1 .taken in
-    let e = c .before .before .before .before .before .before .before .before .before .before .before .before .before .before .take-rows .ensures in
-    all-written (olds b) (news b) (p .0) (under-ascends _ (p .1 .0)) (under-ascends _ (p .1 .1 .0)) (judged b) f (e .0) (e .1) (c .before .before .before .before .before .add-rows .ensures)
+    let f = sym (at-fit .fit .ensures) ∙ at-if1 .if1 .taken in
+    let e = at-take-rows .take-rows .ensures in
+    all-written (olds b) (news b) (p .0) (under-ascends _ (p .1 .0)) (under-ascends _ (p .1 .1 .0)) (judged b) f (e .0) (e .1)
+    (at-add-rows .add-rows .ensures)
 
 returns-2 : tie.Need-returns-2
 returns-2 c =

@@ -7,7 +7,9 @@ use Rattle.totals_rows.proofs.finding.look_up.Statement.{statement}
 use Rattle.totals_rows.proofs.finding.look_up.Tie as tie
 
 compare-row-requires : tie.Need-compare-row-requires
-compare-row-requires c κs = let r = c .before .before .before .before .pre .room in (omega (arith, r .ids-long, c .if1 .taken), omega (arith, r .epochs-long, c .if1 .taken))
+compare-row-requires c κs =
+    let start = c .before .before .before .before in
+    let r = start .pre .room in (omega (arith, r .ids-long, c .if1 .taken), omega (arith, r .epochs-long, c .if1 .taken))
 
 pub look-up-spec : {M : Type 1} → statement M
 look-up-spec =
@@ -20,7 +22,22 @@ look-up-spec =
     (λ c. search needs)
     (λ c. search needs)
     (λ c. search needs)
-    (λ c. spot-less (c .before .before .before .before .before .before .before .pre) _ _ (c .before .before .before .before .find .ensures) (c .before .before .before .if1 .taken) (sym (c .before .before .compare-row .ensures) ∙ c .enum-told .given .1))
-    (λ c. spot-equal (c .before .before .before .before .before .before .before .before .pre) _ _ (c .before .before .before .before .before .find .ensures) (c .before .before .before .before .if1 .taken) (sym (c .before .before .before .compare-row .ensures) ∙ c .before .enum-told2 .given .1))
-    (λ c. spot-greater (c .before .before .before .before .before .before .before .pre) _ _ (c .before .before .before .before .find .ensures) (c .before .before .before .if1 .taken) (sym (c .before .before .compare-row .ensures) ∙ c .enum-told3 .given .1))
-    (λ c. spot-end (c .before .before .before .before .pre) _ _ (c .before .find .ensures) (c .if1 .left)))
+    (λ c.
+    let at-find = c .before .before .before .before in
+    let start = at-find .before .before .before in
+    spot-less (start .pre) _ _ (at-find .find .ensures) (c .before .before .before .if1 .taken)
+    (sym (c .before .before .compare-row .ensures) ∙ c .enum-told .given .1))
+    (λ c.
+    let at-if1 = c .before .before .before .before in
+    let at-find = at-if1 .before in
+    let start = at-find .before .before .before in
+    spot-equal (start .pre) _ _ (at-find .find .ensures) (at-if1 .if1 .taken)
+    (sym (c .before .before .before .compare-row .ensures) ∙ c .before .enum-told2 .given .1))
+    (λ c.
+    let at-find = c .before .before .before .before in
+    let start = at-find .before .before .before in
+    spot-greater (start .pre) _ _ (at-find .find .ensures) (c .before .before .before .if1 .taken)
+    (sym (c .before .before .compare-row .ensures) ∙ c .enum-told3 .given .1))
+    (λ c.
+    let start = c .before .before .before .before in
+    spot-end (start .pre) _ _ (c .before .find .ensures) (c .if1 .left)))

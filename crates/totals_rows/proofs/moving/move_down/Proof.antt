@@ -12,7 +12,8 @@ use Rattle.totals_rows.proofs.moving.move_down.Tie as tie
 
 abbrev Inv-loop : tie.InvT-loop
 Inv-loop owners₀ epochs₀ totals₀ from upto to i₀ k₀ owners epochs totals i k =
-    (k ≤ i) × (from ≤ i) × (i ≤ upto) × MovedDown from upto to i k owners₀ owners × MovedDown from upto to i k epochs₀ epochs × MovedDown from upto to i k totals₀ totals
+    (k ≤ i) × (from ≤ i) × (i ≤ upto) × MovedDown from upto to i k owners₀ owners × MovedDown from upto to i k epochs₀ epochs
+    × MovedDown from upto to i k totals₀ totals
 
 abbrev μ-loop : tie.MeasureT-loop
 μ-loop owners₀ epochs₀ totals₀ from upto to i₀ k₀ owners epochs totals i k = upto - i
@@ -24,8 +25,10 @@ loop-holds c =
 
 loop-again : tie.Need-loop-again Inv-loop μ-loop
 loop-again c =
-    let i = c .before .before .before .before .loop .inv in
-    let r = c .before .before .before .before .before .before .pre .1 in
+    let at-loop = c .before .before .before .before in
+    let start = at-loop .before .before in
+    let i = at-loop .loop .inv in
+    let r = start .pre .1 in
     let t = c .before .before .before .loop-test .taken in (
       omega (arith, i .0),
       omega (arith, i .1),
@@ -43,7 +46,8 @@ returns c =
     three (down-done (i .3) (r .ids-long) l) (down-done (i .4) (r .epochs-long) l) (down-done (i .5) (r .bytes-long) l)
 
 -- the place that is read stands in each column, and so does the place that is written
-room : (c : tie.In-loop Inv-loop μ-loop) → (c .before .loop .i < length (c .before .loop .owners)) × (c .before .loop .i < length (c .before .loop .epochs)) × (c .before .loop .i < length (c .before .loop .totals))
+room : (c : tie.In-loop Inv-loop μ-loop) → (c .before .loop .i < length (c .before .loop .owners))
+    × (c .before .loop .i < length (c .before .loop .epochs)) × (c .before .loop .i < length (c .before .loop .totals))
 room c =
     let i = c .before .loop .inv in
     let r = c .before .before .before .pre .1 in
@@ -55,7 +59,8 @@ returns-2 c =
     let p = c .before .pre in
     let r = p .1 in
     let e : c .before .args .to ≡ c .before .args .from = omega (arith, p .0 .0, c .if1 .left) in
-    rw e (three (sym (stays _ _ _ (p .0 .1) (r .ids-long))) (sym (stays _ _ _ (p .0 .1) (r .epochs-long))) (sym (stays _ _ _ (p .0 .1) (r .bytes-long))))
+    rw e (three (sym (stays _ _ _ (p .0 .1) (r .ids-long))) (sym (stays _ _ _ (p .0 .1) (r .epochs-long)))
+    (sym (stays _ _ _ (p .0 .1) (r .bytes-long))))
 
 pub move-down-spec : {M : Type 1} → statement M
 move-down-spec =
@@ -66,18 +71,36 @@ move-down-spec =
     loop-holds
     (λ c. omega (arith, room c .0, c .before .loop .inv .3 .long, c .before .before .before .good))
     (λ c. room c .0)
-    (λ c. omega (arith, room (c .before) .0, c .before .before .loop .inv .0, c .before .before .loop .inv .3 .long, c .before .before .before .before .good))
+    (λ c.
+    let start = c .before .before .before .before in
+    omega (arith, room (c .before) .0, c .before .before .loop .inv .0, c .before .before .loop .inv .3 .long, start .good))
     (λ c. omega (arith, room (c .before) .0, c .before .before .loop .inv .0))
-    (λ c. omega (arith, room (c .before) .1, c .before .before .loop .inv .4 .long, c .before .before .before .before .good))
+    (λ c.
+    let start = c .before .before .before .before in
+    omega (arith, room (c .before) .1, c .before .before .loop .inv .4 .long, start .good))
     (λ c. room (c .before .before) .1)
-    (λ c. omega (arith, room (c .before .before) .1, c .before .before .before .loop .inv .0, c .before .before .before .loop .inv .4 .long, c .before .before .before .before .before .good))
+    (λ c.
+    let start = c .before .before .before .before .before in
+    omega (arith, room (c .before .before) .1, c .before .before .before .loop .inv .0, c .before .before .before .loop .inv .4 .long, start .good))
     (λ c. omega (arith, room (c .before .before) .1, c .before .before .before .loop .inv .0))
-    (λ c. omega (arith, room (c .before .before) .2, c .before .before .before .loop .inv .5 .long, c .before .before .before .before .before .good))
+    (λ c.
+    let start = c .before .before .before .before .before in
+    omega (arith, room (c .before .before) .2, c .before .before .before .loop .inv .5 .long, start .good))
     (λ c. room (c .before .before .before) .2)
-    (λ c. omega (arith, room (c .before .before .before) .2, c .before .before .before .before .loop .inv .0, c .before .before .before .before .loop .inv .5 .long, c .before .before .before .before .before .before .good))
-    (λ c. omega (arith, room (c .before .before .before) .2, c .before .before .before .before .loop .inv .0))
-    (λ c. omega (arith, c .before .before .before .loop-test .taken, c .before .before .before .before .before .before .fits))
-    (λ c. omega (arith, c .before .before .before .loop-test .taken, c .before .before .before .before .loop .inv .0, c .before .before .before .before .before .before .fits))
+    (λ c.
+    let at-loop = c .before .before .before .before in
+    let start = at-loop .before .before in
+    omega (arith, room (c .before .before .before) .2, at-loop .loop .inv .0, at-loop .loop .inv .5 .long, start .good))
+    (λ c.
+    let at-loop = c .before .before .before .before in
+    omega (arith, room (c .before .before .before) .2, at-loop .loop .inv .0))
+    (λ c.
+    let start = c .before .before .before .before .before .before in
+    omega (arith, c .before .before .before .loop-test .taken, start .fits))
+    (λ c.
+    let at-loop = c .before .before .before .before in
+    let start = at-loop .before .before in
+    omega (arith, c .before .before .before .loop-test .taken, at-loop .loop .inv .0, start .fits))
     (λ c. omega (arith, c .before .before .before .loop-test .taken))
     loop-again
     (λ c. c .before .loop .inv .3 .long)

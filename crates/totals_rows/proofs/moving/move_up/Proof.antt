@@ -12,7 +12,8 @@ use Rattle.totals_rows.proofs.moving.move_up.Tie as tie
 
 abbrev Inv-loop : tie.InvT-loop
 Inv-loop owners₀ epochs₀ totals₀ from upto end i₀ k₀ owners epochs totals i k =
-    (k + upto ≡ end + i) × (from ≤ i) × (i ≤ upto) × MovedUp upto i k owners₀ owners × MovedUp upto i k epochs₀ epochs × MovedUp upto i k totals₀ totals
+    (k + upto ≡ end + i) × (from ≤ i) × (i ≤ upto) × MovedUp upto i k owners₀ owners × MovedUp upto i k epochs₀ epochs
+    × MovedUp upto i k totals₀ totals
 
 abbrev μ-loop : tie.MeasureT-loop
 μ-loop owners₀ epochs₀ totals₀ from upto end i₀ k₀ owners epochs totals i k = i
@@ -31,11 +32,13 @@ loop-holds c =
 
 loop-again : tie.Need-loop-again Inv-loop μ-loop
 loop-again c =
-    let i = c .before .before .before .before .loop .inv in
-    let p = c .before .before .before .before .before .before .pre in
+    let at-loop = c .before .before .before .before in
+    let start = at-loop .before .before in
+    let i = at-loop .loop .inv in
+    let p = start .pre in
     let r = p .1 in
     let t = c .before .before .before .loop-test .taken in
-    let k : c .before .before .before .before .loop .i ≤ c .before .before .before .before .loop .k = omega (arith, i .0, p .0 .1) in (
+    let k : at-loop .loop .i ≤ at-loop .loop .k = omega (arith, i .0, p .0 .1) in (
       omega (arith, i .0),
       omega arith,
       omega (arith, i .2),
@@ -50,17 +53,24 @@ returns c =
     let p = c .before .before .before .pre .0 in
     let l = c .loop-test .left in
     let e : c .before .loop .i ≡ c .before .before .before .args .from = omega (arith, i .1) in
-    let k : c .before .loop .k ≡ c .before .before .before .args .end - (c .before .before .before .args .upto - c .before .before .before .args .from) = omega (arith, i .0, p .0, p .1) in
+    let k : c .before .loop .k ≡ c .before .before .before .args .end
+    - (c .before .before .before .args .upto - c .before .before .before .args .from) = omega (arith, i .0, p .0, p .1) in
     three (up-done (i .3) e k) (up-done (i .4) e k) (up-done (i .5) e k)
 
 -- the place that is written stands in each column, and so does the place that is read
-room : (c : tie.In-loop Inv-loop μ-loop) → (c .before .loop .k ≤ length (c .before .loop .owners)) × (c .before .loop .k ≤ length (c .before .loop .epochs)) × (c .before .loop .k ≤ length (c .before .loop .totals)) × (c .before .loop .i ≤ c .before .loop .k)
+room : (c : tie.In-loop Inv-loop μ-loop) → (c .before .loop .k ≤ length (c .before .loop .owners))
+    × (c .before .loop .k ≤ length (c .before .loop .epochs)) × (c .before .loop .k ≤ length (c .before .loop .totals))
+    × (c .before .loop .i ≤ c .before .loop .k)
 room c =
     let i = c .before .loop .inv in
     let p = c .before .before .before .pre in
     let r = p .1 in
-    let k : c .before .loop .k ≤ c .before .before .before .args .end = omega (arith, i .0, i .2) in
-    (omega (arith, up-long (i .3), r .ids-long), omega (arith, up-long (i .4), r .epochs-long), omega (arith, up-long (i .5), r .bytes-long), omega (arith, i .0, p .0 .1))
+    let k : c .before .loop .k ≤ c .before .before .before .args .end = omega (arith, i .0, i .2) in (
+      omega (arith, up-long (i .3), r .ids-long),
+      omega (arith, up-long (i .4), r .epochs-long),
+      omega (arith, up-long (i .5), r .bytes-long),
+      omega (arith, i .0, p .0 .1),
+    )
 
 returns-2 : tie.Need-returns-2 Inv-loop μ-loop
 returns-2 c =
@@ -85,15 +95,26 @@ move-up-spec =
     (λ c. omega (arith, c .loop-test .taken, room c .3))
     (λ c. omega (arith, room c .0, room c .3, up-long (c .before .loop .inv .3), c .before .before .before .good))
     (λ c. omega (arith, room c .0, room c .3, c .loop-test .taken))
-    (λ c. omega (arith, room (c .before) .0, up-long (c .before .before .loop .inv .3), c .before .before .before .before .good))
+    (λ c.
+    let start = c .before .before .before .before in
+    omega (arith, room (c .before) .0, up-long (c .before .before .loop .inv .3), start .good))
     (λ c. omega (arith, room (c .before) .0, room (c .before) .3, c .before .loop-test .taken))
-    (λ c. omega (arith, room (c .before) .1, room (c .before) .3, up-long (c .before .before .loop .inv .4), c .before .before .before .before .good))
+    (λ c.
+    let start = c .before .before .before .before in
+    omega (arith, room (c .before) .1, room (c .before) .3, up-long (c .before .before .loop .inv .4), start .good))
     (λ c. omega (arith, room (c .before .before) .1, room (c .before .before) .3, c .before .before .loop-test .taken))
-    (λ c. omega (arith, room (c .before .before) .1, up-long (c .before .before .before .loop .inv .4), c .before .before .before .before .before .good))
+    (λ c.
+    let start = c .before .before .before .before .before in
+    omega (arith, room (c .before .before) .1, up-long (c .before .before .before .loop .inv .4), start .good))
     (λ c. omega (arith, room (c .before .before) .1, room (c .before .before) .3, c .before .before .loop-test .taken))
-    (λ c. omega (arith, room (c .before .before) .2, room (c .before .before) .3, up-long (c .before .before .before .loop .inv .5), c .before .before .before .before .before .good))
+    (λ c.
+    let start = c .before .before .before .before .before in
+    omega (arith, room (c .before .before) .2, room (c .before .before) .3, up-long (c .before .before .before .loop .inv .5), start .good))
     (λ c. omega (arith, room (c .before .before .before) .2, room (c .before .before .before) .3, c .before .before .before .loop-test .taken))
-    (λ c. omega (arith, room (c .before .before .before) .2, up-long (c .before .before .before .before .loop .inv .5), c .before .before .before .before .before .before .good))
+    (λ c.
+    let at-loop = c .before .before .before .before in
+    let start = at-loop .before .before in
+    omega (arith, room (c .before .before .before) .2, up-long (at-loop .loop .inv .5), start .good))
     (λ c. omega (arith, room (c .before .before .before) .2, room (c .before .before .before) .3, c .before .before .before .loop-test .taken))
     (λ c. omega (arith, c .before .before .before .loop-test .taken))
     loop-again

@@ -18,7 +18,8 @@ abbrev μ-loop : tie.MeasureT-loop
 
 is-before-requires : tie.Need-is-before-requires Inv-loop μ-loop
 is-before-requires c κs =
-    let r = c .before .before .before .before .pre in
+    let start = c .before .before .before .before in
+    let r = start .pre in
     let t = c .loop-test .taken in
     (omega (arith, r .ids-long), omega (arith, r .epochs-long))
 
@@ -31,8 +32,20 @@ ascend-spec =
     (λ c. (omega arith, refl))
     (λ c. omega (arith, c .before .before .before .pre .ids-long, c .before .before .before .good, c .loop .inv .0))
     is-before-requires
-    (λ c. omega (arith, c .before .before .before .before .before .before .fits, c .before .before .loop-test .taken))
+    (λ c.
+    let start = c .before .before .before .before .before .before in
+    omega (arith, start .fits, c .before .before .loop-test .taken))
     (λ c. omega (arith, c .before .before .loop-test .taken))
-    (λ c. (omega (arith, c .before .before .loop-test .taken), c .before .before .before .loop .inv .1 ∙ asc-at (c .before .before .before .before .before .before .pre) _ (c .before .before .loop-test .taken) ∙ rw (sym (c .before .is-before .ensures) ∙ c .if1 .taken)))
-    (λ c. sym (c .before .before .before .loop .inv .1 ∙ asc-at (c .before .before .before .before .before .before .pre) _ (c .before .before .loop-test .taken) ∙ rw (sym (c .before .is-before .ensures) ∙ c .if1 .left)))
-    (λ c. sym (c .before .loop .inv .1 ∙ asc-last (c .before .before .before .before .pre) _ (c .loop-test .left))))
+    (λ c.
+    let start = c .before .before .before .before .before .before in (
+      omega (arith, c .before .before .loop-test .taken),
+      c .before .before .before .loop .inv .1 ∙ asc-at (start .pre) _
+          (c .before .before .loop-test .taken) ∙ rw (sym (c .before .is-before .ensures) ∙ c .if1 .taken),
+    ))
+    (λ c.
+    let start = c .before .before .before .before .before .before in
+    sym (c .before .before .before .loop .inv .1 ∙ asc-at (start .pre) _ (c .before .before .loop-test .taken)
+    ∙ rw (sym (c .before .is-before .ensures) ∙ c .if1 .left)))
+    (λ c.
+    let start = c .before .before .before .before in
+    sym (c .before .loop .inv .1 ∙ asc-last (start .pre) _ (c .loop-test .left))))

@@ -11,6 +11,7 @@ pub fit-spec : {M : Type 1} → statement M
 fit-spec =
     tie.close
     (tie.spec
-    (λ c. let a = c .before .before .before .args in sym (short-ids (a .n) (tables (a .owners .now) (a .epochs .now) (a .totals .now)) (c .if1 .taken)))
+    (λ c. let a = c .before .before .before .args in
+    sym (short-ids (a .n) (tables (a .owners .now) (a .epochs .now) (a .totals .now)) (c .if1 .taken)))
     (λ c κs. search needs)
     (λ c. c .fit .ensures ∙ sym (simp (le-leb _ _ (c .before .if1 .left)))))

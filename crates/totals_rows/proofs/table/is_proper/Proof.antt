@@ -12,20 +12,27 @@ abbrev lent : tie.Start → Tables
 lent c = tables (c .args .owners .now) (c .args .epochs .now) (c .args .totals .now)
 
 ascend-requires : tie.Need-ascend-requires
-ascend-requires c κs = room-in _ (lent (c .before .before .before .before)) (sym (c .before .fit .ensures) ∙ c .if1 .taken)
+ascend-requires c κs =
+    let start = c .before .before .before .before in
+    room-in _ (lent start) (sym (c .before .fit .ensures) ∙ c .if1 .taken)
 
 none-is-zero-requires : tie.Need-none-is-zero-requires
-none-is-zero-requires c κs = room-in _ (lent (c .before .before .before .before .before .before)) (sym (c .before .before .before .fit .ensures) ∙ c .before .before .if1 .taken)
+none-is-zero-requires c κs =
+    let start = c .before .before .before .before .before .before in
+    room-in _ (lent start) (sym (c .before .before .before .fit .ensures) ∙ c .before .before .if1 .taken)
 
 returns : tie.Need-returns
 returns c =
-    let r = room-in _ (lent (c .before .before .before .before .before .before .before)) (sym (c .before .before .before .before .fit .ensures) ∙ c .before .before .before .if1 .taken) in
-    c .none-is-zero .ensures ∙ sym (table-room _ (lent (c .before .before .before .before .before .before .before)) r ∙ rw (sym (c .before .before .ascend .ensures) ∙ c .before .if2 .taken))
+    let at-fit = c .before .before .before .before in
+    let start = at-fit .before .before .before in
+    let r = room-in _ (lent start) (sym (at-fit .fit .ensures) ∙ c .before .before .before .if1 .taken) in
+    c .none-is-zero .ensures ∙ sym (table-room _ (lent start) r ∙ rw (sym (c .before .before .ascend .ensures) ∙ c .before .if2 .taken))
 
 returns-2 : tie.Need-returns-2
 returns-2 c =
-    let r = room-in _ (lent (c .before .before .before .before .before .before)) (sym (c .before .before .before .fit .ensures) ∙ c .before .before .if1 .taken) in
-    sym (table-room _ (lent (c .before .before .before .before .before .before)) r ∙ rw (sym (c .before .ascend .ensures) ∙ c .if2 .left))
+    let start = c .before .before .before .before .before .before in
+    let r = room-in _ (lent start) (sym (c .before .before .before .fit .ensures) ∙ c .before .before .if1 .taken) in
+    sym (table-room _ (lent start) r ∙ rw (sym (c .before .ascend .ensures) ∙ c .if2 .left))
 
 pub is-proper-spec : {M : Type 1} → statement M
 is-proper-spec =
@@ -36,4 +43,6 @@ is-proper-spec =
     none-is-zero-requires
     returns
     returns-2
-    (λ c. sym (table-short _ (lent (c .before .before .before .before)) (sym (c .before .fit .ensures) ∙ c .if1 .left))))
+    (λ c.
+    let start = c .before .before .before .before in
+    sym (table-short _ (lent start) (sym (c .before .fit .ensures) ∙ c .if1 .left))))

@@ -7,9 +7,11 @@ use Rattle.totals_rows.proofs.words.word.Tie as tie
 
 returns : tie.Need-returns
 returns c =
-    let a = c .before .before .before .before .before .args in
-    let p = c .before .before .before .before .before .pre in
-    word-at (a .id .now) (a .at) _ _ _ _ (omega arith) (c .before .before .before .be16-at .ensures) (c .before .before .be16-at2 .ensures) (c .before .be16-at3 .ensures) (c .be16-at4 .ensures)
+    let start = c .before .before .before .before .before in
+    let a = start .args in
+    let p = start .pre in
+    word-at (a .id .now) (a .at) _ _ _ _ (omega arith) (c .before .before .before .be16-at .ensures) (c .before .before .be16-at2 .ensures)
+    (c .before .be16-at3 .ensures) (c .be16-at4 .ensures)
 
 pub word-spec : {M : Type 1} → statement M
 word-spec =
