@@ -9,7 +9,7 @@ use lib.ListN.{length, getD, take}
 use Rattle.fields_spec.specs.Varint.{largest}
 use Rattle.fields_spec.proofs.RoundTrip.{Bytes}
 use Rattle.records_spec.specs.Tables.{recordsOf, ascending, over}
-use Rattle.records_spec.specs.Flags.{owned, ownerIf, flagsOf, proper}
+use Rattle.records_spec.specs.Flags.{owned, ownerLength, ownerIf, flagsOf, proper}
 use Rattle.records_spec.specs.Answers.{Answer, ok, Written, writing}
 use Rattle.records_spec.specs.declared.head.Head.{Head}
 use Rattle.records_spec.proofs.Tables.{over-first}
@@ -26,7 +26,7 @@ use Rattle.codec_spec.proofs.Canonical.{owns, Proper, read-back}
 -- what the types of a head and its tables say
 pub record InRange (h : Head) (es cs : List ℕ) : Type 0 where
   pub base-fits : h .base < 65536
-  pub owner-long : length (h .owner) ≡ 32
+  pub owner-long : length (h .owner) ≡ ownerLength
   pub owner-bytes : Bytes (h .owner)
   pub epochs-fit : (i : ℕ) → getD es i 0 < 65536
   pub counts-fit : (i : ℕ) → getD cs i 0 ≤ largest
@@ -40,7 +40,7 @@ canonical (suc n) base (e ∷ es) [] he hc a = tt
 canonical (suc n) base (e ∷ es) (c ∷ cs) he hc a =
     (asc-head base e (take n es) a, he 0, hc 0, canonical n e es cs (λ i. he (suc i)) (λ i. hc (suc i)) (asc-tail base e (take n es) a))
 
-owner-fits : (b : Bool) (o : List ℕ) → length o ≡ 32 → Bytes o → Owned (owns (ownerIf b o)) (ownerIf b o)
+owner-fits : (b : Bool) (o : List ℕ) → length o ≡ ownerLength → Bytes o → Owned (owns (ownerIf b o)) (ownerIf b o)
 owner-fits true o n bs = owner o n bs
 owner-fits false o n bs = unowned
 

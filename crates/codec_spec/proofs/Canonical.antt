@@ -14,13 +14,13 @@ use lib.Seq.{take-add}
 use Rattle.fields_spec.specs.Big.{big, said}
 use Rattle.fields_spec.proofs.RoundTrip.{Bytes}
 use Rattle.records_spec.specs.Tables.{At}
-use Rattle.records_spec.specs.Flags.{Flags, flags, owned, multi, typeByte, kindOf, kindOfByte}
+use Rattle.records_spec.specs.Flags.{Flags, flags, owned, multi, typeByte, kindOf, kindOfByte, ownerLength}
 use Rattle.records_spec.specs.declared.head.Kind.{Kind}
 use Rattle.records_spec.specs.declared.head.Kind.the-variants.{SingleEpoch, MultiEpoch, SingleEpochOwned, MultiEpochOwned}
 use Rattle.records_spec.specs.declared.head.KindByte.{KindByte}
 use Rattle.records_spec.specs.declared.head.KindByte.the-variants.{Known, Unknown}
 use Rattle.records_spec.proofs.Proper.{kind-agrees}
-use Rattle.codec_spec.specs.Bytes.{recordsBytes, headBytes, headSize, bytesOf}
+use Rattle.codec_spec.specs.Bytes.{recordsBytes, headBytes, behindKind, behindOwner, unownedHead, ownedHead, headSize, bytesOf}
 use Rattle.codec_spec.specs.Reading.{Parsed, parse, someFlags, withRecords, baseIn, ownerIn, recordsIn, flagsIn, readAs, readByte, read}
 use Rattle.codec_spec.proofs.Readings.{multi-long, single-right}
 use Rattle.codec_spec.proofs.Settling.{no-flags, read-whole, no-refusal}
@@ -32,7 +32,7 @@ abbrev pub owns : Option (List ℕ) → Bool
 owns none = false
 owns (some o) = true
 
--- each number in its range, 32 bytes of owner, epochs strictly ascending and above the base
+-- each number in its range, an owner's bytes, epochs strictly ascending and above the base
 pub record Proper (f : Flags) : Type 0 where
   pub base-fits : f .base < 65536
   pub owner-fits : Owned (owns (f .owner)) (f .owner)
@@ -126,10 +126,10 @@ kind-byte b k e =
 head-written : (k : Kind) (x : ℕ) (xs : List ℕ) (b : Bool) → owned k ≡ b → Bytes xs → headSize k ≤ suc (length xs) → x ≡ typeByte k
     → headBytes k (ownerIn k (x ∷ xs)) (baseIn k (x ∷ xs)) ++ drop (headSize k) (x ∷ xs) ≡ x ∷ xs
 head-written k x xs false e bs h t =
-    let n : 3 ≤ suc (length xs) = rw e at h in
+    let n : unownedHead ≤ suc (length xs) = rw e at h in
     rw (e, ← t) (ap (λ (l : List ℕ). x ∷ l) (ap (λ (l : List ℕ). l ++ drop 2 xs) (field-back 2 xs bs (omega arith)) ∙ take-append-drop 2 xs))
 head-written k x xs true e bs h t =
-    let n : 35 ≤ suc (length xs) = rw e at h in
+    let n : ownedHead ≤ suc (length xs) = rw e at h in
     let f : big 2 (said (take 2 (drop 32 xs))) ≡ take 2 (drop 32 xs) = field-back 2 (drop 32 xs) (bytes-drop 32 xs bs) (rw length-drop (omega arith)) in
     rw (e, ← t) (ap (λ (l : List ℕ). x ∷ l) (ap (λ (l : List ℕ). (take 32 xs ++ l) ++ drop 34 xs) f ∙ ap (λ (l : List ℕ). l ++ drop 34 xs) (sym (take-add 32 2 xs)) ∙ take-append-drop 34 xs))
 
@@ -137,16 +137,17 @@ head-written k x xs true e bs h t =
 pub owner-written : (k : Kind) (xs : List ℕ) (b : Bool) → owned k ≡ b → Bytes xs → headSize k ≤ length xs → Owned (owns (ownerIn k xs)) (ownerIn k xs)
 owner-written k xs false e bs h = rw e unowned
 owner-written k xs true e bs h =
-    let n : 35 ≤ length xs = rw e at h in
-    rw e (owner (take 32 (drop 1 xs)) (length-take 32 (drop 1 xs) ∙ (rw length-drop (omega arith))) (bytes-take 32 (drop 1 xs) (bytes-drop 1 xs bs)))
+    let n : ownedHead ≤ length xs = rw e at h in
+    let there : List ℕ = drop behindKind xs in
+    rw e (owner (take ownerLength there) (length-take ownerLength there ∙ (rw length-drop (omega arith))) (bytes-take ownerLength there (bytes-drop behindKind xs bs)))
 
 pub base-written : (k : Kind) (xs : List ℕ) (b : Bool) → owned k ≡ b → Bytes xs → headSize k ≤ length xs → baseIn k xs < 65536
 base-written k xs false e bs h =
-    let n : 3 ≤ length xs = rw e at h in
-    rw e (field-below 2 (drop 1 xs) (bytes-drop 1 xs bs) (rw length-drop (omega arith)))
+    let n : unownedHead ≤ length xs = rw e at h in
+    rw e (field-below 2 (drop behindKind xs) (bytes-drop behindKind xs bs) (rw length-drop (omega arith)))
 base-written k xs true e bs h =
-    let n : 35 ≤ length xs = rw e at h in
-    rw e (field-below 2 (drop 33 xs) (bytes-drop 33 xs bs) (rw length-drop (omega arith)))
+    let n : ownedHead ≤ length xs = rw e at h in
+    rw e (field-below 2 (drop behindOwner xs) (bytes-drop behindOwner xs bs) (rw length-drop (omega arith)))
 
 -- accepted bytes
 pub record Accepted (xs : List ℕ) (f : Flags) : Type 0 where
@@ -162,7 +163,7 @@ as-written k x xs f bs t e =
     let rs : List At = recordsIn k all .records in
     let r = records-reread (headSize k) (baseIn k all) (drop (headSize k) all) (bytes-drop (headSize k) all bs) (c .no-fault) in
     let kk : kindOf (ownerIn k all) (length rs) ≡ k =
-    kind-agrees (record { kind = k; base = 0; owner = take 32 (drop 1 all); records = length rs }) (w .agrees-kind) in
+    kind-agrees (record { kind = k; base = 0; owner = take ownerLength (drop behindKind all); records = length rs }) (w .agrees-kind) in
     let p : Proper (flagsIn k all) =
     record {
       base-fits = base-written k all (owned k) refl bs (c .head-inside);

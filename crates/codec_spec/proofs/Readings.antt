@@ -12,7 +12,7 @@ use Rattle.records_spec.specs.Flags.{flags, owned, multi, agrees, kindOfByte}
 use Rattle.records_spec.specs.declared.refusal.Refusal.{Refusal}
 use Rattle.records_spec.specs.declared.refusal.Refusal.the-variants.{WrongSize}
 use Rattle.records_spec.specs.declared.head.Kind.{Kind}
-use Rattle.codec_spec.specs.Bytes.{headSize}
+use Rattle.codec_spec.specs.Bytes.{unownedHead, ownedHead, headSize}
 use Rattle.codec_spec.specs.Reading.{Fault, Parsed, noFlags, someFlags, refusedAt, withRecords, baseIn, ownerIn, recordsIn, flagsIn, readAs, readByte, read}
 use Rattle.codec_spec.specs.Calls.{scanOf}
 use Rattle.codec_spec.specs.declared.judging.Scan.{Scan}
@@ -22,10 +22,10 @@ use Rattle.codec_spec.proofs.Turns.{scan-some}
 
 -- ---- the head's size
 
-pub owned-size : (k : Kind) (n : ℕ) → owned k ≡ true → headSize k ≤ n → 35 ≤ n
+pub owned-size : (k : Kind) (n : ℕ) → owned k ≡ true → headSize k ≤ n → ownedHead ≤ n
 owned-size k n e h = rw e at h
 
-pub unowned-size : (k : Kind) (n : ℕ) → owned k ≡ false → headSize k ≤ n → 3 ≤ n
+pub unowned-size : (k : Kind) (n : ℕ) → owned k ≡ false → headSize k ≤ n → unownedHead ≤ n
 unowned-size k n e h = rw e at h
 
 -- ---- flags of a kind

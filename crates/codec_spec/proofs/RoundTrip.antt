@@ -14,7 +14,7 @@ use Rattle.fields_spec.specs.Varint.{largest, varint, found, whole}
 use Rattle.fields_spec.proofs.Bigs.{length-big, said-big, big-said, said-below}
 use Rattle.fields_spec.proofs.RoundTrip.{Bytes, found-back, found-inv, found-written}
 use Rattle.records_spec.specs.Tables.{At}
-use Rattle.records_spec.specs.Flags.{owned}
+use Rattle.records_spec.specs.Flags.{owned, ownerLength}
 use Rattle.records_spec.specs.declared.head.Kind.{Kind}
 use Rattle.codec_spec.specs.Bytes.{recordBytes, recordsBytes, headBytes, headSize}
 use Rattle.codec_spec.specs.Reading.{Next, bad, good, next, Parsed, parse, withCount, baseIn, ownerIn}
@@ -127,10 +127,10 @@ records-reread at prev xs = reread (length xs) at prev xs (le-refl (length xs))
 
 -- ---- what stands before the records
 
--- the owner that flags of a kind have: 32 bytes where the kind is owned
+-- the owner that flags of a kind have: an owner's bytes where the kind is owned
 pub data Owned : Bool → Option (List ℕ) → Type 0 where
   unowned : Owned false none
-  owner : (o : List ℕ) → length o ≡ 32 → Bytes o → Owned true (some o)
+  owner : (o : List ℕ) → length o ≡ ownerLength → Bytes o → Owned true (some o)
 
 -- what reading finds behind byte 0, where the records' bytes are ys
 pub record HeadIn (k : Kind) (xs : List ℕ) (o : Option (List ℕ)) (base : ℕ) (ys : List ℕ) : Type 0 where

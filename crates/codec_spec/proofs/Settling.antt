@@ -10,7 +10,7 @@ use mathlib.Core.List.{List, [], _∷_}
 use lib.ListN.{length, take, drop}
 use Rattle.records_spec.specs.Tables.{At}
 use Rattle.records_spec.specs.Refusals.{number}
-use Rattle.records_spec.specs.Flags.{Flags, flags, owned, multi, kindOfByte, agrees, headOf, noHead}
+use Rattle.records_spec.specs.Flags.{Flags, flags, owned, multi, kindOfByte, ownerLength, agrees, headOf, noHead}
 use Rattle.records_spec.specs.Answers.{shown, after}
 use Rattle.records_spec.specs.declared.refusal.Refusal.{Refusal}
 use Rattle.records_spec.specs.declared.head.Kind.{Kind}
@@ -19,7 +19,7 @@ use Rattle.records_spec.specs.declared.head.KindByte.the-variants.{Known, Unkno
 use Rattle.records_spec.specs.declared.answer.Answered.{Answered}
 use Rattle.records_spec.specs.declared.answer.Outcome.the-variants.{Absent, Refused}
 use Rattle.records_spec.proofs.Answers.{after-refused, after-absent}
-use Rattle.codec_spec.specs.Bytes.{headSize}
+use Rattle.codec_spec.specs.Bytes.{behindKind, ownedHead, headSize}
 use Rattle.codec_spec.specs.Reading.{Fault, Parsed, Read, noFlags, someFlags, refusedAt, withRecords, baseIn, ownerIn, recordsIn, flagsIn, readAs, readByte, read}
 use Rattle.codec_spec.specs.Calls.{Complete, judgement, answer}
 use Rattle.codec_spec.specs.declared.judging.Verdict.the-variants.{Absent as IsAbsent, Present as IsPresent, Refused as IsRefused}
@@ -106,8 +106,9 @@ flags-whole (b ∷ xs) f e = by (kindOfByte b) e
 no-some : (a : List ℕ) → _≡_ {A = Option (List ℕ)} none (some a) → ⊥
 no-some a e = let z : _≡_ {A = ℕ} 0 1 = cc in omega arith
 
--- their owner is the 32 bytes behind the kind
-pub owner-behind : (xs : List ℕ) (f : Flags) (a : List ℕ) → read xs ≡ someFlags f → f .owner ≡ some a → (35 ≤ length xs) × (a ≡ take 32 (drop 1 xs))
+-- their owner is what stands behind the kind
+pub owner-behind : (xs : List ℕ) (f : Flags) (a : List ℕ) → read xs ≡ someFlags f → f .owner ≡ some a
+    → (ownedHead ≤ length xs) × (a ≡ take ownerLength (drop behindKind xs))
 owner-behind xs f a e o = by (owned k) refl
   where
     k : Kind
@@ -119,8 +120,8 @@ owner-behind xs f a e o = by (owned k) refl
     in-bytes : ownerIn k xs ≡ some a
     in-bytes = sym (ap (λ (g : Flags). g .owner) (w .in-bytes)) ∙ o
 
-    by : (b : Bool) → owned k ≡ b → (35 ≤ length xs) × (a ≡ take 32 (drop 1 xs))
-    by true h = let i : some (take 32 (drop 1 xs)) ≡ some a = rw h at in-bytes in (owned-size k (length xs) h (w .complete .head-inside), cc)
+    by : (b : Bool) → owned k ≡ b → (ownedHead ≤ length xs) × (a ≡ take ownerLength (drop behindKind xs))
+    by true h = let i : some (take ownerLength (drop behindKind xs)) ≡ some a = rw h at in-bytes in (owned-size k (length xs) h (w .complete .head-inside), cc)
     by false h = absurd (no-some a (rw h at in-bytes))
 
 -- ---- what a reader leaves

@@ -21,20 +21,20 @@ use Rattle.records_spec.specs.declared.head.Head.{Head}
 use Rattle.records_spec.proofs.Tables.{counts-records}
 use Rattle.records_spec.proofs.Proper.{IsProper}
 use Rattle.codec_spec.specs.Bytes.{recordBytes, recordsBytes, ownerBytes, headBytes, bytesOf}
-use Rattle.codec_spec.specs.Sizes.{countsSize}
+use Rattle.codec_spec.specs.Sizes.{longestRecord, countsSize}
 
 -- ---- records
 
 -- a count of 32 bits takes five bytes at most, so a record takes seven
-pub counts-most : (cs : List ℕ) → ((i : ℕ) → getD cs i 0 ≤ largest) → countsSize cs ≤ 7 * length cs
+pub counts-most : (cs : List ℕ) → ((i : ℕ) → getD cs i 0 ≤ largest) → countsSize cs ≤ longestRecord * length cs
 unfolding countsSize
 counts-most [] f = omega arith
 counts-most (c ∷ cs) f = omega (arith, length-five c (f 0), counts-most cs (λ i. f (suc i)))
 
--- the sum of the first k, with what the others add, is that of all, and none adds more than seven
+-- the sum of the first k, with what the others add, is that of all, and none adds more than the longest record
 pub record Summing (cs : List ℕ) (size k : ℕ) : Type 0 where
   pub within : k ≤ length cs
-  pub most : size ≤ 7 * k
+  pub most : size ≤ longestRecord * k
   pub whole : size + countsSize (drop k cs) ≡ countsSize cs
 
 pub summing-start : (cs : List ℕ) → Summing cs 0 0
@@ -52,7 +52,7 @@ module _ {cs : List ℕ} {size k : ℕ} (s : Summing cs size k) where
         whole = omega (arith, s .whole);
       }
 
-  pub summing-done : length cs ≤ k → (size ≡ countsSize cs) × (size ≤ 7 * length cs)
+  pub summing-done : length cs ≤ k → (size ≡ countsSize cs) × (size ≤ longestRecord * length cs)
   unfolding countsSize
   summing-done h =
       let none : countsSize (drop k cs) ≡ 0 = rw (drop-of-length-le cs {i = k} h) in

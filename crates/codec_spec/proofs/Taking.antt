@@ -11,7 +11,7 @@ use Rattle.records_spec.specs.Tables.{At, _⦂_, epochsOf, countsOf}
 use Rattle.records_spec.specs.declared.refusal.Refusal.{Refusal}
 use Rattle.records_spec.proofs.Tables.{filling-start, filling-done, placed-one, placed-then}
 use Rattle.codec_spec.specs.Reading.{next, Parsed}
-use Rattle.codec_spec.specs.Blocks.{gotOf, Taken, Blocked}
+use Rattle.codec_spec.specs.Blocks.{gotOf, Taken, blockRecords, Blocked}
 use Rattle.codec_spec.specs.declared.record.Got.the-variants.{Bad, Good}
 use Rattle.codec_spec.specs.declared.blocks.Block.the-variants.{Faulty, Read}
 use Rattle.codec_spec.proofs.Parsing.{rest, rest-bad, rest-good}
@@ -75,8 +75,8 @@ blocked-faulty d at prev es cs es′ cs′ r place h =
       taken = λ n j e q. let z : _≡_ {A = ℕ} 0 1 = cc in absurd (omega arith);
     }
 
-pub blocked-taken : {d : List ℕ} {at prev n j e : ℕ} {es cs es′ cs′ : List ℕ} → Taken d at prev n j e es cs es′ cs′ → (j < length d → 1 ≤ n) → n ≤ 64
-    → Blocked d at prev (Read n j e) es cs es′ cs′
+pub blocked-taken : {d : List ℕ} {at prev n j e : ℕ} {es cs es′ cs′ : List ℕ} → Taken d at prev n j e es cs es′ cs′ → (j < length d → 1 ≤ n)
+    → n ≤ blockRecords → Blocked d at prev (Read n j e) es cs es′ cs′
 blocked-taken {d} {at} {prev} {n} {j} {e} {es} {cs} {es′} {cs′} t here few =
     record {
       at-fault = λ r p q. let z : _≡_ {A = ℕ} 0 1 = cc in absurd (omega arith);

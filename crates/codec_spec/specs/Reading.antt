@@ -9,13 +9,13 @@ use lib.ListN.{length, take, drop}
 use Rattle.fields_spec.specs.Big.{said}
 use Rattle.fields_spec.specs.Varint.{Found, incomplete, notCanonical, whole, found}
 use Rattle.records_spec.specs.Tables.{At, _⦂_}
-use Rattle.records_spec.specs.Flags.{Flags, flags, owned, multi, kindOfByte, ownerIf}
+use Rattle.records_spec.specs.Flags.{Flags, flags, owned, multi, kindOfByte, ownerLength, ownerIf}
 use Rattle.records_spec.specs.declared.refusal.Refusal.{Refusal}
 use Rattle.records_spec.specs.declared.refusal.Refusal.the-variants.{UnknownType, WrongSize, NonCanonical}
 use Rattle.records_spec.specs.declared.head.Kind.{Kind}
 use Rattle.records_spec.specs.declared.head.KindByte.{KindByte}
 use Rattle.records_spec.specs.declared.head.KindByte.the-variants.{Known, Unknown}
-use Rattle.codec_spec.specs.Bytes.{basePlace, headSize}
+use Rattle.codec_spec.specs.Bytes.{behindKind, basePlace, headSize}
 
 -- ---- one record
 
@@ -77,7 +77,7 @@ baseIn k xs = said (take 2 (drop (basePlace k) xs))
 
 -- their owner, if the kind has one
 abbrev pub ownerIn : Kind → List ℕ → Option (List ℕ)
-ownerIn k xs = ownerIf (owned k) (take 32 (drop 1 xs))
+ownerIn k xs = ownerIf (owned k) (take ownerLength (drop behindKind xs))
 
 -- the records behind the head
 abbrev pub recordsIn : Kind → List ℕ → Parsed

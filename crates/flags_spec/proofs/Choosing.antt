@@ -9,11 +9,12 @@ use mathlib.Core.List.{List, []}
 use Prim.Native.Nat.{ℕ, _≤_}
 use native.Mathlib.Omega.{arith}
 use lib.ListN.{length, take, drop}
-use Rattle.records_spec.specs.Flags.{ownerIf, same, ownerOf}
+use Rattle.records_spec.specs.Flags.{ownerLength, ownerIf, same, ownerOf}
 use Rattle.records_spec.specs.Answers.{Answer, ok, refused}
 use Rattle.records_spec.specs.declared.refusal.Refusal.{Refusal}
 use Rattle.records_spec.proofs.Proper.{owner-head}
 use Rattle.records_spec.proofs.Owners.{owner-back, same-self}
+use Rattle.codec_spec.specs.Bytes.{behindKind, ownedHead}
 use Rattle.codec_spec.specs.Reading.{Read, noFlags, someFlags, refusedAt, read}
 use Rattle.codec_spec.specs.Calls.{judgement}
 use Rattle.codec_spec.specs.declared.judging.Judgement.{Judgement}
@@ -90,11 +91,11 @@ module _ (x : Read) (j : Judgement) (e : j ≡ judgement x) (go : Option (List �
 
 -- ---- where the owner stands
 
--- an owner that was read is the 32 bytes behind the kind
+-- an owner that was read is what stands behind the kind
 pub record Owned (xs a : List ℕ) : Type 0 where
   pub was-read : ownerRead (read xs) ≡ some a
-  pub long : 35 ≤ length xs
-  pub is-there : a ≡ take 32 (drop 1 xs)
+  pub long : ownedHead ≤ length xs
+  pub is-there : a ≡ take ownerLength (drop behindKind xs)
 
 pub owner-place : (xs a : List ℕ) → ownerRead (read xs) ≡ some a → Owned xs a
 owner-place xs a o = by (read xs) refl

@@ -4,6 +4,8 @@ use Prim.Native.Nat.{ℕ, _+_}
 use mathlib.Core.List.{List, []}
 use lib.ListN.{take, drop}
 use denote.Ref.{RefT}
+use Rattle.records_spec.specs.Flags.{ownerLength}
+use Rattle.codec_spec.specs.Bytes.{behindKind}
 use Rattle.flags_spec.specs.declared.owners.Choice.{Choice}
 use Rattle.flags_spec.specs.declared.owners.Choice.the-variants.{Ours, Theirs, Neither, Refused}
 
@@ -17,9 +19,9 @@ pub record Part : Type 0 where
 abbrev pub lent : RefT (List ℕ) → Part
 lent r = record { block = r .ptr .0; offset = r .ptr .1; bytes = r .now }
 
--- the owner of an encoding: the 32 bytes behind its kind
+-- the owner of an encoding: the bytes behind its kind
 abbrev pub ownerPart : Part → Part
-ownerPart p = record { block = p .block; offset = 1 + p .offset; bytes = take 32 (drop 1 (p .bytes)) }
+ownerPart p = record { block = p .block; offset = behindKind + p .offset; bytes = take ownerLength (drop behindKind (p .bytes)) }
 
 -- no bytes, at the start of an encoding
 abbrev pub emptyPart : Part → Part

@@ -60,9 +60,13 @@ kindOf (some o) n = cond (eqb n 0) SingleEpochOwned MultiEpochOwned
 
 -- ---- owners
 
--- 32 zeros, where there is no owner
+-- the bytes of an owner
+abbrev pub ownerLength : ℕ
+ownerLength = 32
+
+-- as many zeros, where there is no owner
 abbrev pub zeros : List ℕ
-zeros = replicate 32 0
+zeros = replicate ownerLength 0
 
 -- the owner, if there is one
 abbrev pub ownerIf : Bool → List ℕ → Option (List ℕ)

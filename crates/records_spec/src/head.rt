@@ -1,7 +1,10 @@
 // The head of flags, by value.
 
+// The bytes of an owner: `ownerLength`, by what `records::no_owner` ensures.
+pub const OWNER_LENGTH: usize = 32;
+
 // Who paid.
-pub type OwnerId = [u8; 32];
+pub type OwnerId = [u8; OWNER_LENGTH];
 
 // The four kinds, in the order of their bytes.
 pub enum Kind {

@@ -12,6 +12,7 @@ pub use head::Head;
 pub use head::Kind;
 pub use head::KindByte;
 pub use head::MaybeOwner;
+pub use head::OWNER_LENGTH;
 pub use head::OwnerId;
 pub use refusal::Refusal;
 pub use table::Next;
