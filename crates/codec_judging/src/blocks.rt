@@ -6,15 +6,19 @@ ghost use Prim.Native.Nat.{_+_, _≤_, _<_};
 ghost use lib.ListN.{length, take, drop};
 ghost use Rattle.records_spec.specs.Tables.{recordsOf};
 ghost use Rattle.codec_spec.specs.Reading.{parse};
-ghost use Rattle.codec_spec.specs.Blocks.{Blocked, filled, filledFrom};
+ghost use Rattle.codec_spec.specs.Blocks.{blockRecords, Blocked, filled, filledFrom};
 use crate::record::read_record;
 use crate::two_passes::read_twice;
+use codec_spec::BLOCK_RECORDS;
 use codec_spec::Block;
 use codec_spec::Got;
 use codec_spec::Scan;
 use records_spec::Refusal;
 
-// Reads records from `start` on, at most 64, and puts them at the start of the two tables.
+// So many records are read in one pass: each block waits for those behind it in the machine's stack.
+const ONE_PASS: usize = 16384;
+
+// Reads records from `start` on, at most those of a block, and puts them at the start of the two tables.
 pub fn read_block(
     src: &[u8],
     start: usize,
@@ -23,13 +27,13 @@ pub fn read_block(
     counts: &mut [u32],
 ) -> Block
     requires { ⌜ start ≤ length (now src) ⌝ }
-    requires { ⌜ (64 ≤ length (now epochs)) × (64 ≤ length (now counts)) ⌝ }
+    requires { ⌜ (blockRecords ≤ length (now epochs)) × (blockRecords ≤ length (now counts)) ⌝ }
     ensures { λ r. ⌜ Blocked (now (src .entry)) start base r (now (epochs .entry)) (now (counts .entry)) (now (epochs .exit)) (now (counts .exit)) ⌝ }
 {
     let mut at = start;
     let mut prev = base;
     let mut n: usize = 0;
-    while n < 64 {
+    while n < BLOCK_RECORDS {
         if src.len() <= at {
             return Block::Read {
                 n,
@@ -85,8 +89,8 @@ fn place_last(
     Scan::Faulty(Refusal::NoRoom, end)
 }
 
-// Reads the records from `at` on, after one at the epoch `prev`, and puts them into the lent tables from the place k on. Each block waits
-// for those behind it in the machine's stack, so only the first 16,384 records are read in this way.
+// Reads the records from `at` on, after one at the epoch `prev`, and puts them into the lent tables from the place k on:
+// where `ONE_PASS` stand before it, in two passes, else in one.
 pub fn read_blocks(
     src: &[u8],
     at: usize,
@@ -98,9 +102,9 @@ pub fn read_blocks(
     requires { ⌜ (k ≤ at) × (at ≤ length (now src)) × (1 ≤ k → at < length (now src)) ⌝ }
     ensures { λ r. ⌜ filled r (now (epochs .exit)) (now (counts .exit)) ≡ filledFrom (length (now (src .entry))) k (parse at 0 prev (drop at (now (src .entry))) .fault) (parse at 0 prev (drop at (now (src .entry))) .records) (now (epochs .entry)) (now (counts .entry)) ⌝ }
 {
-    let mut block_epochs = [0u16; 64];
-    let mut block_counts = [0u32; 64];
-    if 16384 <= k {
+    let mut block_epochs = [0u16; BLOCK_RECORDS];
+    let mut block_counts = [0u32; BLOCK_RECORDS];
+    if ONE_PASS <= k {
         return read_twice(
             src,
             at,

@@ -3,18 +3,25 @@ ghost use mathlib.Core.Path.{_≡_};
 ghost use mathlib.Core.Bool.{true, false};
 ghost use Prim.Native.Nat.{_+_, _≤_};
 ghost use lib.ListN.{length, take, drop};
-ghost use Rattle.records_spec.specs.Flags.{multi, agrees, idOf, headFor};
-ghost use Rattle.codec_spec.specs.Bytes.{headSize};
+ghost use Rattle.records_spec.specs.Flags.{multi, agrees, ownerLength, idOf, headFor};
+ghost use Rattle.codec_spec.specs.Bytes.{behindKind, behindOwner, headSize};
 ghost use Rattle.codec_spec.specs.Reading.{parse, noFlags, refusedAt, baseIn, ownerIn, readAs, read};
+ghost use Rattle.codec_spec.specs.Blocks.{blockRecords};
 ghost use Rattle.codec_spec.specs.Calls.{scanOf, judgement};
 use crate::blocks::read_block;
+use codec_spec::BEHIND_KIND;
+use codec_spec::BEHIND_OWNER;
+use codec_spec::BLOCK_RECORDS;
 use codec_spec::Block;
 use codec_spec::Judgement;
+use codec_spec::OWNED_HEAD;
 use codec_spec::Scan;
+use codec_spec::UNOWNED_HEAD;
 use codec_spec::Verdict;
 use records_spec::Head;
 use records_spec::Kind;
 use records_spec::KindByte;
+use records_spec::OWNER_LENGTH;
 use records_spec::OwnerId;
 use records_spec::Refusal;
 
@@ -27,7 +34,7 @@ pub fn judge_records(
     counts: &mut [u32],
 ) -> Scan
     requires { ⌜ start ≤ length (now src) ⌝ }
-    requires { ⌜ (64 ≤ length (now epochs)) × (64 ≤ length (now counts)) ⌝ }
+    requires { ⌜ (blockRecords ≤ length (now epochs)) × (blockRecords ≤ length (now counts)) ⌝ }
     ensures { λ r. ⌜ r ≡ scanOf (length (now (src .entry))) (parse start 0 base (drop start (now (src .entry))) .fault) (length (parse start 0 base (drop start (now (src .entry))) .records)) ⌝ }
 {
     let mut at = start;
@@ -60,9 +67,9 @@ pub fn head_size(kind: Kind) -> usize
     ensures { λ r. ⌜ r ≡ headSize kind ⌝ }
 {
     if records::is_owned(kind) {
-        return 35;
+        return OWNED_HEAD;
     }
-    3
+    UNOWNED_HEAD
 }
 
 // The base epoch of flags of a kind.
@@ -71,20 +78,20 @@ pub fn base_in(kind: Kind, src: &[u8]) -> u16
     ensures { λ r. ⌜ r ≡ baseIn kind (now (src .entry)) ⌝ }
 {
     if records::is_owned(kind) {
-        return fields::be16_at(src, 33);
+        return fields::be16_at(src, BEHIND_OWNER);
     }
-    fields::be16_at(src, 1)
+    fields::be16_at(src, BEHIND_KIND)
 }
 
-// The 32 bytes behind byte 0.
+// The owner's bytes, behind the kind.
 fn owner_bytes(src: &[u8]) -> OwnerId
-    requires { ⌜ 33 ≤ length (now src) ⌝ }
-    ensures { λ r. ⌜ r ≡ take 32 (drop 1 (now (src .entry))) ⌝ }
+    requires { ⌜ behindOwner ≤ length (now src) ⌝ }
+    ensures { λ r. ⌜ r ≡ take ownerLength (drop behindKind (now (src .entry))) ⌝ }
 {
-    let mut owner = [0u8; 32];
+    let mut owner = [0u8; OWNER_LENGTH];
     let mut k: usize = 0;
-    while k < 32 {
-        owner[k] = src[k + 1];
+    while k < OWNER_LENGTH {
+        owner[k] = src[k + BEHIND_KIND];
         k += 1;
     }
     owner
@@ -98,7 +105,7 @@ fn owner_in(kind: Kind, src: &[u8]) -> OwnerId
     if records::is_owned(kind) {
         return owner_bytes(src);
     }
-    [0u8; 32]
+    [0u8; OWNER_LENGTH]
 }
 
 // No flags.
@@ -162,8 +169,8 @@ fn judge_multi(kind: Kind, src: &[u8]) -> Judgement
         return refused_at(Refusal::WrongSize, src.len());
     }
     let base = base_in(kind, src);
-    let mut epochs = [0u16; 64];
-    let mut counts = [0u32; 64];
+    let mut epochs = [0u16; BLOCK_RECORDS];
+    let mut counts = [0u32; BLOCK_RECORDS];
     match judge_records(src, size, base, &mut epochs, &mut counts) {
         Scan::Faulty(refusal, place) => refused_at(refusal, place),
         Scan::Records(n) => present(kind, src, n),

@@ -4,7 +4,7 @@ ghost use Prim.Native.Nat.{_+_, _≤_, _<_};
 ghost use lib.ListN.{length, drop};
 ghost use Rattle.records_spec.specs.Tables.{Placed};
 ghost use Rattle.codec_spec.specs.Reading.{parse};
-ghost use Rattle.codec_spec.specs.Blocks.{Sound, filled, filledFrom};
+ghost use Rattle.codec_spec.specs.Blocks.{blockRecords, Sound, filled, filledFrom};
 use crate::judging::judge_records;
 use codec_spec::Scan;
 use records_spec::Refusal;
@@ -49,7 +49,7 @@ pub fn read_twice(
     block_counts: &mut [u32],
 ) -> Scan
     requires { ⌜ (k ≤ at) × (at < length (now src)) ⌝ }
-    requires { ⌜ (64 ≤ length (now «block_epochs»)) × (64 ≤ length (now «block_counts»)) ⌝ }
+    requires { ⌜ (blockRecords ≤ length (now «block_epochs»)) × (blockRecords ≤ length (now «block_counts»)) ⌝ }
     ensures { λ r. ⌜ filled r (now (epochs .exit)) (now (counts .exit)) ≡ filledFrom (length (now (src .entry))) k (parse at 0 prev (drop at (now (src .entry))) .fault) (parse at 0 prev (drop at (now (src .entry))) .records) (now (epochs .entry)) (now (counts .entry)) ⌝ }
 {
     match judge_records(src, at, prev, block_epochs, block_counts) {

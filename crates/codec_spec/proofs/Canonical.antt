@@ -139,7 +139,8 @@ owner-written k xs false e bs h = rw e unowned
 owner-written k xs true e bs h =
     let n : ownedHead ≤ length xs = rw e at h in
     let there : List ℕ = drop behindKind xs in
-    rw e (owner (take ownerLength there) (length-take ownerLength there ∙ (rw length-drop (omega arith))) (bytes-take ownerLength there (bytes-drop behindKind xs bs)))
+    let l : length (take ownerLength there) ≡ ownerLength = length-take ownerLength there ∙ (rw length-drop (omega arith)) in
+    rw e (owner (take ownerLength there) l (bytes-take ownerLength there (bytes-drop behindKind xs bs)))
 
 pub base-written : (k : Kind) (xs : List ℕ) (b : Bool) → owned k ≡ b → Bytes xs → headSize k ≤ length xs → baseIn k xs < 65536
 base-written k xs false e bs h =

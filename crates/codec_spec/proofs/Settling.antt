@@ -121,7 +121,9 @@ owner-behind xs f a e o = by (owned k) refl
     in-bytes = sym (ap (λ (g : Flags). g .owner) (w .in-bytes)) ∙ o
 
     by : (b : Bool) → owned k ≡ b → (ownedHead ≤ length xs) × (a ≡ take ownerLength (drop behindKind xs))
-    by true h = let i : some (take ownerLength (drop behindKind xs)) ≡ some a = rw h at in-bytes in (owned-size k (length xs) h (w .complete .head-inside), cc)
+    by true h =
+        let i : some (take ownerLength (drop behindKind xs)) ≡ some a = rw h at in-bytes in
+        (owned-size k (length xs) h (w .complete .head-inside), cc)
     by false h = absurd (no-some a (rw h at in-bytes))
 
 -- ---- what a reader leaves

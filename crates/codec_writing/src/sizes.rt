@@ -3,21 +3,31 @@ ghost use mathlib.Core.Path.{_≡_};
 ghost use Prim.Native.Nat.{_+_, _*_, _≤_};
 ghost use lib.Dec.{leb};
 ghost use lib.ListN.{length};
-ghost use Rattle.records_spec.specs.Flags.{owned, ownerIf, ownerOf};
+ghost use Rattle.records_spec.specs.Flags.{owned, ownerLength, ownerIf, ownerOf};
 ghost use Rattle.records_spec.specs.Answers.{counted};
-ghost use Rattle.codec_spec.specs.Bytes.{ownerBytes};
-ghost use Rattle.codec_spec.specs.Sizes.{changesSize, approximate, countsSize};
+ghost use Rattle.codec_spec.specs.Bytes.{ownerBytes, unownedHead, ownedHead};
+ghost use Rattle.codec_spec.specs.Sizes.{longestRecord, changesSize, largestChanges, approximate, countsSize};
 ghost use Rattle.codec_spec.specs.Calls.{sizeOf};
 use codec_spec::Changes;
+use codec_spec::LONGEST_RECORD;
+use codec_spec::OWNED_HEAD;
+use codec_spec::UNOWNED_HEAD;
 use records_spec::Counted;
 use records_spec::Head;
 use records_spec::Kind;
+use records_spec::OWNER_LENGTH;
 use records_spec::OwnerId;
 use records_spec::Refusal;
 
+// The bytes of a head without an owner, as the 32 bits that document 01 asks for.
+const UNOWNED_32: u32 = UNOWNED_HEAD as u32;
+
+// The same with an owner.
+const OWNED_32: u32 = OWNED_HEAD as u32;
+
 // The size of so many changes.
 fn changes_size(changes: Changes) -> u32
-    ensures { λ r. ⌜ (r ≡ changesSize changes) × (r ≤ 16842495) ⌝ }
+    ensures { λ r. ⌜ (r ≡ changesSize changes) × (r ≤ largestChanges) ⌝ }
 {
     match changes {
         Changes::NotGiven => 0,
@@ -31,14 +41,14 @@ pub fn approximate_size(has_owner_id: bool, changes: Changes) -> u32
 {
     let size = changes_size(changes);
     if has_owner_id {
-        return 35 + size;
+        return OWNED_32 + size;
     }
-    3 + size
+    UNOWNED_32 + size
 }
 
 // The number of bytes of records with these counts.
 fn records_size(counts: &[u32]) -> usize
-    ensures { λ r. ⌜ (r ≡ countsSize (now (counts .entry))) × (r ≤ 7 * length (now (counts .entry))) ⌝ }
+    ensures { λ r. ⌜ (r ≡ countsSize (now (counts .entry))) × (r ≤ longestRecord * length (now (counts .entry))) ⌝ }
 {
     let mut size: usize = 0;
     let mut k: usize = 0;
@@ -52,7 +62,7 @@ fn records_size(counts: &[u32]) -> usize
 // The same number, for the test of room. `records_size` looks each length up in the table that document 01 binds; this one sums
 // lengths by limits, since such a loop can become vector code.
 fn size_by_limits(counts: &[u32]) -> usize
-    ensures { λ r. ⌜ (r ≡ countsSize (now (counts .entry))) × (r ≤ 7 * length (now (counts .entry))) ⌝ }
+    ensures { λ r. ⌜ (r ≡ countsSize (now (counts .entry))) × (r ≤ longestRecord * length (now (counts .entry))) ⌝ }
 {
     let mut size: usize = 0;
     let mut k: usize = 0;
@@ -66,25 +76,25 @@ fn size_by_limits(counts: &[u32]) -> usize
 
 // The number of bytes of an owner, if there is one.
 fn owner_id_size(kind: Kind, owner: OwnerId) -> usize
-    ensures { λ r. ⌜ (r ≡ length (ownerBytes (ownerIf (owned kind) owner))) × (r ≤ 32) ⌝ }
+    ensures { λ r. ⌜ (r ≡ length (ownerBytes (ownerIf (owned kind) owner))) × (r ≤ ownerLength) ⌝ }
 {
     if records::is_owned(kind) {
-        return 32;
+        return OWNER_LENGTH;
     }
     0
 }
 
 // The number of bytes before the records.
 pub fn head_bytes_size(head: Head) -> usize
-    ensures { λ r. ⌜ (r ≡ 3 + length (ownerBytes (ownerOf head))) × (r ≤ 35) ⌝ }
+    ensures { λ r. ⌜ (r ≡ unownedHead + length (ownerBytes (ownerOf head))) × (r ≤ ownedHead) ⌝ }
 {
     let kind = head.kind;
     let owner = head.owner;
-    3 + owner_id_size(kind, owner)
+    UNOWNED_HEAD + owner_id_size(kind, owner)
 }
 
-// Whether `size` bytes and records with these counts fit in `room` bytes. Seven bytes a record are surely enough, and then
-// no sum is made.
+// Whether `size` bytes and records with these counts fit in `room` bytes. The longest records are surely enough, and
+// then no sum is made.
 pub fn fit(size: usize, counts: &[u32], room: usize) -> bool
     ensures { λ r. ⌜ r ≡ leb (size + countsSize (now (counts .entry))) room ⌝ }
 {
@@ -92,7 +102,7 @@ pub fn fit(size: usize, counts: &[u32], room: usize) -> bool
         return false;
     }
     let left = room - size;
-    if 7 * counts.len() <= left {
+    if LONGEST_RECORD * counts.len() <= left {
         return true;
     }
     size_by_limits(counts) <= left

@@ -6,42 +6,44 @@ ghost use Rattle.fields_spec.specs.Writing.{Put};
 ghost use Rattle.records_spec.specs.Tables.{recordsOf};
 ghost use Rattle.records_spec.specs.Flags.{ownerOf};
 ghost use Rattle.records_spec.specs.Answers.{wrote};
-ghost use Rattle.codec_spec.specs.Bytes.{ownerBytes, headBytes, recordsBytes};
+ghost use Rattle.codec_spec.specs.Bytes.{ownerBytes, headBytes, recordsBytes, unownedHead};
 ghost use Rattle.codec_spec.specs.Sizes.{countsSize};
 ghost use Rattle.codec_spec.specs.Calls.{serialized};
 use crate::sizes::fit;
 use crate::sizes::head_bytes_size;
+use codec_spec::BEHIND_KIND;
 use records_spec::Counted;
 use records_spec::Head;
+use records_spec::OWNER_LENGTH;
 use records_spec::OwnerId;
 use records_spec::Refusal;
 
-// Writes the owner's 32 bytes at `at`; answers the place behind them.
+// Writes the owner's bytes at `at`; answers the place behind them.
 fn put_owner(out: &mut [u8], at: usize, owner: OwnerId) -> usize
     requires { ⌜ at + length owner ≤ length (now out) ⌝ }
     ensures { λ r. ⌜ Put owner at r (now (out .entry)) (now (out .exit)) ⌝ }
 {
     let mut k: usize = 0;
-    while k < 32 {
+    while k < OWNER_LENGTH {
         out[at + k] = owner[k];
         k += 1;
     }
-    at + 32
+    at + OWNER_LENGTH
 }
 
 // Writes what stands before the records at the start of `out`; answers the place behind it.
 fn put_head(out: &mut [u8], head: Head) -> usize
-    requires { ⌜ 3 + length (ownerBytes (ownerOf head)) ≤ length (now out) ⌝ }
+    requires { ⌜ unownedHead + length (ownerBytes (ownerOf head)) ≤ length (now out) ⌝ }
     ensures { λ r. ⌜ Put (headBytes (head .kind) (ownerOf head) (head .base)) 0 r (now (out .entry)) (now (out .exit)) ⌝ }
 {
     let kind = head.kind;
     out[0] = records::kind_byte(kind);
     if records::is_owned(kind) {
         let owner = head.owner;
-        let at = put_owner(out, 1, owner);
+        let at = put_owner(out, BEHIND_KIND, owner);
         return fields::put_be16(out, at, head.base);
     }
-    fields::put_be16(out, 1, head.base)
+    fields::put_be16(out, BEHIND_KIND, head.base)
 }
 
 // Writes records at `at`; answers the place behind them.

@@ -5,6 +5,8 @@ ghost use Rattle.codec_spec.specs.Reading.{read};
 ghost use Rattle.flags_spec.specs.Owners.{disputed, choice, combinedOwner, chosenAs, ownerRead, unlessRefused};
 ghost use Rattle.flags_spec.specs.Parts.{lent};
 ghost use Rattle.flags_spec.specs.Calls.{ownerChoice, ownerHanded};
+use codec_spec::BEHIND_KIND;
+use codec_spec::BEHIND_OWNER;
 use codec_spec::Verdict;
 use flags_spec::Choice;
 use flags_spec::ChosenOwner;
@@ -108,8 +110,8 @@ pub fn combine_owner_id<'a>(
     ensures { λ r. ⌜ lent r ≡ ownerHanded strategy (lent (ours .entry)) (lent (theirs .entry)) ⌝ }
 {
     match choose_owner_id(ours, theirs, strategy) {
-        Choice::Ours => &ours[1..33],
-        Choice::Theirs => &theirs[1..33],
+        Choice::Ours => &ours[BEHIND_KIND..BEHIND_OWNER],
+        Choice::Theirs => &theirs[BEHIND_KIND..BEHIND_OWNER],
         Choice::Neither => &ours[..0],
         Choice::Refused(_) => &ours[..0],
     }

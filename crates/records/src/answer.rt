@@ -5,6 +5,7 @@ ghost use Rattle.records_spec.specs.Answers.{roomFor};
 use records_spec::Answered;
 use records_spec::Head;
 use records_spec::Kind;
+use records_spec::OWNER_LENGTH;
 use records_spec::Outcome;
 use records_spec::Refusal;
 
@@ -15,7 +16,7 @@ pub fn no_head() -> Head
     Head {
         kind: Kind::SingleEpoch,
         base: 0,
-        owner: [0u8; 32],
+        owner: [0u8; OWNER_LENGTH],
         records: 0,
     }
 }

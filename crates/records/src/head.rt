@@ -6,6 +6,7 @@ use records_spec::Head;
 use records_spec::Kind;
 use records_spec::KindByte;
 use records_spec::MaybeOwner;
+use records_spec::OWNER_LENGTH;
 use records_spec::OwnerId;
 
 // Whether flags of this kind have an owner.
@@ -69,7 +70,7 @@ pub fn no_owner() -> MaybeOwner
 {
     MaybeOwner {
         owned: false,
-        id: [0u8; 32],
+        id: [0u8; OWNER_LENGTH],
     }
 }
 
@@ -79,7 +80,7 @@ pub fn same_owner(ours: OwnerId, theirs: OwnerId) -> bool
 {
     let mut good = true;
     let mut i: usize = 0;
-    while i < 32 {
+    while i < OWNER_LENGTH {
         good = good & (ours[i] == theirs[i]);
         i += 1;
     }
@@ -107,7 +108,7 @@ pub fn new_head(base: u16, maybe_owner_id: MaybeOwner, records: usize) -> Head
             records,
         };
     }
-    let owner = [0u8; 32];
+    let owner = [0u8; OWNER_LENGTH];
     if records == 0 {
         return Head {
             kind: Kind::SingleEpoch,

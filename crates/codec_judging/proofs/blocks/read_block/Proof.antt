@@ -4,16 +4,16 @@ use Prim.Native.Nat.{_-_, _≤_, _<_}
 use native.Mathlib.Omega.{arith}
 use borrow.Author.Needs.{needs}
 use lib.ListN.{length}
-use Rattle.codec_spec.specs.Blocks.{Taken}
+use Rattle.codec_spec.specs.Blocks.{blockRecords, Taken}
 use Rattle.codec_spec.proofs.Taking.{taken-start, taken-epochs, taken-counts, taken-bad, taken-more, blocked-faulty, blocked-taken}
 use Rattle.codec_judging.proofs.blocks.read_block.Statement.{statement}
 use Rattle.codec_judging.proofs.blocks.read_block.Tie as tie
 
 abbrev Inv-loop : tie.InvT-loop
-Inv-loop src start base epochs₀ counts₀ at₀ prev₀ n₀ epochs counts at prev n = (n ≤ 64) × Taken src start base n at prev epochs₀ counts₀ epochs counts
+Inv-loop src start base epochs₀ counts₀ at₀ prev₀ n₀ epochs counts at prev n = (n ≤ blockRecords) × Taken src start base n at prev epochs₀ counts₀ epochs counts
 
 abbrev μ-loop : tie.MeasureT-loop
-μ-loop src start base epochs₀ counts₀ at₀ prev₀ n₀ epochs counts at prev n = 64 - n
+μ-loop src start base epochs₀ counts₀ at₀ prev₀ n₀ epochs counts at prev n = blockRecords - n
 
 loop-holds : tie.Need-loop-holds Inv-loop μ-loop
 loop-holds c =

@@ -4,15 +4,16 @@ use Prim.Native.Nat.{_-_, _≤_}
 use native.Mathlib.Omega.{arith}
 use borrow.Author.Needs.{needs}
 use lib.ListN.{length}
+use Rattle.records_spec.specs.Flags.{ownerLength}
 use Rattle.codec_spec.proofs.Copying.{Copied, copy-start, copy-more, copy-done}
 use Rattle.codec_writing.proofs.writing.put_owner.Statement.{statement}
 use Rattle.codec_writing.proofs.writing.put_owner.Tie as tie
 
 abbrev Inv-loop : tie.InvT-loop
-Inv-loop out₀ at owner k₀ out k = (k ≤ 32) × (length owner ≡ 32) × Copied owner at out₀ k out
+Inv-loop out₀ at owner k₀ out k = (k ≤ ownerLength) × (length owner ≡ ownerLength) × Copied owner at out₀ k out
 
 abbrev μ-loop : tie.MeasureT-loop
-μ-loop out₀ at owner k₀ out k = 32 - k
+μ-loop out₀ at owner k₀ out k = ownerLength - k
 
 loop-holds : tie.Need-loop-holds Inv-loop μ-loop
 loop-holds c = (omega arith, omega arith, copy-start (c .args .t3) (c .args .at) (c .args .out .now))
@@ -34,7 +35,7 @@ same-length c = c .before .loop .inv .2 .long
 returns : tie.Need-returns Inv-loop μ-loop
 returns c =
     let l = c .before .loop in
-    let e : l .k ≡ 32 = omega (arith, c .loop-test .left) in
+    let e : l .k ≡ ownerLength = omega (arith, c .loop-test .left) in
     rw e at (copy-done (l .inv .2) (omega arith))
 
 pub put-owner-spec : {M : Type 1} → statement M

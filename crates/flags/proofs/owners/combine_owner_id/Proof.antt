@@ -5,6 +5,7 @@ use mathlib.Core.Path.{_≡_, sym, ap, _∙_}
 use native.Mathlib.Omega.{arith}
 use lib.ListN.{length}
 use borrow.Author.Needs.{needs}
+use Rattle.codec_spec.specs.Bytes.{behindOwner}
 use Rattle.flags_spec.specs.Parts.{lent, handed}
 use Rattle.flags_spec.specs.Calls.{ownerChoice, ownerHanded}
 use Rattle.flags_spec.specs.declared.owners.Choice.{Choice}
@@ -29,7 +30,7 @@ part-result-end : tie.Need-part-result-end
 part-result-end c =
     let start = c .before .before .before .before .before in
     let a = start .args in
-    let l : 33 ≤ length (a .ours .now) = omega (
+    let l : behindOwner ≤ length (a .ours .now) = omega (
       arith,
       ours-owned (a .strategy) (a .ours .now) (a .theirs .now)
           (told (c .before .before) Ours (c .enum-told .given .1)) .1 .long,
@@ -40,7 +41,7 @@ part-result-end-2 : tie.Need-part-result-end-2
 part-result-end-2 c =
     let start = c .before .before .before .before .before in
     let a = start .args in
-    let l : 33 ≤ length (a .theirs .now) = omega (
+    let l : behindOwner ≤ length (a .theirs .now) = omega (
       arith,
       theirs-owned (a .strategy) (a .ours .now) (a .theirs .now)
           (told (c .before .before) Theirs (c .enum-told2 .given .1)) .1 .long,

@@ -6,16 +6,16 @@ use native.Mathlib.Omega.{arith}
 use lib.Dec.{eqb}
 use lib.ListN.{length, drop, getD}
 use borrow.Author.Needs.{needs}
-use Rattle.records_spec.specs.Flags.{same}
+use Rattle.records_spec.specs.Flags.{ownerLength, same}
 use Rattle.records_spec.proofs.Owners.{same-on, same-end}
 use Rattle.records.proofs.head.same_owner.Statement.{statement}
 use Rattle.records.proofs.head.same_owner.Tie as tie
 
 abbrev Inv-loop : tie.InvT-loop
-Inv-loop ours theirs good₀ i₀ good i = (i ≤ 32) × (same ours theirs ≡ (good && same (drop i ours) (drop i theirs)))
+Inv-loop ours theirs good₀ i₀ good i = (i ≤ ownerLength) × (same ours theirs ≡ (good && same (drop i ours) (drop i theirs)))
 
 abbrev μ-loop : tie.MeasureT-loop
-μ-loop ours theirs good₀ i₀ good i = 32 - i
+μ-loop ours theirs good₀ i₀ good i = ownerLength - i
 
 loop-holds : tie.Need-loop-holds Inv-loop μ-loop
 loop-holds c = (omega arith, refl)
