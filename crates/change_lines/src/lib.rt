@@ -5,17 +5,17 @@ ghost use lib.ListN.{length};
 ghost use Rattle.fields_spec.specs.Writing.{Put};
 ghost use Rattle.repair_spec.specs.Changes.{line};
 ghost use Rattle.change_lines_spec.specs.Text.{words, changeOf};
-ghost use Rattle.change_lines_spec.specs.Chunks.{longest, OneLine, Chunked};
+ghost use Rattle.change_lines_spec.specs.Chunks.{longestWords, longestLine, OneLine, Chunked};
 use change_lines_spec::Chunk;
 use listing::put_decimal;
 use listing::put_text;
 
-// The most bytes of a line: 20 digits, a blank, words of 14 bytes and the line end.
-const LINE: usize = 36;
+// The most bytes of a line: `longestLine`, by the proof of `put_lines`.
+const LONGEST_LINE: usize = 36;
 
 // Writes the words of the change with a number at `at`; answers the place behind them.
 fn put_words(out: &mut [u8], at: usize, change: u8) -> usize
-    requires { ⌜ at + 14 ≤ length (now out) ⌝ }
+    requires { ⌜ at + longestWords ≤ length (now out) ⌝ }
     ensures { λ r. ⌜ Put (words (changeOf change)) at r (now (out .entry)) (now (out .exit)) ⌝ }
 {
     if change == 1 {
@@ -41,7 +41,7 @@ fn put_words(out: &mut [u8], at: usize, change: u8) -> usize
 
 // Writes a line at `at`; answers the place behind it.
 fn put_line(out: &mut [u8], at: usize, offset: usize, change: u8) -> usize
-    requires { ⌜ at + longest ≤ length (now out) ⌝ }
+    requires { ⌜ at + longestLine ≤ length (now out) ⌝ }
     ensures { λ r. ⌜ OneLine (line offset (changeOf change)) at r (now (out .entry)) (now (out .exit)) ⌝ }
 {
     let blank = put_decimal(out, at, offset as u64);
@@ -53,13 +53,13 @@ fn put_line(out: &mut [u8], at: usize, offset: usize, change: u8) -> usize
 // Writes lines at the start of `out`, from the line at `from` on, until one might have no room or none is left.
 pub fn put_lines(offsets: &[usize], changes: &[u8], from: usize, out: &mut [u8]) -> Chunk
     requires { ⌜ (length (now offsets) ≡ length (now changes)) × (from ≤ length (now offsets)) ⌝ }
-    requires { ⌜ longest ≤ length (now out) ⌝ }
+    requires { ⌜ longestLine ≤ length (now out) ⌝ }
     ensures { λ r. ⌜ Chunked (now (offsets .entry)) (now (changes .entry)) from r (now (out .entry)) (now (out .exit)) ⌝ }
 {
     let mut size: usize = 0;
     let mut next = from;
     while next < offsets.len() {
-        if out.len() - size < LINE {
+        if out.len() - size < LONGEST_LINE {
             return Chunk { next, size };
         }
         size = put_line(out, size, offsets[next], changes[next]);

@@ -9,7 +9,7 @@ use Rattle.fields_spec.specs.Writing.{Put}
 use Rattle.fields_spec.proofs.Parts.{parts-start, parts-put, parts-last, put-long}
 use Rattle.repair_spec.specs.Changes.{Line, line}
 use Rattle.change_lines_spec.specs.Text.{lineText, linesText, changeOf, linesIn}
-use Rattle.change_lines_spec.specs.Chunks.{longest, between, OneLine, Chunked}
+use Rattle.change_lines_spec.specs.Chunks.{longestLine, between, OneLine, Chunked}
 use Rattle.change_lines_spec.proofs.Texts.{text-append, length-lines, lines-more}
 
 -- the lines from the place from up to the place next are put, and take size bytes
@@ -17,7 +17,7 @@ pub record Putting (os cs : List ℕ) (from : ℕ) (old : List ℕ) (size next :
   pub put : Put (linesText (between from next os cs)) 0 size old new
   pub begun : from ≤ next
   pub inside : next ≤ length os
-  pub few : size + longest * from ≤ longest * next
+  pub few : size + longestLine * from ≤ longestLine * next
   pub fits : size ≤ length new
   pub long : length new ≡ length old
 
@@ -51,7 +51,7 @@ module _ {os cs : List ℕ} {from : ℕ} {old : List ℕ} {size next : ℕ} {new
         ap linesText e ∙ text-append (between from next os cs) (l ∷ []) ∙ ap (λ (t : List ℕ). linesText (between from next os cs) ++ t) (append-nil (lineText l))
 
     -- one line more is put
-    pub putting-line : {size′ : ℕ} {new′ : List ℕ} → size + longest ≤ length new
+    pub putting-line : {size′ : ℕ} {new′ : List ℕ} → size + longestLine ≤ length new
         → OneLine (line (getD os next 0) (changeOf (getD cs next 0))) size size′ new new′ → Putting os cs from old size′ (next + 1) new′
     putting-line {size′} {new′} room q =
         record {
@@ -64,7 +64,7 @@ module _ {os cs : List ℕ} {from : ℕ} {old : List ℕ} {size next : ℕ} {new
         }
 
   -- no line may have room: one at least is put, since one has room in the whole
-  pub putting-full : longest ≤ length old → length new < size + longest → Chunked os cs from (record { next = next; size = size }) old new
+  pub putting-full : longestLine ≤ length old → length new < size + longestLine → Chunked os cs from (record { next = next; size = size }) old new
   putting-full r h =
       record { put = p .put; goes-on = λ i. omega (arith, p .few, p .long); inside = p .inside; fits = p .fits }
 

@@ -6,17 +6,18 @@ use mathlib.Core.Path.{_≡_, refl, sym, ap, ap₂, _∙_}
 use mathlib.Core.List.{List, [], _∷_, _++_, append-assoc}
 use lib.ListN.{length, take, getD, length-append}
 use Rattle.listing_spec.specs.Text.{decimal}
+use Rattle.listing_spec.specs.Sizes.{mostDigits}
 use Rattle.listing_spec.proofs.Decimals.{length-below}
 use Rattle.repair_spec.specs.Changes.{Line, line, changeNumber}
 use Rattle.repair_spec.specs.Calls.{offsetsOf, changesOf}
 use Rattle.repair_spec.specs.declared.change.Change.{Change}
 use Rattle.repair_spec.specs.declared.change.Change.the-variants.{ReEncoded, TooLarge, NotAboveBase, Replaced, TailCut, Moved, KindChanged}
 use Rattle.change_lines_spec.specs.Text.{words, lineText, linesText, changeOf, linesIn}
-use Rattle.change_lines_spec.specs.Chunks.{longest}
+use Rattle.change_lines_spec.specs.Chunks.{longestWords, longestLine}
 
 -- ---- one line
 
-words-short : (c : Change) → length (words c) ≤ 14
+words-short : (c : Change) → length (words c) ≤ longestWords
 words-short ReEncoded = omega arith
 words-short TooLarge = omega arith
 words-short NotAboveBase = omega arith
@@ -29,7 +30,7 @@ pub length-line : (l : Line) → length (lineText l) ≡ length (decimal (l .off
 length-line l = simp length-append (omega arith)
 
 -- a line is at most so long
-pub line-short : (l : Line) → l .offset < 10 ^ 20 → length (lineText l) ≤ longest
+pub line-short : (l : Line) → l .offset < 10 ^ mostDigits → length (lineText l) ≤ longestLine
 line-short l h = omega (arith, length-line l, length-below 19 (l .offset) h, words-short (l .change))
 
 -- ---- all lines

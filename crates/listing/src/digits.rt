@@ -3,12 +3,12 @@ ghost use mathlib.Core.Path.{_≡_};
 ghost use Prim.Native.Nat.{_+_, _≤_, _<_};
 ghost use lib.ListN.{length};
 ghost use Rattle.fields_spec.specs.Writing.{Put};
-ghost use Rattle.listing_spec.specs.Sizes.{Sized};
+ghost use Rattle.listing_spec.specs.Sizes.{mostDigits, Sized};
 ghost use Rattle.listing_spec.specs.Text.{decimal, hexDigit, hex};
 
 // The number of decimal digits of `n`.
 pub fn decimal_len(n: u64) -> usize
-    ensures { λ r. ⌜ Sized (decimal n) 20 r ⌝ }
+    ensures { λ r. ⌜ Sized (decimal n) mostDigits r ⌝ }
 {
     let mut rest = n;
     let mut k: usize = 1;

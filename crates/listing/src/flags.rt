@@ -4,7 +4,7 @@ ghost use Prim.Native.Nat.{_≤_};
 ghost use lib.ListN.{length};
 ghost use Rattle.fields_spec.specs.Writing.{Put};
 ghost use Rattle.listing_spec.specs.Heads.{headText, outcomeText, Held};
-ghost use Rattle.listing_spec.specs.Listed.{places};
+ghost use Rattle.listing_spec.specs.Listed.{recordPlaces};
 use crate::lines::line_len;
 use crate::lines::owner_len;
 use crate::lines::put_line;
@@ -18,7 +18,7 @@ use records_spec::Outcome;
 
 // The length of the text of flags whose records are all of the two tables.
 fn flags_len(head: Head, epochs: &[u16], counts: &[u32]) -> usize
-    requires { ⌜ (length (now epochs) ≡ length (now counts)) × (length (now epochs) ≤ places) ⌝ }
+    requires { ⌜ (length (now epochs) ≡ length (now counts)) × (length (now epochs) ≤ recordPlaces) ⌝ }
     ensures { λ r. ⌜ r ≡ length (headText head (now (epochs .entry)) (now (counts .entry))) ⌝ }
 {
     let first = line_len(b"kind ", records::type_byte(head) as u64) + owner_len(head);

@@ -10,16 +10,18 @@ ghost use mathlib.Core.Path.{_≡_};
 ghost use Prim.Native.Nat.{_≤_};
 ghost use lib.ListN.{length};
 ghost use Rattle.records_spec.specs.Answers.{wrote, writing};
-ghost use Rattle.listing_spec.specs.Listed.{most, places, listed};
+ghost use Rattle.listing_spec.specs.Listed.{mostListed, recordPlaces, listed};
 use crate::flags::answer_len;
 use crate::flags::put_answer;
+use listing_spec::MOST_LISTED;
+use listing_spec::RECORD_PLACES;
 use records_spec::Counted;
 use records_spec::Refusal;
 
 // Lists bytes that are not too many, by way of two tables that have room for the records of so many bytes.
 fn list_flags(src: &[u8], epochs: &mut [u16], counts: &mut [u32], out: &mut [u8]) -> Counted
-    requires { ⌜ length (now src) ≤ most ⌝ }
-    requires { ⌜ (length (now epochs) ≡ places) × (length (now counts) ≡ places) ⌝ }
+    requires { ⌜ length (now src) ≤ mostListed ⌝ }
+    requires { ⌜ (length (now epochs) ≡ recordPlaces) × (length (now counts) ≡ recordPlaces) ⌝ }
     ensures { λ r. ⌜ wrote r (now (out .exit)) ≡ writing (listed (now (src .entry))) (now (out .entry)) ⌝ }
 {
     let answered = codec::deserialize(src, epochs, counts);
@@ -33,13 +35,13 @@ fn list_flags(src: &[u8], epochs: &mut [u16], counts: &mut [u32], out: &mut [u8]
 pub fn list(src: &[u8], out: &mut [u8]) -> Counted
     ensures { λ r. ⌜ wrote r (now (out .exit)) ≡ writing (listed (now (src .entry))) (now (out .entry)) ⌝ }
 {
-    if 7203 < src.len() {
+    if MOST_LISTED < src.len() {
         if out.len() < 9 {
             return Counted::Refused(Refusal::NoRoom);
         }
         return Counted::Count(put_text(out, 0, b"too long\n"));
     }
-    let mut epochs = [0u16; 2400];
-    let mut counts = [0u32; 2400];
+    let mut epochs = [0u16; RECORD_PLACES];
+    let mut counts = [0u32; RECORD_PLACES];
     list_flags(src, &mut epochs, &mut counts, out)
 }

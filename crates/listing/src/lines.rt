@@ -6,9 +6,9 @@ ghost use lib.ListN.{length};
 ghost use Rattle.fields_spec.specs.Writing.{Put};
 ghost use Rattle.records_spec.specs.Tables.{recordsOf, _⦂_};
 ghost use Rattle.records_spec.specs.Flags.{ownerOf};
-ghost use Rattle.listing_spec.specs.Sizes.{Sized};
+ghost use Rattle.listing_spec.specs.Sizes.{mostDigits, longestOwnerLine, longestRecordLine, Sized};
 ghost use Rattle.listing_spec.specs.Text.{ascii, decimal, ownerLine, recordLine, recordLines};
-ghost use Rattle.listing_spec.specs.Listed.{places};
+ghost use Rattle.listing_spec.specs.Listed.{recordPlaces};
 use crate::digits::decimal_len;
 use crate::digits::put_decimal;
 use crate::digits::put_hex;
@@ -31,7 +31,7 @@ pub fn put_text(out: &mut [u8], at: usize, text: &[u8]) -> usize
 
 // The length of a line of a word and a number.
 pub fn line_len(word: &[u8], n: u64) -> usize
-    ensures { λ r. ⌜ Sized (now (word .entry) ++ (decimal n ++ ascii "\n")) (length (now (word .entry)) + 21) r ⌝ }
+    ensures { λ r. ⌜ Sized (now (word .entry) ++ (decimal n ++ ascii "\n")) (length (now (word .entry)) + mostDigits + 1) r ⌝ }
 {
     word.len() + decimal_len(n) + 1
 }
@@ -48,7 +48,7 @@ pub fn put_line(out: &mut [u8], at: usize, word: &[u8], n: u64) -> usize
 
 // The length of the owner's line, if there is an owner.
 pub fn owner_len(head: Head) -> usize
-    ensures { λ r. ⌜ Sized (ownerLine (ownerOf head)) 71 r ⌝ }
+    ensures { λ r. ⌜ Sized (ownerLine (ownerOf head)) longestOwnerLine r ⌝ }
 {
     let kind = head.kind;
     if records::is_owned(kind) {
@@ -76,7 +76,7 @@ pub fn put_owner(out: &mut [u8], at: usize, head: Head) -> usize
 
 // The length of a record's line.
 pub fn record_len(epoch: u16, count: u32) -> usize
-    ensures { λ r. ⌜ Sized (recordLine (epoch ⦂ count)) 54 r ⌝ }
+    ensures { λ r. ⌜ Sized (recordLine (epoch ⦂ count)) longestRecordLine r ⌝ }
 {
     6 + decimal_len(epoch as u64) + line_len(b" bytes ", count as u64)
 }
@@ -93,8 +93,8 @@ pub fn put_record(out: &mut [u8], at: usize, epoch: u16, count: u32) -> usize
 
 // The length of all records' lines.
 pub fn records_len(epochs: &[u16], counts: &[u32]) -> usize
-    requires { ⌜ (length (now epochs) ≡ length (now counts)) × (length (now epochs) ≤ places) ⌝ }
-    ensures { λ r. ⌜ Sized (recordLines (recordsOf (now (epochs .entry)) (now (counts .entry)))) (54 * places) r ⌝ }
+    requires { ⌜ (length (now epochs) ≡ length (now counts)) × (length (now epochs) ≤ recordPlaces) ⌝ }
+    ensures { λ r. ⌜ Sized (recordLines (recordsOf (now (epochs .entry)) (now (counts .entry)))) (longestRecordLine * recordPlaces) r ⌝ }
 {
     let mut size: usize = 0;
     let mut k: usize = 0;

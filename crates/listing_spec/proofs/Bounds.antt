@@ -14,32 +14,33 @@ use Rattle.fields_spec.proofs.Bigs.{said-below}
 use Rattle.fields_spec.specs.Varint.{largest}
 use Rattle.fields_spec.proofs.RoundTrip.{Bytes, found-inv}
 use Rattle.records_spec.specs.Tables.{At}
-use Rattle.records_spec.specs.Flags.{Flags, owned, ownerIf, typeByte, kindOf}
+use Rattle.records_spec.specs.Flags.{Flags, owned, ownerLength, ownerIf, typeByte, kindOf}
 use Rattle.records_spec.specs.Refusals.{number}
 use Rattle.records_spec.specs.declared.refusal.Refusal.{Refusal}
 use Rattle.records_spec.specs.declared.refusal.Refusal.the-variants.{UnknownType, WrongSize, NonCanonical, DifferentBaseEpoch, DifferentOwners, Overflow, NoStorageAtEpoch, TotalTooLarge, NoRoom, BadTable}
 use Rattle.records_spec.specs.declared.head.Kind.{Kind}
 use Rattle.records_spec.specs.declared.head.Kind.the-variants.{SingleEpoch, MultiEpoch, SingleEpochOwned, MultiEpochOwned}
-use Rattle.codec_spec.specs.Bytes.{headSize, basePlace}
+use Rattle.codec_spec.specs.Bytes.{behindKind, headSize, basePlace}
 use Rattle.codec_spec.specs.Reading.{Next, bad, good, next, Read, noFlags, someFlags, refusedAt, baseIn, ownerIn, recordsIn, read}
 use Rattle.codec_spec.specs.Calls.{answer}
 use Rattle.codec_spec.proofs.Parsing.{next-good, rest, rest-end, rest-bad, Turn, rest-good}
 use Rattle.codec_spec.proofs.Settling.{flags-whole}
 use Rattle.listing_spec.specs.Text.{ascii, decimal, line, ownerLine, recordLine, recordLines, flagsText, listing}
-use Rattle.listing_spec.specs.Listed.{most, places, longest, listed}
+use Rattle.listing_spec.specs.Sizes.{longestOwnerLine}
+use Rattle.listing_spec.specs.Listed.{mostListed, recordPlaces, longestText, listed}
 use Rattle.listing_spec.proofs.Decimals.{length-below}
 use Rattle.listing_spec.proofs.Hexes.{length-hex, length-owner}
 use Rattle.listing_spec.proofs.Lengths.{length-line, length-record, length-five}
 
 -- ---- the two cases of the text
 
-pub listed-read : (src : List ℕ) → length src ≤ most → listed src ≡ listing (answer (read src))
+pub listed-read : (src : List ℕ) → length src ≤ mostListed → listed src ≡ listing (answer (read src))
 unfolding listed
-listed-read src h = rw (le-leb (length src) most h)
+listed-read src h = rw (le-leb (length src) mostListed h)
 
-pub listed-long : (src : List ℕ) → most < length src → listed src ≡ ascii "too long\n"
+pub listed-long : (src : List ℕ) → mostListed < length src → listed src ≡ ascii "too long\n"
 unfolding listed
-listed-long src h = rw (lt-leb (length src) most h)
+listed-long src h = rw (lt-leb (length src) mostListed h)
 
 -- ---- records one after another
 
@@ -121,7 +122,7 @@ head-size SingleEpochOwned = refl
 head-size MultiEpochOwned = refl
 
 -- no more records than have room
-pub flags-few : (src : List ℕ) (f : Flags) → length src ≤ most → read src ≡ someFlags f → length (f .records) ≤ places
+pub flags-few : (src : List ℕ) (f : Flags) → length src ≤ mostListed → read src ≡ someFlags f → length (f .records) ≤ recordPlaces
 flags-few src f h e =
     let w = flags-whole src f e in
     let k = w .0 in
@@ -136,21 +137,21 @@ type-below MultiEpoch = omega arith
 type-below SingleEpochOwned = omega arith
 type-below MultiEpochOwned = omega arith
 
-short-owner : (b : Bool) (d : List ℕ) → length (ownerLine (ownerIf b (take 32 d))) ≤ 71
-short-owner true d = omega (arith, length-owner (take 32 d), length-hex (take 32 d), length-take 32 d)
+short-owner : (b : Bool) (d : List ℕ) → length (ownerLine (ownerIf b (take ownerLength d))) ≤ longestOwnerLine
+short-owner true d = omega (arith, length-owner (take ownerLength d), length-hex (take ownerLength d), length-take ownerLength d)
 short-owner false d = omega arith
 
 -- a line of a word and a number of k digits at most
 pub short-number : (word : List ℕ) (k n : ℕ) → n < 10 ^ suc k → length (word ++ (decimal n ++ ascii "\n")) ≤ length word + k + 2
 short-number word k n h = omega (arith, length-line word n, length-below k n h)
 
-flags-fit : (src : List ℕ) (f : Flags) → Bytes src → length src ≤ most → read src ≡ someFlags f → length (flagsText f) ≤ longest
+flags-fit : (src : List ℕ) (f : Flags) → Bytes src → length src ≤ mostListed → read src ≡ someFlags f → length (flagsText f) ≤ longestText
 flags-fit src f b h e =
     let w = flags-whole src f e in
     let k = w .0 in
     let base : ℕ = baseIn k src in
     let rs = recordsIn k src .records in
-    let n : length rs ≤ places = rw (w .1 .in-bytes) at (flags-few src f h e) in
+    let n : length rs ≤ recordPlaces = rw (w .1 .in-bytes) at (flags-few src f h e) in
     let kind : ℕ = typeByte (kindOf (ownerIn k src) (length rs)) in
     let below : base < 65536 = two-bytes src b (basePlace k) (omega (arith, head-size k, w .1 .complete .head-inside)) in
     rw (w .1 .in-bytes)
@@ -158,7 +159,7 @@ flags-fit src f b h e =
       arith,
       length-five (line "kind " kind) (ownerLine (ownerIn k src)) (line "base " base) (recordLines rs) (line "records " (length rs)),
       short-number (ascii "kind ") 0 kind (type-below (kindOf (ownerIn k src) (length rs))),
-      short-owner (owned k) (drop 1 src),
+      short-owner (owned k) (drop behindKind src),
       short-number (ascii "base ") 4 base (omega arith),
       short-lines src b (headSize k) base,
       short-number (ascii "records ") 3 (length rs) (omega arith),
@@ -176,15 +177,15 @@ number-below TotalTooLarge = omega arith
 number-below NoRoom = omega arith
 number-below BadTable = omega arith
 
-answer-fits : (src : List ℕ) → Bytes src → length src ≤ most → (x : Read) → read src ≡ x → length (listing (answer x)) ≤ longest
+answer-fits : (src : List ℕ) → Bytes src → length src ≤ mostListed → (x : Read) → read src ≡ x → length (listing (answer x)) ≤ longestText
 answer-fits src b h noFlags e = omega arith
 answer-fits src b h (someFlags f) e = flags-fit src f b h e
 answer-fits src b h (refusedAt r place) e = omega (arith, short-number (ascii "refused ") 1 (number r) (number-below r))
 
 -- the program's output has room for every text
-pub listed-fits : (src : List ℕ) → Bytes src → length (listed src) ≤ longest
+pub listed-fits : (src : List ℕ) → Bytes src → length (listed src) ≤ longestText
 listed-fits src b =
-    elim (decLt most (length src)) [
+    elim (decLt mostListed (length src)) [
       | yes h ↦ rw (listed-long src h) (omega arith)
       | no h ↦ rw (listed-read src (omega arith)) (answer-fits src b (omega arith) (read src) refl)
     ]

@@ -19,7 +19,7 @@ use Rattle.codec_spec.specs.Reading.{Read, noFlags, someFlags, refusedAt, read}
 use Rattle.codec_spec.specs.Calls.{answer, deserialized}
 use Rattle.listing_spec.specs.Text.{flagsText, listing}
 use Rattle.listing_spec.specs.Heads.{headText, outcomeText, Held}
-use Rattle.listing_spec.specs.Listed.{most, places}
+use Rattle.listing_spec.specs.Listed.{mostListed, recordPlaces}
 use Rattle.listing_spec.proofs.Bounds.{flags-few}
 
 -- flags by their head and their records' tables
@@ -34,7 +34,8 @@ placed-text f es cs =
     ap₂ (headText (headOf f)) (over-first (epochsOf rs) es (length rs) (length-epochsOf rs)) (over-first (countsOf rs) cs (length rs) (length-countsOf rs))
     ∙ head-flags f
 
-placed-held : (f : Flags) (es cs : List ℕ) → length (f .records) ≤ places → Held (headOf f) (over (epochsOf (f .records)) es) (over (countsOf (f .records)) cs)
+placed-held : (f : Flags) (es cs : List ℕ) → length (f .records) ≤ recordPlaces
+    → Held (headOf f) (over (epochsOf (f .records)) es) (over (countsOf (f .records)) cs)
 placed-held f es cs h =
     let rs = f .records in
     record {
@@ -54,7 +55,8 @@ telling-same {x} {a} {b} {es} {cs} {es′} {cs′} (p, q, r) t = rw (p, q, r) t
 no-records : (es cs : List ℕ) → Held noHead es cs
 no-records es cs = record { few = omega arith; epochs-long = omega arith; counts-long = omega arith }
 
-module _ (src es cs es₀ cs₀ : List ℕ) (a : Answered) (short : length src ≤ most) (room : (length es₀ ≡ places) × (length cs₀ ≡ places)) where
+module _ (src es cs es₀ cs₀ : List ℕ) (a : Answered) (short : length src ≤ mostListed)
+    (room : (length es₀ ≡ recordPlaces) × (length cs₀ ≡ recordPlaces)) where
   telling-read : (x : Read) → read src ≡ x → shown a es cs ≡ after (answer x) es₀ cs₀ → Telling x a es cs
   telling-read noFlags q e =
       telling-same (shown-only a (record { outcome = Absent; head = noHead }) es cs es₀ cs₀ _ (e ∙ after-absent es₀ cs₀) refl)

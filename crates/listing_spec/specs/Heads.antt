@@ -10,7 +10,7 @@ use Rattle.records_spec.specs.declared.head.Head.{Head}
 use Rattle.records_spec.specs.declared.answer.Outcome.{Outcome}
 use Rattle.records_spec.specs.declared.answer.Outcome.the-variants.{Absent, Present, Refused}
 use Rattle.listing_spec.specs.Text.{ascii, line, ownerLine, recordLines}
-use Rattle.listing_spec.specs.Listed.{places}
+use Rattle.listing_spec.specs.Listed.{recordPlaces}
 
 -- flags by their head and two tables that hold just their records
 abbrev pub headText : Head → List ℕ → List ℕ → List ℕ
@@ -26,6 +26,6 @@ outcomeText Present h es cs = headText h (take (h .records) es) (take (h .record
 
 -- the tables hold the records of a head, and these are no more than have room
 pub record Held (h : Head) (es cs : List ℕ) : Type 0 where
-  pub few : h .records ≤ places
+  pub few : h .records ≤ recordPlaces
   pub epochs-long : h .records ≤ length es
   pub counts-long : h .records ≤ length cs

@@ -9,18 +9,18 @@ use Rattle.codec_spec.specs.Reading.{read}
 use Rattle.codec_spec.specs.Calls.{answer}
 use Rattle.listing_spec.specs.Text.{ascii, listing}
 
--- the most bytes that are read
-abbrev pub most : ℕ
-most = 7203
+-- the most bytes that are listed
+abbrev pub mostListed : ℕ
+mostListed = 7203
 
 -- the records that have room
-abbrev pub places : ℕ
-places = 2400
+abbrev pub recordPlaces : ℕ
+recordPlaces = 2400
 
 -- the bytes that have room in the program's output
-abbrev pub longest : ℕ
-longest = 69702
+abbrev pub longestText : ℕ
+longestText = 69702
 
 -- the text that the program prints of its input
 unfoldable pub listed : List ℕ → List ℕ
-listed src = cond (leb (length src) most) (listing (answer (read src))) (ascii "too long\n")
+listed src = cond (leb (length src) mostListed) (listing (answer (read src))) (ascii "too long\n")

@@ -6,12 +6,16 @@ ghost use Rattle.io.specs.Counts.{Counts};
 ghost use Rattle.records_spec.specs.Refusals.{number};
 ghost use Rattle.listing_spec.specs.Text.{line};
 use records_spec::Refusal;
+use repair_spec::LONGEST_FLAGS;
 use repair_spec::Outcome;
 use streams::Input;
 use streams::say;
 
 // The most bytes that are repaired: a head of 35, and 65,535 records of 12.
-const MOST: usize = 786455;
+const MOST_REPAIRED: usize = 786455;
+
+// The most lines that so many bytes can have: one for two bytes, rounded up.
+const MOST_LINES: usize = (MOST_REPAIRED + 1) / 2;
 
 // Puts what is said of a refusal at the start of `out`; answers the text's length.
 fn refusal_text(refusal: Refusal, out: &mut [u8]) -> usize
@@ -69,7 +73,7 @@ fn migrate(src: &[u8], out: &mut [u8], offsets: &mut [usize], changes: &mut [u8]
 fn run(src: &mut [u8], out: &mut [u8], offsets: &mut [usize], changes: &mut [u8]) {
     match streams::read_all(src) {
         Input::Bytes(n) => {
-            if MOST < n {
+            if MOST_REPAIRED < n {
                 say(b"too long\n");
                 return;
             }
@@ -81,9 +85,9 @@ fn run(src: &mut [u8], out: &mut [u8], offsets: &mut [usize], changes: &mut [u8]
 
 // Lends room for the bytes and one more, for the largest answer and for the longest list that so many bytes can have.
 fn main() {
-    let mut src = [0u8; 786456];
-    let mut out = [0u8; 458780];
-    let mut offsets = [0usize; 393228];
-    let mut changes = [0u8; 393228];
+    let mut src = [0u8; MOST_REPAIRED + 1];
+    let mut out = [0u8; LONGEST_FLAGS];
+    let mut offsets = [0usize; MOST_LINES];
+    let mut changes = [0u8; MOST_LINES];
     run(&mut src, &mut out, &mut offsets, &mut changes);
 }

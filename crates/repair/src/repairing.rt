@@ -10,7 +10,6 @@ ghost use Rattle.codec_spec.specs.Bytes.{headSize};
 ghost use Rattle.repair_spec.specs.Repairing.{repairedAs};
 ghost use Rattle.repair_spec.specs.Calls.{shown, after, repairedInto};
 ghost use Rattle.repair_spec.specs.Steps.{allEpochs, kindLeft, Blank, Standing, Ready};
-use crate::marking::EPOCHS;
 use crate::marking::gather;
 use crate::marking::mark;
 use codec_spec::Verdict;
@@ -20,6 +19,7 @@ use records_spec::Kind;
 use records_spec::KindByte;
 use records_spec::Refusal;
 use repair_listing::list_changes;
+use repair_spec::ALL_EPOCHS;
 use repair_spec::Outcome;
 
 // Writes the flags that are left and lists the changes, where both have room. The lines are counted first.
@@ -142,9 +142,9 @@ fn repair_multi(
     requires { ⌜ (multi kind ≡ true) × (headSize kind ≤ length (now src)) ⌝ }
     ensures { λ r. ⌜ shown r (now (out .exit)) (now (offsets .exit)) (now (changes .exit)) ≡ after (repairedAs kind (now (src .entry))) (now (out .entry)) (now (offsets .entry)) (now (changes .entry)) ⌝ }
 {
-    let mut places = [0usize; EPOCHS];
-    let mut epochs = [0u16; EPOCHS];
-    let mut counts = [0u32; EPOCHS];
+    let mut places = [0usize; ALL_EPOCHS];
+    let mut epochs = [0u16; ALL_EPOCHS];
+    let mut counts = [0u32; ALL_EPOCHS];
     repair_by(
         kind,
         src,

@@ -11,18 +11,20 @@ use Rattle.fields_spec.proofs.Varints.{length-five}
 use Rattle.fields_spec.proofs.RoundTrip.{Bytes}
 use Rattle.fields_spec.proofs.Places.{value-below, length-below}
 use Rattle.records_spec.specs.Tables.{At, _⦂_, put}
-use Rattle.records_spec.specs.Flags.{owned, multi, ownerIf}
+use Rattle.records_spec.specs.Flags.{owned, multi, ownerLength, ownerIf}
 use Rattle.records_spec.specs.Answers.{ok}
 use Rattle.records_spec.specs.declared.head.Kind.{Kind}
 use Rattle.records_spec.proofs.Unions.{put-cases}
-use Rattle.codec_spec.specs.Bytes.{recordBytes, recordsBytes, ownerBytes, headSize, bytesOf}
+use Rattle.codec_spec.specs.Bytes.{recordBytes, recordsBytes, ownerBytes, behindKind, unownedHead, ownedHead, headSize, bytesOf}
 use Rattle.codec_spec.specs.Reading.{baseIn, ownerIn}
+use Rattle.codec_spec.specs.Sizes.{longestRecord}
 use Rattle.codec_spec.proofs.RoundTrip.{Canonical}
 use Rattle.codec_spec.proofs.Sizing.{length-record, length-records, length-bytes}
 use Rattle.repair_spec.specs.Olds.{Old}
 use Rattle.repair_spec.specs.Standing.{fits, mapOnto}
 use Rattle.repair_spec.specs.Changes.{recordLines, linesAfter, cutLine, again, someAbove, dropped, keeping}
 use Rattle.repair_spec.specs.Repairing.{Repaired, oldsIn, left, flagsLeft, kindLine, linesOf, repaired}
+use Rattle.repair_spec.specs.Steps.{lastEpoch, longestFlags}
 use Rattle.repair_spec.specs.declared.change.Change.the-variants.{KindChanged}
 use Rattle.repair_spec.proofs.Reading.{old-inv}
 use Rattle.repair_spec.proofs.Chains.{Link, Chain, read-chain}
@@ -96,11 +98,11 @@ chain-longer k d base at [] c m p h = omega arith
 chain-longer k d base at (o ∷ os) c m p h =
     omega (arith, chain-longer k d base (at + o .size) os c (with base o m) (p .1) (p .0 .inside), with-longer base o m, old-written d at o (p .0))
 
-head-longer : (k : Kind) (xs : List ℕ) → 3 + length (ownerBytes (ownerIn k xs)) ≤ headSize k
+head-longer : (k : Kind) (xs : List ℕ) → unownedHead + length (ownerBytes (ownerIn k xs)) ≤ headSize k
 head-longer k xs = by (owned k)
   where
-    by : (b : Bool) → 3 + length (ownerBytes (ownerIf b (take 32 (drop 1 xs)))) ≤ cond b 35 3
-    by true = omega (arith, length-take 32 (drop 1 xs))
+    by : (b : Bool) → unownedHead + length (ownerBytes (ownerIf b (take ownerLength (drop behindKind xs)))) ≤ cond b ownedHead unownedHead
+    by true = omega (arith, length-take ownerLength (drop behindKind xs))
     by false = omega arith
 
 left-longer : (k : Kind) (xs : List ℕ) → headSize k ≤ length xs → length (bytesOf (flagsLeft k xs)) ≤ length xs
@@ -114,8 +116,9 @@ left-longer k xs h =
       chain-longer k xs (baseIn k xs) (headSize k) (oldsIn k xs .records) (oldsIn k xs .cut) [] (read-chain k xs) h,
     )
 
--- records of 16 bits of epoch and 32 of count, each at an epoch of its own, have at most 7 bytes for each epoch
-canonical-most : (prev : ℕ) (rs : List At) → Canonical prev rs → prev ≤ 65535 → length (recordsBytes rs) + 7 * prev ≤ 7 * 65535
+-- records of 16 bits of epoch and 32 of count, each at an epoch of its own, have at most the longest record's bytes for each epoch
+canonical-most : (prev : ℕ) (rs : List At) → Canonical prev rs → prev ≤ lastEpoch
+    → length (recordsBytes rs) + longestRecord * prev ≤ longestRecord * lastEpoch
 unfolding recordsBytes
 canonical-most prev [] c h = omega arith
 canonical-most prev (r ∷ rs) c h =
@@ -128,7 +131,7 @@ canonical-most prev (r ∷ rs) c h =
       length-five (r .bytes) (c .2),
     )
 
-left-most : (k : Kind) (xs : List ℕ) → Bytes xs → headSize k ≤ length xs → length (bytesOf (flagsLeft k xs)) ≤ 458780
+left-most : (k : Kind) (xs : List ℕ) → Bytes xs → headSize k ≤ length xs → length (bytesOf (flagsLeft k xs)) ≤ longestFlags
 left-most k xs bs h =
     omega (
       arith,
@@ -139,10 +142,10 @@ left-most k xs bs h =
       canonical-most (baseIn k xs) (left k xs) (left-canonical k xs bs) (omega (arith, left-proper k xs bs h .base-fits)),
     )
   where
-    head-most : (k : Kind) → headSize k ≤ 35
+    head-most : (k : Kind) → headSize k ≤ ownedHead
     head-most k = by (owned k)
       where
-        by : (b : Bool) → cond b 35 3 ≤ 35
+        by : (b : Bool) → cond b ownedHead unownedHead ≤ ownedHead
         by true = omega arith
         by false = omega arith
 
@@ -165,5 +168,5 @@ pub answer-few : (xs : List ℕ) (r : Repaired) → repaired xs ≡ ok r → 2 *
 answer-few xs r e = of-answers xs r (λ ys a. 2 * length (a .lines) ≤ length ys + 1) (omega arith) (λ k h. few-lines k xs h) (answered xs r e)
 
 -- AND IS NEVER LONGER THAN THE LONGEST FLAGS, 458,780 bytes
-pub answer-most : (xs : List ℕ) (r : Repaired) → Bytes xs → repaired xs ≡ ok r → length (r .bytes) ≤ 458780
-answer-most xs r bs e = of-answers xs r (λ ys a. length (a .bytes) ≤ 458780) (omega arith) (λ k h. left-most k xs bs h) (answered xs r e)
+pub answer-most : (xs : List ℕ) (r : Repaired) → Bytes xs → repaired xs ≡ ok r → length (r .bytes) ≤ longestFlags
+answer-most xs r bs e = of-answers xs r (λ ys a. length (a .bytes) ≤ longestFlags) (omega arith) (λ k h. left-most k xs bs h) (answered xs r e)

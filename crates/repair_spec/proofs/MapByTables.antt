@@ -17,7 +17,7 @@ use Rattle.records_spec.specs.declared.head.Kind.{Kind}
 use Rattle.codec_spec.proofs.RoundTrip.{Canonical}
 use Rattle.repair_spec.specs.Olds.{Old}
 use Rattle.repair_spec.specs.Standing.{fits, mapOnto, mapOf}
-use Rattle.repair_spec.specs.Steps.{allEpochs, marks, gathered, Blank}
+use Rattle.repair_spec.specs.Steps.{lastEpoch, allEpochs, marks, gathered, Blank}
 use Rattle.repair_spec.proofs.Chains.{Chain}
 use Rattle.repair_spec.proofs.Marks.{marked-long}
 use Rattle.repair_spec.proofs.Gathering.{gathered-end, gathered-skip, gathered-take}
@@ -88,7 +88,7 @@ module _ (ps cs : List ℕ) where
       gathered-take ps cs (prev + 1) (suc f) (omega arith) z ∙ (λ i. (record { epoch = sym q i; bytes = n i }) ∷ gathered ps cs (prev + 1 + 1) (l i))
 
   -- a map whose epochs are above prev
-  drawn : (f prev : ℕ) (m : List At) → prev + 1 + f ≡ 65536 → Canonical prev m → Says ps cs prev m → gathered ps cs (prev + 1) f ≡ m
+  drawn : (f prev : ℕ) (m : List At) → prev + 1 + f ≡ allEpochs → Canonical prev m → Says ps cs prev m → gathered ps cs (prev + 1) f ≡ m
   drawn zero prev [] l c s = gathered-end ps cs (prev + 1) 0 refl
   drawn zero prev (r ∷ rs) l c s = absurd (omega (arith, c .0, c .1))
   drawn (suc f) prev [] l c s =
@@ -109,11 +109,13 @@ module _ (ps cs : List ℕ) where
 -- ---- all together
 
 -- THE TABLES DRAWN TOGETHER ARE WHAT IS LEFT
-pub drawn-left : (base : ℕ) (k : Kind) (d : List ℕ) (at : ℕ) (os : List Old) (c : Option ℕ) (ps cs : List ℕ) → base ≤ 65535 → 1 ≤ at → Chain k d at os c → Short os → Blank ps → Blank cs
-    → gathered (marks (λ (o : Old). o .offset) base ps os) (marks (λ (o : Old). o .count) base cs os) (base + 1) (65535 - base) ≡ mapOf base os
+pub drawn-left : (base : ℕ) (k : Kind) (d : List ℕ) (at : ℕ) (os : List Old) (c : Option ℕ) (ps cs : List ℕ) → base ≤ lastEpoch → 1 ≤ at
+    → Chain k d at os c → Short os → Blank ps → Blank cs
+    → gathered (marks (λ (o : Old). o .offset) base ps os) (marks (λ (o : Old). o .count) base cs os) (base + 1) (lastEpoch - base) ≡ mapOf base os
 unfolding held
 drawn-left base k d at os c ps cs b h ch s bp bc =
-    drawn (marks (λ (o : Old). o .offset) base ps os) (marks (λ (o : Old). o .count) base cs os) (65535 - base) base (mapOf base os) (omega arith) (map-canonical base os s)
+    drawn (marks (λ (o : Old). o .offset) base ps os) (marks (λ (o : Old). o .count) base cs os) (lastEpoch - base) base (mapOf base os) (omega arith)
+    (map-canonical base os s)
     (record {
       is-there = λ e i. marks-read base e (λ (o : Old). o .offset) (ltb 0) (has e) (there-step e) k d at os c ps [] h ch s (bp .wide) (rw (bp .zeros e) (sym (has-none e)));
       counts-it = λ e i. marks-read base e (λ (o : Old). o .count) (λ (n : ℕ). n) (held e) (λ o m l. held-with base e o m) k d at os c cs [] h ch s (bc .wide) (bc .zeros e);

@@ -11,19 +11,19 @@ use lib.ListN.{length, getD, take, drop, replicate, length-replicate}
 use Rattle.fields_spec.specs.Big.{said}
 use Rattle.fields_spec.proofs.RoundTrip.{Bytes}
 use Rattle.records_spec.specs.Tables.{At, epochsOf, countsOf, Placed}
-use Rattle.records_spec.specs.Flags.{owned, multi, ownerIf, headFor, headOf, agrees}
+use Rattle.records_spec.specs.Flags.{owned, multi, ownerLength, ownerIf, headFor, headOf, agrees}
 use Rattle.records_spec.specs.declared.head.Kind.{Kind}
 use Rattle.records_spec.specs.declared.head.Kind.the-variants.{SingleEpoch, SingleEpochOwned}
 use Rattle.records_spec.specs.declared.head.Head.{Head}
 use Rattle.records_spec.proofs.Tables.{length-epochsOf, length-countsOf, over-sets, over-first, placed-long}
 use Rattle.records_spec.proofs.Proper.{stand-proper, stand-flags}
-use Rattle.codec_spec.specs.Bytes.{headSize}
+use Rattle.codec_spec.specs.Bytes.{behindKind, behindOwner, unownedHead, ownedHead, headSize}
 use Rattle.codec_spec.specs.Reading.{baseIn, ownerIn}
 use Rattle.codec_spec.proofs.RoundTrip.{Canonical}
 use Rattle.repair_spec.specs.Olds.{Old, Olds}
 use Rattle.repair_spec.specs.Standing.{mapOnto}
 use Rattle.repair_spec.specs.Repairing.{oldsIn, extra, left, flagsLeft}
-use Rattle.repair_spec.specs.Steps.{allEpochs, marks, gathered, kindLeft, Blank, Standing, Ready}
+use Rattle.repair_spec.specs.Steps.{lastEpoch, allEpochs, marks, gathered, kindLeft, Blank, Standing, Ready}
 use Rattle.repair_spec.proofs.Reading.{rest}
 use Rattle.repair_spec.proofs.Chains.{Chain, read-chain}
 use Rattle.repair_spec.proofs.Told.{head-three}
@@ -57,11 +57,13 @@ module _ (k : Kind) (m : multi k ≡ true) where
       by false false q = refl
 
   pub left-head : (n : ℕ) → headSize (kindLeft k n) ≡ headSize k
-  left-head n = ap (λ (b : Bool). cond b 35 3) (left-owned n)
+  left-head n = ap (λ (b : Bool). cond b ownedHead unownedHead) (left-owned n)
 
   -- base and owner stand where they stood
   pub left-for : (xs : List ℕ) (n : ℕ) → headFor (baseIn (kindLeft k n) xs) (ownerIn (kindLeft k n) xs) n ≡ headFor (baseIn k xs) (ownerIn k xs) n
-  left-for xs n = ap (λ (b : Bool). headFor (said (take 2 (drop (cond b 33 1) xs))) (ownerIf b (take 32 (drop 1 xs))) n) (left-owned n)
+  left-for xs n =
+      let owner : List ℕ = take ownerLength (drop behindKind xs) in
+      ap (λ (b : Bool). headFor (said (take 2 (drop (cond b behindOwner behindKind) xs))) (ownerIf b owner) n) (left-owned n)
 
 -- ---- tables that hold what is left
 
@@ -138,9 +140,9 @@ module _ (k : Kind) (xs : List ℕ) (m : multi k ≡ true) (bs : Bytes xs) (long
   counts-are = ec ∙ ap₂ (λ (b : ℕ) (os : List Old). marks (λ (o : Old). o .count) b cs₀ os) eb records-are
 
   -- the two tables drawn together
-  drawn-is : gathered ps cs (base + 1) (65535 - base) ≡ left k xs
+  drawn-is : gathered ps cs (base + 1) (lastEpoch - base) ≡ left k xs
   drawn-is =
-      (λ z. gathered (places-are z) (counts-are z) (eb z + 1) (65535 - eb z))
+      (λ z. gathered (places-are z) (counts-are z) (eb z + 1) (lastEpoch - eb z))
       ∙ drawn-left (baseIn k xs) k xs (headSize k) (oldsIn k xs .records) (oldsIn k xs .cut) ps₀ cs₀ (omega (arith, left-proper k xs bs long .base-fits)) (omega (arith, head-three k)) chain short bp bc
 
   multi-standing : (n : ℕ) → n ≡ length (left k xs) → Standing k xs ps n
@@ -153,13 +155,14 @@ module _ (k : Kind) (xs : List ℕ) (m : multi k ≡ true) (bs : Bytes xs) (long
       }
 
   -- the head of what was drawn together, and its tables
-  module _ (es₀ : List ℕ) (wide : allEpochs ≤ length es₀) (n : ℕ) (es′ cs′ : List ℕ) (p : Placed (gathered ps cs (base + 1) (65535 - base)) 0 n es₀ cs es′ cs′)
+  module _ (es₀ : List ℕ) (wide : allEpochs ≤ length es₀) (n : ℕ) (es′ cs′ : List ℕ)
+      (p : Placed (gathered ps cs (base + 1) (lastEpoch - base)) 0 n es₀ cs es′ cs′)
       (k′ : Kind) (ek : k′ ≡ kindLeft k n) (h : Head) (eh : h ≡ headFor (baseIn k′ xs) (ownerIn k′ xs) n) where
     counted : n ≡ length (left k xs)
     counted = omega (arith, p .behind, ap (length {A = At}) drawn-is)
 
-    few : length (left k xs) ≤ 65535 - base
-    few = omega (arith, ap (length {A = At}) drawn-is, gathered-short ps cs (base + 1) (65535 - base))
+    few : length (left k xs) ≤ lastEpoch - base
+    few = omega (arith, ap (length {A = At}) drawn-is, gathered-short ps cs (base + 1) (lastEpoch - base))
 
     head-is : h ≡ headOf (flagsLeft k xs)
     head-is =

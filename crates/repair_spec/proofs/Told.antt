@@ -12,7 +12,7 @@ use Rattle.fields_spec.specs.Varint.{largest}
 use Rattle.records_spec.specs.Tables.{has, held}
 use Rattle.records_spec.specs.Flags.{owned}
 use Rattle.records_spec.specs.declared.head.Kind.{Kind}
-use Rattle.codec_spec.specs.Bytes.{headSize}
+use Rattle.codec_spec.specs.Bytes.{unownedHead, ownedHead, headSize}
 use Rattle.codec_spec.specs.Reading.{baseIn}
 use Rattle.repair_spec.specs.Olds.{Old}
 use Rattle.repair_spec.specs.Changes.{line, again, someAbove, dropped, keptLines, recordLines, keeping, linesAfter, cutLine}
@@ -65,11 +65,11 @@ cut-after k d base before at (o ∷ os) c p =
 
 -- ---- for bytes of a kind
 
--- a head has three bytes or more
-pub head-three : (k : Kind) → 3 ≤ headSize k
+-- a head has three bytes or more: it is no shorter than one without an owner
+pub head-three : (k : Kind) → unownedHead ≤ headSize k
 head-three k = by (owned k)
   where
-    by : (b : Bool) → 3 ≤ cond b 35 3
+    by : (b : Bool) → unownedHead ≤ cond b ownedHead unownedHead
     by true = omega arith
     by false = omega arith
 

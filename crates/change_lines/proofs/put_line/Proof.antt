@@ -8,7 +8,7 @@ use Rattle.fields_spec.proofs.Parts.{parts-start, parts-put, parts-last}
 use Rattle.listing_spec.proofs.Decimals.{length-below}
 use Rattle.repair_spec.specs.Changes.{Line, line}
 use Rattle.change_lines_spec.specs.Text.{changeOf, lineText}
-use Rattle.change_lines_spec.specs.Chunks.{longest}
+use Rattle.change_lines_spec.specs.Chunks.{longestLine}
 use Rattle.change_lines_spec.proofs.Texts.{length-line, line-short}
 use Rattle.change_lines.proofs.put_line.Statement.{statement}
 use Rattle.change_lines.proofs.put_line.Tie as tie
@@ -18,7 +18,7 @@ abbrev written : tie.Start → Line
 written c = line (c .args .offset) (changeOf (c .args .change))
 
 -- it has room
-short : (c : tie.Start) → length (lineText (written c)) ≤ longest
+short : (c : tie.Start) → length (lineText (written c)) ≤ longestLine
 short c = line-short (written c) (omega (arith, c .fits .offset .fits))
 
 put-decimal-requires : tie.Need-put-decimal-requires

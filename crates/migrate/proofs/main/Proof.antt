@@ -4,6 +4,7 @@ use Prim.Native.Nat.{ℕ}
 use mathlib.Core.Path.{_≡_, sym}
 use borrow.Author.Needs.{needs}
 use lib.ListN.{length, replicate, length-replicate}
+use Rattle.repair_spec.specs.Steps.{longestFlags}
 use Rattle.migrate.proofs.main.Statement.{statement}
 use Rattle.migrate.proofs.main.Tie as tie
 
@@ -14,9 +15,9 @@ pub main-spec : {M : Type 1} → statement M
 main-spec =
     tie.close
     (tie.spec
-    (λ c. as-long 786456)
-    (λ c. as-long 458780)
-    (λ c. as-long 393228)
-    (λ c. as-long 393228)
+    (λ c. as-long _)
+    (λ c. as-long longestFlags)
+    (λ c. as-long _)
+    (λ c. as-long _)
     (λ c κs. search needs)
     (λ c. search needs))

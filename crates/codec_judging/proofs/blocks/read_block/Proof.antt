@@ -10,7 +10,8 @@ use Rattle.codec_judging.proofs.blocks.read_block.Statement.{statement}
 use Rattle.codec_judging.proofs.blocks.read_block.Tie as tie
 
 abbrev Inv-loop : tie.InvT-loop
-Inv-loop src start base epochs₀ counts₀ at₀ prev₀ n₀ epochs counts at prev n = (n ≤ blockRecords) × Taken src start base n at prev epochs₀ counts₀ epochs counts
+Inv-loop src start base epochs₀ counts₀ at₀ prev₀ n₀ epochs counts at prev n =
+    (n ≤ blockRecords) × Taken src start base n at prev epochs₀ counts₀ epochs counts
 
 abbrev μ-loop : tie.MeasureT-loop
 μ-loop src start base epochs₀ counts₀ at₀ prev₀ n₀ epochs counts at prev n = blockRecords - n

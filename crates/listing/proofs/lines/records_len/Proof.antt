@@ -6,6 +6,7 @@ use native.Mathlib.Omega.{arith}
 use lib.ListN.{length}
 use borrow.Author.Needs.{needs}
 use Rattle.records_spec.specs.Tables.{recordsOf}
+use Rattle.listing_spec.specs.Sizes.{longestRecordLine}
 use Rattle.listing_spec.specs.Text.{recordLines}
 use Rattle.listing_spec.proofs.Lengths.{linesFrom, length-on, lines-end}
 use Rattle.listing.proofs.lines.records_len.Statement.{statement}
@@ -14,7 +15,7 @@ use Rattle.listing.proofs.lines.records_len.Tie as tie
 abbrev Inv-loop : tie.InvT-loop
 Inv-loop epochs counts size₀ k₀ size k =
     (k ≤ length epochs)
-    × (size ≤ 54 * k)
+    × (size ≤ longestRecordLine * k)
     × (size + length (linesFrom epochs counts k) ≡ length (recordLines (recordsOf epochs counts)))
 
 abbrev μ-loop : tie.MeasureT-loop
