@@ -25,6 +25,7 @@ use records_spec::Answered;
 use records_spec::Counted;
 use records_spec::Head;
 use records_spec::MaybeOwner;
+use records_spec::OWNER_LENGTH;
 use records_spec::Outcome;
 use records_spec::Refusal;
 use rows_spec::AnsweredRemoval;
@@ -195,7 +196,9 @@ pub fn no_owner_id(refusal: Refusal) -> CMaybeOwner
     CMaybeOwner {
         refusal: records::number(refusal),
         present: 0,
-        id: CId { bytes: [0u8; 32] },
+        id: CId {
+            bytes: [0u8; OWNER_LENGTH],
+        },
     }
 }
 

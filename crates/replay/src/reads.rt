@@ -1,5 +1,6 @@
 // Replaying the readers: 1 to 5.
 use records_spec::Answered;
+use wire::TABLE_PLACES;
 use wire::take_counts;
 use wire::take_epochs;
 use wire::take_part;
@@ -21,9 +22,9 @@ fn deserialize_by(call: u8, src: &[u8], epochs: &mut [u16], counts: &mut [u32]) 
 pub fn deserialize(call: u8, question: &[u8], reply: &[u8]) -> usize {
     let mut at: usize = 1;
     let src = take_part(question, &mut at);
-    let mut epochs = [0u16; 16];
+    let mut epochs = [0u16; TABLE_PLACES];
     let epochs = take_epochs(question, &mut at, &mut epochs);
-    let mut counts = [0u32; 16];
+    let mut counts = [0u32; TABLE_PLACES];
     let counts = take_counts(question, &mut at, &mut counts);
     let answered = deserialize_by(call, src, epochs, counts);
     tell_answer(reply, turn(question, at), answered, epochs, counts)

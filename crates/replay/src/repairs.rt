@@ -1,5 +1,6 @@
 // Replaying the repair: 23.
 use repair_spec::Outcome;
+use wire::TABLE_PLACES;
 use wire::byte_of;
 use wire::take_bytes;
 use wire::take_offsets;
@@ -9,6 +10,9 @@ use wire::tell_offsets;
 use wire::tell_part;
 use wire::tell_u8;
 use wire::turn;
+
+// The most bytes that are lent for a repair in a stored question.
+const ROOM_TO_REPAIR: usize = 64;
 
 // A refusal's number, or 0, and how many bytes and lines.
 fn tell_sizes(reply: &[u8], at: usize, refusal: u8, bytes: usize, lines: usize) -> usize {
@@ -28,11 +32,11 @@ fn tell_outcome(reply: &[u8], at: usize, outcome: Outcome) -> usize {
 pub fn repair(question: &[u8], reply: &[u8]) -> usize {
     let mut at: usize = 1;
     let src = take_part(question, &mut at);
-    let mut out = [0u8; 64];
+    let mut out = [0u8; ROOM_TO_REPAIR];
     let out = take_bytes(question, &mut at, &mut out);
-    let mut offsets = [0usize; 16];
+    let mut offsets = [0usize; TABLE_PLACES];
     let offsets = take_offsets(question, &mut at, &mut offsets);
-    let mut changes = [0u8; 16];
+    let mut changes = [0u8; TABLE_PLACES];
     let changes = take_bytes(question, &mut at, &mut changes);
     let outcome = repair::repair(src, out, offsets, changes);
     let lent = tell_outcome(reply, turn(question, at), outcome);

@@ -2,6 +2,7 @@
 use codec_spec::Changes;
 use records_spec::Counted;
 use wire::DIFFERS;
+use wire::TABLE_PLACES;
 use wire::byte_of;
 use wire::take_bool;
 use wire::take_bytes;
@@ -14,6 +15,9 @@ use wire::tell_number;
 use wire::tell_part;
 use wire::tell_u32;
 use wire::turn;
+
+// The most bytes that are lent for writing in a stored question.
+const ROOM_TO_WRITE: usize = 1024;
 
 // A number of bytes, or a refusal.
 fn tell_counted(reply: &[u8], at: usize, counted: Counted) -> usize {
@@ -32,11 +36,11 @@ fn tell_counted(reply: &[u8], at: usize, counted: Counted) -> usize {
 pub fn serialize(question: &[u8], reply: &[u8]) -> usize {
     let mut at: usize = 1;
     let flags = take_head(question, &mut at);
-    let mut epochs = [0u16; 16];
+    let mut epochs = [0u16; TABLE_PLACES];
     let epochs = take_epochs(question, &mut at, &mut epochs);
-    let mut counts = [0u32; 16];
+    let mut counts = [0u32; TABLE_PLACES];
     let counts = take_counts(question, &mut at, &mut counts);
-    let mut out = [0u8; 1024];
+    let mut out = [0u8; ROOM_TO_WRITE];
     let out = take_bytes(question, &mut at, &mut out);
     let counted = codec::serialize(flags, epochs, counts, out);
     let to = tell_counted(reply, turn(question, at), counted);
@@ -47,9 +51,9 @@ pub fn serialize(question: &[u8], reply: &[u8]) -> usize {
 pub fn serialized_size(question: &[u8], reply: &[u8]) -> usize {
     let mut at: usize = 1;
     let flags = take_head(question, &mut at);
-    let mut epochs = [0u16; 16];
+    let mut epochs = [0u16; TABLE_PLACES];
     let epochs = take_epochs(question, &mut at, &mut epochs);
-    let mut counts = [0u32; 16];
+    let mut counts = [0u32; TABLE_PLACES];
     let counts = take_counts(question, &mut at, &mut counts);
     let counted = codec::serialized_size(flags, epochs, counts);
     tell_counted(reply, turn(question, at), counted)

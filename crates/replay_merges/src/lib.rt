@@ -2,7 +2,9 @@
 use flags_spec::MergingOwnersStrategy;
 use records_spec::Answered;
 use records_spec::Head;
+use records_spec::OWNER_LENGTH;
 use rows_spec::StorageRemovedBytes;
+use wire::TABLE_PLACES;
 use wire::take_bool;
 use wire::take_counts;
 use wire::take_epochs;
@@ -71,20 +73,20 @@ pub fn add(call: u8, question: &[u8], reply: &[u8]) -> usize {
     let mut at: usize = 1;
     let present = take_present(call, question, &mut at);
     let ours = take_head(question, &mut at);
-    let mut our_epochs = [0u16; 16];
+    let mut our_epochs = [0u16; TABLE_PLACES];
     let our_epochs = take_epochs(question, &mut at, &mut our_epochs);
-    let mut our_counts = [0u32; 16];
+    let mut our_counts = [0u32; TABLE_PLACES];
     let our_counts = take_counts(question, &mut at, &mut our_counts);
     let theirs = take_head(question, &mut at);
-    let mut their_epochs = [0u16; 16];
+    let mut their_epochs = [0u16; TABLE_PLACES];
     let their_epochs = take_epochs(question, &mut at, &mut their_epochs);
-    let mut their_counts = [0u32; 16];
+    let mut their_counts = [0u32; TABLE_PLACES];
     let their_counts = take_counts(question, &mut at, &mut their_counts);
     let amount = take_u32(question, &mut at);
     let strategy = take_strategy(question, &mut at);
-    let mut epochs = [0u16; 16];
+    let mut epochs = [0u16; TABLE_PLACES];
     let epochs = take_epochs(question, &mut at, &mut epochs);
-    let mut counts = [0u32; 16];
+    let mut counts = [0u32; TABLE_PLACES];
     let counts = take_counts(question, &mut at, &mut counts);
     let answered = add_by(
         call,
@@ -161,26 +163,26 @@ pub fn remove(call: u8, question: &[u8], reply: &[u8]) -> usize {
     let mut at: usize = 1;
     let present = take_present(call, question, &mut at);
     let ours = take_head(question, &mut at);
-    let mut our_epochs = [0u16; 16];
+    let mut our_epochs = [0u16; TABLE_PLACES];
     let our_epochs = take_epochs(question, &mut at, &mut our_epochs);
-    let mut our_counts = [0u32; 16];
+    let mut our_counts = [0u32; TABLE_PLACES];
     let our_counts = take_counts(question, &mut at, &mut our_counts);
     let theirs = take_head(question, &mut at);
-    let mut their_epochs = [0u16; 16];
+    let mut their_epochs = [0u16; TABLE_PLACES];
     let their_epochs = take_epochs(question, &mut at, &mut their_epochs);
-    let mut their_counts = [0u32; 16];
+    let mut their_counts = [0u32; TABLE_PLACES];
     let their_counts = take_counts(question, &mut at, &mut their_counts);
     let removal = take_removal(question, &mut at);
-    let mut ids = [[0u8; 32]; 16];
+    let mut ids = [[0u8; OWNER_LENGTH]; TABLE_PLACES];
     let ids = take_ids(question, &mut at, &mut ids);
-    let mut row_epochs = [0u16; 16];
+    let mut row_epochs = [0u16; TABLE_PLACES];
     let row_epochs = take_epochs(question, &mut at, &mut row_epochs);
-    let mut row_bytes = [0u32; 16];
+    let mut row_bytes = [0u32; TABLE_PLACES];
     let row_bytes = take_counts(question, &mut at, &mut row_bytes);
     let strategy = take_strategy(question, &mut at);
-    let mut epochs = [0u16; 16];
+    let mut epochs = [0u16; TABLE_PLACES];
     let epochs = take_epochs(question, &mut at, &mut epochs);
-    let mut counts = [0u32; 16];
+    let mut counts = [0u32; TABLE_PLACES];
     let counts = take_counts(question, &mut at, &mut counts);
     let answered = remove_by(
         call,

@@ -1,7 +1,9 @@
 // Replaying removal sums: 15 to 17.
 use crate::splits::tell_answered;
+use records_spec::OWNER_LENGTH;
 use rows_spec::HasRemoval;
 use rows_spec::Total;
+use wire::TABLE_PLACES;
 use wire::byte_of;
 use wire::take_counts;
 use wire::take_epochs;
@@ -16,18 +18,18 @@ use wire::turn;
 pub fn add_assign(question: &[u8], reply: &[u8]) -> usize {
     let mut at: usize = 1;
     let lhs = take_removal(question, &mut at);
-    let mut ids = [[0u8; 32]; 16];
+    let mut ids = [[0u8; OWNER_LENGTH]; TABLE_PLACES];
     let ids = take_ids(question, &mut at, &mut ids);
-    let mut epochs = [0u16; 16];
+    let mut epochs = [0u16; TABLE_PLACES];
     let epochs = take_epochs(question, &mut at, &mut epochs);
-    let mut bytes = [0u32; 16];
+    let mut bytes = [0u32; TABLE_PLACES];
     let bytes = take_counts(question, &mut at, &mut bytes);
     let rhs = take_removal(question, &mut at);
-    let mut rhs_ids = [[0u8; 32]; 16];
+    let mut rhs_ids = [[0u8; OWNER_LENGTH]; TABLE_PLACES];
     let rhs_ids = take_ids(question, &mut at, &mut rhs_ids);
-    let mut rhs_epochs = [0u16; 16];
+    let mut rhs_epochs = [0u16; TABLE_PLACES];
     let rhs_epochs = take_epochs(question, &mut at, &mut rhs_epochs);
-    let mut rhs_bytes = [0u32; 16];
+    let mut rhs_bytes = [0u32; TABLE_PLACES];
     let rhs_bytes = take_counts(question, &mut at, &mut rhs_bytes);
     let version = take_u16(question, &mut at);
     let summed = sums::add_assign(
@@ -66,11 +68,11 @@ fn tell_total(reply: &[u8], at: usize, answer: Total) -> usize {
 pub fn count(call: u8, question: &[u8], reply: &[u8]) -> usize {
     let mut at: usize = 1;
     let removal = take_removal(question, &mut at);
-    let mut ids = [[0u8; 32]; 16];
+    let mut ids = [[0u8; OWNER_LENGTH]; TABLE_PLACES];
     let ids = take_ids(question, &mut at, &mut ids);
-    let mut epochs = [0u16; 16];
+    let mut epochs = [0u16; TABLE_PLACES];
     let epochs = take_epochs(question, &mut at, &mut epochs);
-    let mut bytes = [0u32; 16];
+    let mut bytes = [0u32; TABLE_PLACES];
     let bytes = take_counts(question, &mut at, &mut bytes);
     let to = turn(question, at);
     if call == 16 {

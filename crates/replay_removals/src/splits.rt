@@ -1,6 +1,8 @@
 // Replaying the splits of a removal: 25 of key bytes, 26 of value bytes.
+use records_spec::OWNER_LENGTH;
 use rows_spec::AnsweredRemoval;
 use splitting_spec::Splitting;
+use wire::TABLE_PLACES;
 use wire::byte_of;
 use wire::take_counts;
 use wire::take_epochs;
@@ -42,16 +44,16 @@ fn tell_splitting(reply: &[u8], at: usize, splitting: Splitting) -> usize {
 pub fn split(call: u8, question: &[u8], reply: &[u8]) -> usize {
     let mut at: usize = 1;
     let flags = take_head(question, &mut at);
-    let mut epochs = [0u16; 16];
+    let mut epochs = [0u16; TABLE_PLACES];
     let epochs = take_epochs(question, &mut at, &mut epochs);
-    let mut counts = [0u32; 16];
+    let mut counts = [0u32; TABLE_PLACES];
     let counts = take_counts(question, &mut at, &mut counts);
     let removed = take_u32(question, &mut at);
-    let mut ids = [[0u8; 32]; 16];
+    let mut ids = [[0u8; OWNER_LENGTH]; TABLE_PLACES];
     let ids = take_ids(question, &mut at, &mut ids);
-    let mut row_epochs = [0u16; 16];
+    let mut row_epochs = [0u16; TABLE_PLACES];
     let row_epochs = take_epochs(question, &mut at, &mut row_epochs);
-    let mut bytes = [0u32; 16];
+    let mut bytes = [0u32; TABLE_PLACES];
     let bytes = take_counts(question, &mut at, &mut bytes);
     let to = turn(question, at);
     if call == 25 {

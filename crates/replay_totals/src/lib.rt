@@ -1,5 +1,7 @@
 // Replaying the change of a table of totals: 24.
+use records_spec::OWNER_LENGTH;
 use totals_spec::Replaced;
+use wire::TABLE_PLACES;
 use wire::byte_of;
 use wire::take_bool;
 use wire::take_counts;
@@ -26,23 +28,23 @@ fn tell_replaced(reply: &[u8], at: usize, replaced: Replaced) -> usize {
 pub fn totals_replace(question: &[u8], reply: &[u8]) -> usize {
     let mut at: usize = 1;
     let rows = take_u16(question, &mut at) as usize;
-    let mut owners = [[0u8; 32]; 16];
+    let mut owners = [[0u8; OWNER_LENGTH]; TABLE_PLACES];
     let owners = take_ids(question, &mut at, &mut owners);
-    let mut epochs = [0u16; 16];
+    let mut epochs = [0u16; TABLE_PLACES];
     let epochs = take_epochs(question, &mut at, &mut epochs);
-    let mut totals = [0u64; 16];
+    let mut totals = [0u64; TABLE_PLACES];
     let totals = take_totals(question, &mut at, &mut totals);
     let old_present = take_bool(question, &mut at);
     let old = take_head(question, &mut at);
-    let mut old_epochs = [0u16; 16];
+    let mut old_epochs = [0u16; TABLE_PLACES];
     let old_epochs = take_epochs(question, &mut at, &mut old_epochs);
-    let mut old_counts = [0u32; 16];
+    let mut old_counts = [0u32; TABLE_PLACES];
     let old_counts = take_counts(question, &mut at, &mut old_counts);
     let new_present = take_bool(question, &mut at);
     let new = take_head(question, &mut at);
-    let mut new_epochs = [0u16; 16];
+    let mut new_epochs = [0u16; TABLE_PLACES];
     let new_epochs = take_epochs(question, &mut at, &mut new_epochs);
-    let mut new_counts = [0u32; 16];
+    let mut new_counts = [0u32; TABLE_PLACES];
     let new_counts = take_counts(question, &mut at, &mut new_counts);
     let replaced = totals::replace(
         rows,

@@ -7,6 +7,7 @@ ghost use Rattle.rows_spec.specs.Outcomes.{shown, placing};
 ghost use Rattle.sums_spec.specs.Joins.{addRow, joined};
 ghost use Rattle.sums_spec.specs.Sums.{unknown, basicPlus, sum, Lost};
 ghost use Rattle.sums_spec.specs.Calls.{summed};
+use records_spec::OWNER_LENGTH;
 use records_spec::Refusal;
 use rows_spec::AnsweredRemoval;
 use rows_spec::Order;
@@ -71,7 +72,7 @@ fn add_basic(
     requires { ⌜ Proper n (tables (now ids) (now epochs) (now bytes)) ⌝ }
     ensures { λ r. ⌜ shown r (tables (now (ids .exit)) (now (epochs .exit)) (now (bytes .exit))) ≡ placing (sectioned (addRow (unknown «removed_bytes») (rowsIn n (tables (now (ids .entry)) (now (epochs .entry)) (now (bytes .entry)))))) (tables (now (ids .entry)) (now (epochs .entry)) (now (bytes .entry))) ⌝ }
 {
-    let zeros = [0u8; 32];
+    let zeros = [0u8; OWNER_LENGTH];
     let row_id = [zeros; 1];
     let row_epoch = [UNKNOWN_EPOCH; 1];
     let row_bytes = [removed_bytes; 1];
@@ -92,7 +93,7 @@ fn add_rows_to_basic(
     requires { ⌜ Proper m (tables (now «rhs_ids») (now «rhs_epochs») (now «rhs_bytes»)) ⌝ }
     ensures { λ r. ⌜ shown r (tables (now (ids .exit)) (now (epochs .exit)) (now (bytes .exit))) ≡ placing (sectioned (addRow (unknown «removed_bytes») (rowsIn m (tables (now («rhs_ids» .entry)) (now («rhs_epochs» .entry)) (now («rhs_bytes» .entry)))))) (tables (now (ids .entry)) (now (epochs .entry)) (now (bytes .entry))) ⌝ }
 {
-    let zeros = [0u8; 32];
+    let zeros = [0u8; OWNER_LENGTH];
     let row_id = [zeros; 1];
     let row_epoch = [UNKNOWN_EPOCH; 1];
     let row_bytes = [removed_bytes; 1];
@@ -131,7 +132,7 @@ fn count_lost(ids: &[[u8; 32]], epochs: &[u16], bytes: &[u32], n: usize) -> usiz
     requires { ⌜ Proper n (tables (now ids) (now epochs) (now bytes)) ⌝ }
     ensures { λ r. ⌜ Lost (rowsIn n (tables (now (ids .entry)) (now (epochs .entry)) (now (bytes .entry)))) n r ⌝ }
 {
-    let zeros = [0u8; 32];
+    let zeros = [0u8; OWNER_LENGTH];
     let mut i: usize = 0;
     while i < n {
         match rows::compare_ids(&ids[i], &zeros) {

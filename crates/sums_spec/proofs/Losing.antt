@@ -8,7 +8,7 @@ use native.Mathlib.Omega.{arith}
 use lib.Dec.{leb, ltb}
 use lib.ListN.{length, drop, getD}
 use borrow.Author.Tests.{lt-ltb, le-ltb, le-leb, lt-leb}
-use Rattle.records_spec.specs.Flags.{zeros, same}
+use Rattle.records_spec.specs.Flags.{ownerLength, zeros, same}
 use Rattle.records_spec.proofs.Owners.{same-self, same-equal}
 use Rattle.rows_spec.specs.Order.{order}
 use Rattle.rows_spec.specs.Rows.{Row, compared, ascends, Tables, rowsIn, rowAt, Proper}
@@ -32,7 +32,7 @@ zero-other i h = go (same i zeros) refl
     go false e = refl
 
 -- behind a row above the zeros none has the zero identifier
-later-other : (a b : Row) → length (a .identifier) ≡ 32 → order (a .identifier) zeros ≡ Greater → compared a b ≡ Less → ofZeros b ≡ false
+later-other : (a b : Row) → length (a .identifier) ≡ ownerLength → order (a .identifier) zeros ≡ Greater → compared a b ≡ Less → ofZeros b ≡ false
 later-other a b l h k = go (same (b .identifier) zeros) refl
   where
     go : (x : Bool) → same (b .identifier) zeros ≡ x → x ≡ false
@@ -61,7 +61,7 @@ module _ (a : Row) (rs : List Row) where
   unfolding anyOfZeros
   any-other z = rw z
 
-module _ (a : Row) (l : length (a .identifier) ≡ 32) (h : order (a .identifier) zeros ≡ Greater) where
+module _ (a : Row) (l : length (a .identifier) ≡ ownerLength) (h : order (a .identifier) zeros ≡ Greater) where
   none-lost : (rs : List Row) → AllAfter a rs → withoutZeros rs ≡ rs
   unfolding withoutZeros
   none-lost [] k = refl
@@ -100,7 +100,7 @@ module _ {n : ℕ} {t : Tables} (p : Proper n t) (k : ℕ) (w : Losing (rowsIn n
             ∙ sym (ap (λ (b : Bool). cond b true (anyOfZeros rest)) (lt-ltb 0 (k + 1) (omega arith)));
       }
 
-  pub losing-stop : k < n → length (getD (t .ids) k []) ≡ 32 → order (getD (t .ids) k []) zeros ≡ Greater → Lost (rowsIn n t) n k
+  pub losing-stop : k < n → length (getD (t .ids) k []) ≡ ownerLength → order (getD (t .ids) k []) zeros ≡ Greater → Lost (rowsIn n t) n k
   losing-stop h l e =
       let a = rowAt t k in
       let z = zero-other (getD (t .ids) k []) e in

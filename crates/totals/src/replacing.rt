@@ -10,6 +10,7 @@ ghost use Rattle.totals_spec.specs.Calls.{shown, placing, given, properGiven, r
 use crate::judging::judge_new;
 use crate::judging::judge_old;
 use records_spec::Head;
+use records_spec::OWNER_LENGTH;
 use records_spec::Refusal;
 use totals_rows::add_rows;
 use totals_rows::take_rows;
@@ -165,7 +166,7 @@ pub fn names_of(present: bool, head: Head) -> Named
         };
     }
     Named {
-        owner: [0u8; 32],
+        owner: [0u8; OWNER_LENGTH],
         records: 0,
     }
 }

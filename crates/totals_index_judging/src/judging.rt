@@ -9,6 +9,7 @@ ghost use Rattle.totals_spec.specs.Table.{totalAt};
 ghost use Rattle.totals_index_spec.specs.Structs.{columns};
 ghost use Rattle.totals_index_spec.specs.Judging.{one, positives, beginning, unjudged, started, rowOf, rowsNamed, next, judged, AskedOf, Asked, Small};
 use records_spec::Head;
+use records_spec::OWNER_LENGTH;
 use totals::LARGEST_TOTAL;
 use totals_index_spec::Judging;
 use totals_index_spec::Total;
@@ -40,7 +41,7 @@ fn begin(n: usize, old: Named, new: Named, owed: usize, made: usize) -> Judging
         new,
         good: true,
         any: false,
-        owner: [0u8; 32],
+        owner: [0u8; OWNER_LENGTH],
         epoch: 0,
         owed,
         fits: true,
@@ -54,7 +55,7 @@ fn begin_with_none(n: usize) -> Judging
     ensures { λ r. ⌜ r ≡ unjudged n ⌝ }
 {
     let none = Named {
-        owner: [0u8; 32],
+        owner: [0u8; OWNER_LENGTH],
         records: 0,
     };
     Judging {
@@ -64,7 +65,7 @@ fn begin_with_none(n: usize) -> Judging
         new: none,
         good: false,
         any: false,
-        owner: [0u8; 32],
+        owner: [0u8; OWNER_LENGTH],
         epoch: 0,
         owed: 0,
         fits: true,

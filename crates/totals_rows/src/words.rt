@@ -5,6 +5,7 @@ ghost use Prim.Native.Nat.{_+_, _≤_};
 ghost use lib.Dec.{ltb};
 ghost use lib.ListN.{length, take, drop};
 ghost use Rattle.fields_spec.specs.Big.{said};
+ghost use Rattle.records_spec.specs.Flags.{ownerLength};
 ghost use Rattle.rows_spec.specs.Order.{isLess};
 ghost use Rattle.rows_spec.specs.Rows.{row, compared};
 
@@ -29,7 +30,7 @@ fn is_below_or(x: u64, y: u64, next: bool) -> bool
 
 // Whether a row of owner a and epoch x stands before one of owner b and epoch y. The first words decide for most owners.
 pub fn is_less(a: &[u8], x: u16, b: &[u8], y: u16) -> bool
-    requires { ⌜ (length (now a) ≡ 32) × (length (now b) ≡ 32) ⌝ }
+    requires { ⌜ (length (now a) ≡ ownerLength) × (length (now b) ≡ ownerLength) ⌝ }
     ensures { λ r. ⌜ r ≡ isLess (compared (row (now (a .entry)) x 0) (row (now (b .entry)) y 0)) ⌝ }
 {
     let first = word(a, 0);

@@ -10,6 +10,7 @@ use lib.ListN.{length, getD, take, drop, take-append-drop, length-drop, drop-of-
 use lib.Seq.{length-take-le, getD-drop, drop-drop}
 use borrow.Author.Tests.{ltb-true, ltb-false, lt-ltb, le-ltb, eq-eqb, ne-eqb}
 use Rattle.fields_spec.specs.Big.{said, saidAfter}
+use Rattle.records_spec.specs.Flags.{ownerLength}
 use Rattle.rows_spec.specs.Order.{by, order, isLess}
 use Rattle.rows_spec.specs.Rows.{row, compared}
 use Rattle.rows_spec.specs.declared.order.Order.{Order}
@@ -140,7 +141,7 @@ module _ (a b : List ℕ) (p : (i : ℕ) → getD a i 0 < 256) (q : (i : ℕ) �
   less-decides c d k h i =
       ap isLess (word-decides c d k h i) ∙ less-by (wordAt a k) (wordAt b k) (order (drop (k + 8) a ++ c) (drop (k + 8) b ++ d))
 
-  less-words : (x y : ℕ) → length a ≡ 32 → length b ≡ 32
+  less-words : (x y : ℕ) → length a ≡ ownerLength → length b ≡ ownerLength
       → isLess (compared (row a x 0) (row b y 0))
       ≡ lessOr (wordAt a 0) (wordAt b 0) (lessOr (wordAt a 8) (wordAt b 8) (lessOr (wordAt a 16) (wordAt b 16) (lessOr (wordAt a 24) (wordAt b 24) (ltb x y))))
   less-words x y h k =
@@ -155,19 +156,21 @@ module _ (a b : List ℕ) (p : (i : ℕ) → getD a i 0 < 256) (q : (i : ℕ) �
       ∙ ap (lessOr (wordAt a 24) (wordAt b 24)) (ap isLess e ∙ less-last x y))))
 
   -- the first words decide where they differ
-  pub less-first : (x y : ℕ) → length a ≡ 32 → length b ≡ 32 → (m n : ℕ) → m ≡ wordAt a 0 → n ≡ wordAt b 0 → m < n → true ≡ isLess (compared (row a x 0) (row b y 0))
+  pub less-first : (x y : ℕ) → length a ≡ ownerLength → length b ≡ ownerLength → (m n : ℕ) → m ≡ wordAt a 0 → n ≡ wordAt b 0 → m < n
+      → true ≡ isLess (compared (row a x 0) (row b y 0))
   less-first x y h k m n e f l =
       let u : wordAt a 0 < wordAt b 0 = omega arith in
       sym (less-words x y h k ∙ (rw (lt-ltb (wordAt a 0) (wordAt b 0) u) refl))
 
-  pub more-first : (x y : ℕ) → length a ≡ 32 → length b ≡ 32 → (m n : ℕ) → m ≡ wordAt a 0 → n ≡ wordAt b 0 → n < m → false ≡ isLess (compared (row a x 0) (row b y 0))
+  pub more-first : (x y : ℕ) → length a ≡ ownerLength → length b ≡ ownerLength → (m n : ℕ) → m ≡ wordAt a 0 → n ≡ wordAt b 0 → n < m
+      → false ≡ isLess (compared (row a x 0) (row b y 0))
   more-first x y h k m n e f l =
       let u : wordAt b 0 < wordAt a 0 = omega arith in
       let v : wordAt b 0 ≤ wordAt a 0 = omega arith in
       sym (less-words x y h k ∙ (rw (le-ltb (wordAt a 0) (wordAt b 0) v, lt-ltb (wordAt b 0) (wordAt a 0) u) refl))
 
   -- and else the others
-  pub less-rest : (x y : ℕ) → length a ≡ 32 → length b ≡ 32 → (m n : ℕ) → m ≡ wordAt a 0 → n ≡ wordAt b 0 → m ≤ n → n ≤ m
+  pub less-rest : (x y : ℕ) → length a ≡ ownerLength → length b ≡ ownerLength → (m n : ℕ) → m ≡ wordAt a 0 → n ≡ wordAt b 0 → m ≤ n → n ≤ m
       → lessOr (wordAt a 8) (wordAt b 8) (lessOr (wordAt a 16) (wordAt b 16) (lessOr (wordAt a 24) (wordAt b 24) (ltb x y))) ≡ isLess (compared (row a x 0) (row b y 0))
   less-rest x y h k m n e f l o =
       let u : wordAt a 0 ≤ wordAt b 0 = omega arith in

@@ -5,6 +5,9 @@ use vectors_list::PLACES;
 use vectors_list::differs;
 use vectors_list::note;
 
+// The most bytes that a line says: a question and its reply.
+const LINE_BYTES: usize = 2048;
+
 // What a turn of reading came to: the line that has begun, and whether there may be more.
 struct Turn {
     line: Line,
@@ -92,7 +95,7 @@ fn read_all(text: &mut [u8], tally: &mut [u64]) {
 }
 
 fn main() {
-    let mut text = [0u8; 2048];
+    let mut text = [0u8; LINE_BYTES];
     let mut tally = [0u64; PLACES];
     read_all(&mut text, &mut tally);
     vectors_list::print(&tally);

@@ -7,8 +7,8 @@ use wire::Verdict;
 // One more than the largest call number.
 const CALLS: usize = 27;
 
-// The places of a tally.
-pub const PLACES: usize = 54;
+// The places of a tally: two for each call number.
+pub const PLACES: usize = 2 * CALLS;
 
 // The number of a call that is there no more.
 const RETIRED: usize = 14;

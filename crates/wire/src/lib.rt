@@ -3,6 +3,7 @@ mod question;
 mod reply;
 
 pub use question::BEYOND;
+pub use question::TABLE_PLACES;
 pub use question::take_bool;
 pub use question::take_bytes;
 pub use question::take_counts;

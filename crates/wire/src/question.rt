@@ -5,11 +5,15 @@ use flags_spec::MergingOwnersStrategy;
 use records_spec::Head;
 use records_spec::KindByte;
 use records_spec::MaybeOwner;
+use records_spec::OWNER_LENGTH;
 use rows_spec::Removed;
 use rows_spec::StorageRemovedBytes;
 
 // The place beyond every end.
 pub const BEYOND: usize = 0xffff_ffff;
+
+// The most places of a table in a stored question.
+pub const TABLE_PLACES: usize = 16;
 
 // A byte.
 pub fn take_u8(src: &[u8], at: &mut usize) -> u8 {
@@ -88,9 +92,9 @@ pub fn take_bytes<'a>(src: &[u8], at: &mut usize, bytes: &'a mut [u8]) -> &'a mu
 
 // An owner or an identifier.
 pub fn take_id(src: &[u8], at: &mut usize) -> [u8; 32] {
-    let mut id = [0u8; 32];
+    let mut id = [0u8; OWNER_LENGTH];
     let mut k: usize = 0;
-    while k < 32 {
+    while k < OWNER_LENGTH {
         id[k] = take_u8(src, at);
         k += 1;
     }

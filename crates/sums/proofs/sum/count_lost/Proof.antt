@@ -3,6 +3,7 @@ use mathlib.Core.Path.{sym, _∙_}
 use Prim.Native.Nat.{_-_, _≤_}
 use native.Mathlib.Omega.{arith}
 use borrow.Author.Needs.{needs}
+use Rattle.records_spec.specs.Flags.{ownerLength}
 use Rattle.rows_spec.specs.Rows.{tables, rowsIn}
 use Rattle.rows_spec.proofs.Comparing.{zeros-least}
 use Rattle.sums_spec.proofs.Losing.{Losing, losing-start, losing-more, losing-stop, losing-end}
@@ -19,7 +20,7 @@ abbrev μ-loop : tie.MeasureT-loop
 returns : tie.Need-returns Inv-loop μ-loop
 returns c =
     let at-compare-ids-arg2 = c .before .before .before .before in
-    absurd (zeros-least 32 _ (at-compare-ids-arg2 .compare-ids-arg2 .given .0)
+    absurd (zeros-least ownerLength _ (at-compare-ids-arg2 .compare-ids-arg2 .given .0)
     (sym (c .before .before .compare-ids .ensures) ∙ c .enum-told .given .1))
 
 loop-again : tie.Need-loop-again Inv-loop μ-loop
