@@ -7,7 +7,7 @@ ghost use Rattle.splitting_spec.specs.Sections.{minimum};
 ghost use Rattle.splitting_spec.specs.Visits.{visits};
 use splitting_spec::Visited;
 
-// What a record keeps, if it has as much; with so little left it is dropped.
+// What a record keeps, if it has as much; with so little left it is dropped: `minimum`, by the proof of `gives`.
 pub const MINIMUM_NON_BASE_FLAGS_SIZE: u32 = 3;
 
 // What a record with so many bytes gives of what is asked of it: all that it holds above 3, or all that is asked.
