@@ -8,7 +8,8 @@ use native.Mathlib.Omega.{arith}
 use lib.ListN.{length, drop}
 use Rattle.records_spec.specs.Tables.{At, recordsOf, union}
 use Rattle.records_spec.specs.Runs.{run, Room}
-use Rattle.records_spec.proofs.Tables.{Filling, filling-start, filling-step, filling-run, filling-then, filling-room, filling-fits, filling-done, placed-long}
+use Rattle.records_spec.proofs.Tables.{Filling, filling-start, filling-step, filling-run, filling-then}
+use Rattle.records_spec.proofs.Tables.{filling-room, filling-fits, filling-done, placed-long}
 use Rattle.records_spec.proofs.Unions.{Walking, walking-start, walking-within, walking-step}
 use Rattle.records_spec.proofs.Runs.{lead-within, union-lead, left-ours, left-theirs}
 use Rattle.records.proofs.table.union_into.Statement.{statement}
