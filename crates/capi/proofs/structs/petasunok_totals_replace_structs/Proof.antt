@@ -200,11 +200,11 @@ module _ {M : Type 1} (𝓤 : URA M) (H : Heap 𝓤) (A : Atoms 𝓤) (W : Given
 
   -- what the slices own, around what the plain parameters do
   abbrev owning : Fml → Fml → Fml → Fml → Fml → Fml
-  owning f p₁ g₁ p₂ g₂ = fsep f (fsep (MutSlice (named 0) κ₁ T.the-row .own (x₁ ys) (s₁ ∷ [])) (fsep
-      (MutSlice (named 1) κ₂ Id .own (x₂ os) (s₂ ∷ [])) (fsep (MutSlice (named 2) κ₃ u16 .own (x₃ es) (s₃ ∷ [])) (fsep
-      (MutSlice (named 3) κ₄ u64 .own (x₄ us) (s₄ ∷ [])) (fsep p₁ (fsep g₁ (fsep (ShrSlice (named 4) κ₅ u16 .own x₅ (slice-vals x₅)) (fsep
-      (ShrSlice (named 5) κ₆ u32 .own x₆ (slice-vals x₆)) (fsep p₂ (fsep g₂ (fsep (ShrSlice (named 6) κ₇ u16 .own x₇ (slice-vals x₇)) (fsep
-      (ShrSlice (named 7) κ₈ u32 .own x₈ (slice-vals x₈)) ftrue))))))))))))
+  owning f p₁ g₁ p₂ g₂ = fsep f (fsep (MutSlice (named 0) κ₁ T.the-row .own (x₁ ys) (s₁ ∷ []))
+      (fsep (MutSlice (named 1) κ₂ Id .own (x₂ os) (s₂ ∷ [])) (fsep (MutSlice (named 2) κ₃ u16 .own (x₃ es) (s₃ ∷ []))
+      (fsep (MutSlice (named 3) κ₄ u64 .own (x₄ us) (s₄ ∷ [])) (fsep p₁ (fsep g₁ (fsep (ShrSlice (named 4) κ₅ u16 .own x₅ (slice-vals x₅))
+      (fsep (ShrSlice (named 5) κ₆ u32 .own x₆ (slice-vals x₆)) (fsep p₂ (fsep g₂ (fsep (ShrSlice (named 6) κ₇ u16 .own x₇ (slice-vals x₇))
+      (fsep (ShrSlice (named 7) κ₈ u32 .own x₈ (slice-vals x₈)) ftrue))))))))))))
 
   abbrev Own : Fml
   Own = owning (usize .own n (vint w64 n ∷ [])) (u8 .own m₁ (vint w8 m₁ ∷ [])) (CT.the-row .own h₁ (head-vals h₁)) (u8 .own m₂ (vint w8 m₂ ∷ []))
