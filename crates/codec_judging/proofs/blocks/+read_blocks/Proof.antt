@@ -5,7 +5,7 @@ use Prim.Native.Nat.{ℕ, _+_, _-_, _<_}
 use native.Mathlib.Omega.{arith}
 use borrow.Author.Needs.{needs}
 use lib.ListN.{length}
-use borrow.Fn.Kinds.{In}
+use borrow.Fn.Kinds.{In, Out}
 use borrow.Fn.PlainCycle.{Measures, is, falls, and}
 use Rattle.codec_spec.proofs.Stacking.{filled-faulty, filled-whole, filled-alike, taken-long, last-filled, stacked-room, stacked}
 use Rattle.codec_spec.proofs.Taking.{taken-epochs, taken-counts}
@@ -44,29 +44,33 @@ claims t = (
 )
 
 module _ (t : ℕ) where
+  -- a place of the function, or a need, at the measure t
+  abbrev On : (lts.Claims → In 3 kinds.ps → Out 3 kinds.ps kinds.r → Type 0) → Type 0
+  On F = F (claims t) (at-measure t) reads.Post
+
   -- a block is read, and from there back to the start
-  abbrev start : lts.After-read-block (claims t) (at-measure t) reads.Post → lts.Start (claims t) (at-measure t) reads.Post
+  abbrev start : On lts.After-read-block → On lts.Start
   start c = c .before .before .before .before .before .before .before
 
   -- it has records, and from there back to where it is read
-  abbrev read : lts.After-n (claims t) (at-measure t) reads.Post → lts.After-read-block (claims t) (at-measure t) reads.Post
+  abbrev read : On lts.After-n → On lts.After-read-block
   read c = c .before .before .before .before
 
   -- the blocks behind it are read, and from there back to its records
-  abbrev had : lts.After-read-blocks (claims t) (at-measure t) reads.Post → lts.After-n (claims t) (at-measure t) reads.Post
+  abbrev had : On lts.After-read-blocks → On lts.After-n
   had c = c .before .before .before .before .before
 
   -- they have records, and from there back to where they are read
-  abbrev behind : lts.After-all (claims t) (at-measure t) reads.Post → lts.After-read-blocks (claims t) (at-measure t) reads.Post
+  abbrev behind : On lts.After-all → On lts.After-read-blocks
   behind c = c .before .before .before .before .before .before
 
-  read-twice-requires : lts.Need-read-twice-requires (claims t) (at-measure t) reads.Post
+  read-twice-requires : On lts.Need-read-twice-requires
   read-twice-requires c κs =
       let many = c .before .before .before .before in
       let s = many .before .before .before .before in
       ((s .pre .1 .0, s .pre .1 .2 (omega (arith, many .if1 .taken))), (omega arith, omega arith))
 
-  place-last-requires : lts.Need-place-last-requires (claims t) (at-measure t) reads.Post
+  place-last-requires : On lts.Need-place-last-requires
   place-last-requires c κs =
       let k = c .before .before .before .before .before .before in
       let s = start (read k) in
@@ -75,7 +79,7 @@ module _ (t : ℕ) where
         omega (arith, b .0 .gains, b .0 .within, s .pre .1 .0, s .good),
       )
 
-  returns-2 : lts.Need-returns-2 (claims t) (at-measure t) reads.Post
+  returns-2 : On lts.Need-returns-2
   returns-2 c =
       let placed = c .before .before .before .before in
       let last = placed .before .before .before .before .before in
@@ -84,14 +88,14 @@ module _ (t : ℕ) where
       let b = read k .read-block .ensures .taken _ _ _ (k .n .given .1) in
       placed .place-last .ensures ∙ last-filled (b .0) (last .if2 .taken) (a .k) (a .epochs .now) (a .counts .now) (b .2) (b .2)
 
-  add-read-blocks : lts.Need-add-read-blocks (claims t) (at-measure t) reads.Post
+  add-read-blocks : On lts.Need-add-read-blocks
   add-read-blocks c =
       let k = c .before .before in
       let s = start (read k) in
       let b = read k .read-block .ensures .taken _ _ _ (k .n .given .1) in
       omega (arith, b .0 .gains, b .0 .within, s .pre .1 .0, s .good)
 
-  read-blocks-requires : lts.Need-read-blocks-requires (claims t) (at-measure t) reads.Post
+  read-blocks-requires : On lts.Need-read-blocks-requires
   read-blocks-requires c κs =
       let more = c .before .before in
       let k = more .before .before in
@@ -102,7 +106,7 @@ module _ (t : ℕ) where
         (omega (arith, b .0 .gains, s .pre .1 .0), b .0 .within, λ z. more .if2 .left),
       )
 
-  copy-run-requires : lts.Need-copy-run-requires (claims t) (at-measure t) reads.Post
+  copy-run-requires : On lts.Need-copy-run-requires
   copy-run-requires c κs =
       let all = c .before .before .before .before .before in
       let k = had (behind all) in
@@ -113,14 +117,14 @@ module _ (t : ℕ) where
       let r = stacked-room (b .0) (a .k) _ (a .epochs .now) (a .counts .now) _ _ w (b .2) (b .2) in
       ((omega (arith, taken-epochs (b .0), b .2), omega (arith, taken-counts (b .0), b .2)), record { in-epochs = r .0; in-counts = r .1 })
 
-  returns-3 : lts.Need-returns-3 (claims t) (at-measure t) reads.Post
+  returns-3 : On lts.Need-returns-3
   returns-3 c =
       let r = c .before .before .before .before .before in
       let a = start r .args in
       filled-faulty (length (a .src .now)) (a .k) _ (a .epochs .now) (a .counts .now) _ _ _
       (r .read-block .ensures .at-fault _ _ (c .before .refusal .given .1))
 
-  returns-4 : lts.Need-returns-4 (claims t) (at-measure t) reads.Post
+  returns-4 : On lts.Need-returns-4
   returns-4 c =
       let rest = c .before .before .before .before .before .before .before in
       let k = had rest in
@@ -129,7 +133,7 @@ module _ (t : ℕ) where
       filled-alike (length (a .src .now)) (a .k) (a .k + _) _ _ _ _ (a .epochs .now) (a .counts .now) _ _ _ _ _ (sym (b .0 .fault-on))
       (taken-long (b .0) (a .k)) (c .before .refusal2 .given .1) (rest .read-blocks .ensures)
 
-  returns-5 : lts.Need-returns-5 (claims t) (at-measure t) reads.Post
+  returns-5 : On lts.Need-returns-5
   returns-5 c =
       let copied = c .before .before .before .before in
       let all = copied .before .before .before .before .before .before in
