@@ -5,7 +5,7 @@ use Prim.Native.Nat.{ℕ, _+_, _-_, _<_}
 use native.Mathlib.Omega.{arith}
 use borrow.Author.Needs.{needs}
 use lib.ListN.{length}
-use borrow.Fn.Kinds.{In}
+use borrow.Fn.Kinds.{In, Out}
 use borrow.Fn.PlainCycle.{Measures, is, falls, and}
 use Rattle.codec_spec.proofs.Stacking.{filled-faulty, filled-whole, filled-alike, taken-long, last-filled, stacked-room, stacked}
 use Rattle.codec_spec.proofs.Taking.{taken-epochs, taken-counts}
@@ -29,8 +29,8 @@ at-measure t = and 3 kinds.ps (is 3 kinds.ps μ t) reads.Pre
 abbrev below-measure : ℕ → In 3 kinds.ps
 below-measure t = and 3 kinds.ps (falls 3 kinds.ps _<_ μ t) reads.Pre
 
-pub +read-blocks-spec : {M : Type 1} → statement M
-+read-blocks-spec = close μ λ t. lts.spec (
+abbrev claims : ℕ → lts.Claims
+claims t = (
   read-twice.Asked,
   read-twice.Learnt,
   read-block.Asked,
@@ -42,104 +42,138 @@ pub +read-blocks-spec : {M : Type 1} → statement M
   copy-run.Asked,
   copy-run.Learnt,
 )
-    (at-measure t)
-    reads.Post
+
+module _ (t : ℕ) where
+  -- a place of the function, or a need, at the measure t
+  abbrev On : (lts.Claims → In 3 kinds.ps → Out 3 kinds.ps kinds.r → Type 0) → Type 0
+  On F = F (claims t) (at-measure t) reads.Post
+
+  -- a block is read, and from there back to the start
+  abbrev start : On lts.After-read-block → On lts.Start
+  start c = c .before .before .before .before .before .before .before
+
+  -- it has records, and from there back to where it is read
+  abbrev read : On lts.After-n → On lts.After-read-block
+  read c = c .before .before .before .before
+
+  -- the blocks behind it are read, and from there back to its records
+  abbrev had : On lts.After-read-blocks → On lts.After-n
+  had c = c .before .before .before .before .before
+
+  -- they have records, and from there back to where they are read
+  abbrev behind : On lts.After-all → On lts.After-read-blocks
+  behind c = c .before .before .before .before .before .before
+
+  read-twice-requires : On lts.Need-read-twice-requires
+  read-twice-requires c κs =
+      let many = c .before .before .before .before in
+      let s = many .before .before .before .before in
+      ((s .pre .1 .0, s .pre .1 .2 (omega (arith, many .if1 .taken))), (omega arith, omega arith))
+
+  place-last-requires : On lts.Need-place-last-requires
+  place-last-requires c κs =
+      let k = c .before .before .before .before .before .before in
+      let s = start (read k) in
+      let b = read k .read-block .ensures .taken _ _ _ (k .n .given .1) in (
+        (omega (arith, taken-epochs (b .0), b .2), omega (arith, taken-counts (b .0), b .2)),
+        omega (arith, b .0 .gains, b .0 .within, s .pre .1 .0, s .good),
+      )
+
+  returns-2 : On lts.Need-returns-2
+  returns-2 c =
+      let placed = c .before .before .before .before in
+      let last = placed .before .before .before .before .before in
+      let k = last .before .before in
+      let a = start (read k) .args in
+      let b = read k .read-block .ensures .taken _ _ _ (k .n .given .1) in
+      placed .place-last .ensures ∙ last-filled (b .0) (last .if2 .taken) (a .k) (a .epochs .now) (a .counts .now) (b .2) (b .2)
+
+  add-read-blocks : On lts.Need-add-read-blocks
+  add-read-blocks c =
+      let k = c .before .before in
+      let s = start (read k) in
+      let b = read k .read-block .ensures .taken _ _ _ (k .n .given .1) in
+      omega (arith, b .0 .gains, b .0 .within, s .pre .1 .0, s .good)
+
+  read-blocks-requires : On lts.Need-read-blocks-requires
+  read-blocks-requires c κs =
+      let more = c .before .before in
+      let k = more .before .before in
+      let s = start (read k) in
+      let b = read k .read-block .ensures .taken _ _ _ (k .n .given .1) in
+      let l = b .1 (more .if2 .left) in (
+        omega (arith, s .pre .0, b .0 .gains, b .0 .within),
+        (omega (arith, b .0 .gains, s .pre .1 .0), b .0 .within, λ z. more .if2 .left),
+      )
+
+  copy-run-requires : On lts.Need-copy-run-requires
+  copy-run-requires c κs =
+      let all = c .before .before .before .before .before in
+      let k = had (behind all) in
+      let a = start (read k) .args in
+      let b = read k .read-block .ensures .taken _ _ _ (k .n .given .1) in
+      let w = filled-whole (length (a .src .now)) (a .k + _) _ (a .epochs .now) (a .counts .now) _ _ _ _ _ (all .all .given .1)
+      (behind all .read-blocks .ensures) in
+      let r = stacked-room (b .0) (a .k) _ (a .epochs .now) (a .counts .now) _ _ w (b .2) (b .2) in
+      ((omega (arith, taken-epochs (b .0), b .2), omega (arith, taken-counts (b .0), b .2)), record { in-epochs = r .0; in-counts = r .1 })
+
+  returns-3 : On lts.Need-returns-3
+  returns-3 c =
+      let r = c .before .before .before .before .before in
+      let a = start r .args in
+      filled-faulty (length (a .src .now)) (a .k) _ (a .epochs .now) (a .counts .now) _ _ _
+      (r .read-block .ensures .at-fault _ _ (c .before .refusal .given .1))
+
+  returns-4 : On lts.Need-returns-4
+  returns-4 c =
+      let rest = c .before .before .before .before .before .before .before in
+      let k = had rest in
+      let a = start (read k) .args in
+      let b = read k .read-block .ensures .taken _ _ _ (k .n .given .1) in
+      filled-alike (length (a .src .now)) (a .k) (a .k + _) _ _ _ _ (a .epochs .now) (a .counts .now) _ _ _ _ _ (sym (b .0 .fault-on))
+      (taken-long (b .0) (a .k)) (c .before .refusal2 .given .1) (rest .read-blocks .ensures)
+
+  returns-5 : On lts.Need-returns-5
+  returns-5 c =
+      let copied = c .before .before .before .before in
+      let all = copied .before .before .before .before .before .before in
+      let k = had (behind all) in
+      let a = start (read k) .args in
+      let b = read k .read-block .ensures .taken _ _ _ (k .n .given .1) in
+      let w = filled-whole (length (a .src .now)) (a .k + _) _ (a .epochs .now) (a .counts .now) _ _ _ _ _ (all .all .given .1)
+      (behind all .read-blocks .ensures) in
+      stacked (b .0) (a .k) _ (a .epochs .now) (a .counts .now) _ _ w (b .2) (b .2) _ _ _ (copied .copy-run .ensures)
+
+pub +read-blocks-spec : {M : Type 1} → statement M
++read-blocks-spec = close μ λ t. lts.spec (claims t) (at-measure t) reads.Post
     (λ c. search needs)
     (λ c. search needs)
-    (λ c κs.
-    let at-if1 = c .before .before .before .before in
-    let s = at-if1 .before .before .before .before in
-    ((s .pre .1 .0, s .pre .1 .2 (omega (arith, at-if1 .if1 .taken))), (omega arith, omega arith)))
+    (read-twice-requires t)
     (λ c. search needs)
     (λ c. search needs)
-    (λ c. let at-read-twice = c .before .before .before .before .before .before in at-read-twice .read-twice .ensures)
+    (λ c. let twice = c .before .before .before .before .before .before in twice .read-twice .ensures)
     (λ c. search needs)
     (λ c. search needs)
-    (λ c κs.
-    let start = c .before .before .before .before .before .before in
-    (start .pre .1 .1, (omega arith, omega arith)))
+    (λ c κs. let s = c .before .before .before .before .before .before in (s .pre .1 .1, (omega arith, omega arith)))
     (λ c. search needs)
     (λ c. search needs)
     (λ c. search needs)
     (λ c. search needs)
-    (λ c κs.
-    let at-n = c .before .before .before .before .before .before in
-    let at-read-block = at-n .before .before .before .before in
-    let s = at-read-block .before .before .before .before .before .before .before in
-    let t = at-read-block .read-block .ensures .taken _ _ _ (at-n .n .given .1) in (
-      (omega (arith, taken-epochs (t .0), t .2), omega (arith, taken-counts (t .0), t .2)),
-      omega (arith, t .0 .gains, t .0 .within, s .pre .1 .0, s .good),
-    ))
+    (place-last-requires t)
     (λ c. search needs)
     (λ c. search needs)
-    (λ c.
-    let at-place-last = c .before .before .before .before in
-    let at-if2 = at-place-last .before .before .before .before .before in
-    let at-n = at-if2 .before .before in
-    let at-read-block = at-n .before .before .before .before in
-    let s = at-read-block .before .before .before .before .before .before .before in
-    let t = at-read-block .read-block .ensures .taken _ _ _ (at-n .n .given .1) in
-    at-place-last .place-last .ensures ∙ last-filled (t .0) (at-if2 .if2 .taken) (s .args .k) (s .args .epochs .now) (s .args .counts .now) (t .2)
-    (t .2))
-    (λ c.
-    let at-read-block = c .before .before .before .before .before .before in
-    let s = at-read-block .before .before .before .before .before .before .before in
-    let t = at-read-block .read-block .ensures .taken _ _ _ (c .before .before .n .given .1) in
-    omega (arith, t .0 .gains, t .0 .within, s .pre .1 .0, s .good))
-    (λ c κs.
-    let at-n = c .before .before .before .before in
-    let at-read-block = at-n .before .before .before .before in
-    let s = at-read-block .before .before .before .before .before .before .before in
-    let t = at-read-block .read-block .ensures .taken _ _ _ (at-n .n .given .1) in
-    let l = t .1 (c .before .before .if2 .left) in (
-      omega (arith, s .pre .0, t .0 .gains, t .0 .within),
-      (omega (arith, t .0 .gains, s .pre .1 .0), t .0 .within, λ z. c .before .before .if2 .left),
-    ))
+    (returns-2 t)
+    (add-read-blocks t)
+    (read-blocks-requires t)
     (λ c. search needs)
     (λ c. search needs)
     (λ c. search needs)
     (λ c. search needs)
-    (λ c κs.
-    let at-all = c .before .before .before .before .before in
-    let at-read-blocks = at-all .before .before .before .before .before .before in
-    let at-n = at-read-blocks .before .before .before .before .before in
-    let at-read-block = at-n .before .before .before .before in
-    let start = at-read-block .before .before .before .before .before .before .before in
-    let a = start .args in
-    let t = at-read-block .read-block .ensures .taken _ _ _ (at-n .n .given .1) in
-    let w = filled-whole (length (a .src .now)) (a .k + _) _ (a .epochs .now) (a .counts .now) _ _ _ _ _ (at-all .all .given .1)
-    (at-read-blocks .read-blocks .ensures) in
-    let r = stacked-room (t .0) (a .k) _ (a .epochs .now) (a .counts .now) _ _ w (t .2) (t .2) in
-    ((omega (arith, taken-epochs (t .0), t .2), omega (arith, taken-counts (t .0), t .2)), record { in-epochs = r .0; in-counts = r .1 }))
-    (λ c.
-    let at-read-block = c .before .before .before .before .before in
-    let start = at-read-block .before .before .before .before .before .before .before in
-    let a = start .args in
-    filled-faulty (length (a .src .now)) (a .k) _ (a .epochs .now) (a .counts .now) _ _ _
-    (at-read-block .read-block .ensures .at-fault _ _ (c .before .refusal .given .1)))
+    (copy-run-requires t)
+    (returns-3 t)
     (λ c. search needs)
     (λ c. search needs)
-    (λ c.
-    let at-read-blocks = c .before .before .before .before .before .before .before in
-    let at-n = at-read-blocks .before .before .before .before .before in
-    let at-read-block = at-n .before .before .before .before in
-    let start = at-read-block .before .before .before .before .before .before .before in
-    let a = start .args in
-    let t = at-read-block .read-block .ensures .taken _ _ _ (at-n .n .given .1) in
-    filled-alike (length (a .src .now)) (a .k) (a .k + _) _ _ _ _ (a .epochs .now) (a .counts .now) _ _ _ _ _ (sym (t .0 .fault-on))
-    (taken-long (t .0) (a .k))
-    (c .before .refusal2 .given .1) (at-read-blocks .read-blocks .ensures))
+    (returns-4 t)
     (λ c. search needs)
     (λ c. search needs)
-    (λ c.
-    let at-copy-run = c .before .before .before .before in
-    let at-all = at-copy-run .before .before .before .before .before .before in
-    let at-read-blocks = at-all .before .before .before .before .before .before in
-    let at-n = at-read-blocks .before .before .before .before .before in
-    let at-read-block = at-n .before .before .before .before in
-    let start = at-read-block .before .before .before .before .before .before .before in
-    let a = start .args in
-    let t = at-read-block .read-block .ensures .taken _ _ _ (at-n .n .given .1) in
-    let w = filled-whole (length (a .src .now)) (a .k + _) _ (a .epochs .now) (a .counts .now) _ _ _ _ _ (at-all .all .given .1)
-    (at-read-blocks .read-blocks .ensures) in
-    stacked (t .0) (a .k) _ (a .epochs .now) (a .counts .now) _ _ w (t .2) (t .2) _ _ _ (at-copy-run .copy-run .ensures))
+    (returns-5 t)

@@ -1,13 +1,16 @@
 -- `codec_judging::judging::judge_multi` meets its contract: the size and what scanning the records found lead to each case of `readAs`.
 -- Assumes nothing.
 use mathlib.Core.Path.{sym, ap, _∙_}
+use mathlib.Core.List.{List}
 use Prim.Native.Nat.{ℕ}
 use native.Mathlib.Omega.{arith}
+use lib.ListN.{length}
+use Rattle.records_spec.specs.declared.head.Kind.{Kind}
 use Rattle.records_spec.specs.Flags.{headFor}
-use Rattle.codec_spec.specs.Reading.{baseIn, ownerIn}
+use Rattle.codec_spec.specs.Reading.{baseIn, ownerIn, recordsIn}
 use Rattle.codec_spec.specs.Calls.{judgement}
 use Rattle.codec_spec.specs.declared.judging.Verdict.the-variants.{Present}
-use Rattle.codec_spec.proofs.Readings.{multi-short, agrees-multi, scan-faulty, scan-records, scan-read}
+use Rattle.codec_spec.proofs.Readings.{Scanned, multi-short, agrees-multi, scan-faulty, scan-records, scan-read}
 use borrow.Author.Needs.{needs}
 use Rattle.codec_judging.proofs.judging.judge_multi.Statement.{statement}
 use Rattle.codec_judging.proofs.judging.judge_multi.Tie as tie
@@ -19,51 +22,62 @@ returns c =
     c .refused-at .ensures ∙ ap judgement
     (sym (multi-short (a .kind) (a .src .now) (start .pre) (omega (arith, c .before .before .head-size .ensures))))
 
+-- the records are judged, and from there back: the base was read, the head is there, its size, the start
+module _ (c : tie.After-judge-records) where
+  abbrev based : tie.After-base-in
+  based = c .before .before .before
+
+  abbrev long : tie.Else1
+  long = based .before
+
+  abbrev sized : tie.After-head-size
+  sized = long .before
+
+  abbrev start : tie.Start
+  start = sized .before .before
+
+  abbrev kind : Kind
+  kind = start .args .kind
+
+  abbrev src : List ℕ
+  src = start .args .src .now
+
+-- they are sound
+module _ (c : tie.After-n) where
+  abbrev judged : tie.After-judge-records
+  judged = c .before .before .before .before
+
+  abbrev n : ℕ
+  n = c .n .given .0 .0
+
+  scanned : Scanned (length (src judged)) (baseIn (kind judged) (src judged)) (ownerIn (kind judged) (src judged))
+      (recordsIn (kind judged) (src judged) .fault) (recordsIn (kind judged) (src judged) .records) n
+  scanned =
+      scan-records (kind judged) (src judged) _ _ _ (sized judged .head-size .ensures) (based judged .base-in .ensures)
+      (judged .judge-records .ensures) (start judged .pre) (long judged .if1 .left) n (c .n .given .1)
+
 present-requires : tie.Need-present-requires
 present-requires c κs =
-    let at-judge-records = c .before .before .before .before .before in
-    let at-base-in = at-judge-records .before .before .before in
-    let at-if1 = at-base-in .before in
-    let at-head-size = at-if1 .before in
-    let start = at-head-size .before .before in
-    let a = start .args in
-    let g = c .before .n .given in
-    let s = scan-records (a .kind) (a .src .now) (at-head-size .head-size .result) (at-base-in .base-in .result)
-    (at-judge-records .judge-records .result) (at-head-size .head-size .ensures) (at-base-in .base-in .ensures)
-    (at-judge-records .judge-records .ensures) (start .pre) (at-if1 .if1 .left) (g .0 .0) (g .1) in
-    (omega (arith, at-head-size .head-size .ensures, at-if1 .if1 .left), agrees-multi (a .kind) (g .0 .0) (start .pre) (s .some-records))
+    let k = c .before in
+    let j = judged k in
+    (omega (arith, sized j .head-size .ensures, long j .if1 .left), agrees-multi (kind j) (n k) (start j .pre) (scanned k .some-records))
 
 returns-2 : tie.Need-returns-2
 returns-2 c =
-    let at-judge-records = c .before .before .before .before .before .before in
-    let at-base-in = at-judge-records .before .before .before in
-    let at-if1 = at-base-in .before in
-    let at-head-size = at-if1 .before in
-    let start = at-head-size .before .before in
-    let a = start .args in
+    let j = c .before .before .before .before .before .before in
     let g = c .before .before .refusal .given in
     c .refused-at2 .ensures
-    ∙ ap judgement (sym (scan-faulty (a .kind) (a .src .now) (at-head-size .head-size .result) (at-base-in .base-in .result)
-    (at-judge-records .judge-records .result) (at-head-size .head-size .ensures) (at-base-in .base-in .ensures)
-    (at-judge-records .judge-records .ensures) (start .pre) (at-if1 .if1 .left) (g .0 .0) (g .0 .1 .0) (g .1)))
+    ∙ ap judgement (sym (scan-faulty (kind j) (src j) _ _ _ (sized j .head-size .ensures) (based j .base-in .ensures)
+    (j .judge-records .ensures) (start j .pre) (long j .if1 .left) (g .0 .0) (g .0 .1 .0) (g .1)))
 
 returns-3 : tie.Need-returns-3
 returns-3 c =
-    let at-judge-records = c .before .before .before .before .before .before in
-    let at-base-in = at-judge-records .before .before .before in
-    let at-if1 = at-base-in .before in
-    let at-head-size = at-if1 .before in
-    let start = at-head-size .before .before in
-    let a = start .args in
-    let g = c .before .before .n .given in
-    let s = scan-records (a .kind) (a .src .now) (at-head-size .head-size .result) (at-base-in .base-in .result)
-    (at-judge-records .judge-records .result) (at-head-size .head-size .ensures) (at-base-in .base-in .ensures)
-    (at-judge-records .judge-records .ensures) (start .pre) (at-if1 .if1 .left) (g .0 .0) (g .1) in
+    let k = c .before .before in
+    let j = judged k in
     c .present .ensures
-    ∙ ap (λ (n : ℕ). record { verdict = Present; head = headFor (baseIn (a .kind) (a .src .now)) (ownerIn (a .kind) (a .src .now)) n }) (s .count)
-    ∙ ap judgement (sym (scan-read (a .kind) (a .src .now) (at-head-size .head-size .result) (at-base-in .base-in .result)
-    (at-judge-records .judge-records .result) (at-head-size .head-size .ensures) (at-base-in .base-in .ensures)
-    (at-judge-records .judge-records .ensures) (start .pre) (at-if1 .if1 .left) (g .0 .0) (g .1)))
+    ∙ ap (λ (m : ℕ). record { verdict = Present; head = headFor (baseIn (kind j) (src j)) (ownerIn (kind j) (src j)) m }) (scanned k .count)
+    ∙ ap judgement (sym (scan-read (kind j) (src j) _ _ _ (sized j .head-size .ensures) (based j .base-in .ensures)
+    (j .judge-records .ensures) (start j .pre) (long j .if1 .left) (n k) (k .n .given .1)))
 
 pub judge-multi-spec : {M : Type 1} → statement M
 judge-multi-spec =

@@ -1,14 +1,16 @@
--- `codec_judging::judging::judge_records` meets its contract. The loop's invariant: what is found from the place reached on has the first fault of all,
--- and with the records passed as many. Assumes nothing.
+-- `codec_judging::judging::judge_records` meets its contract. The loop's invariant: what is found from the place reached on has the first
+-- fault of all, and with the records passed as many. Assumes nothing.
 use mathlib.Core.Path.{_≡_, refl, sym, ap, _∙_}
-use Prim.Native.Nat.{_+_, _-_, _≤_}
+use mathlib.Core.List.{List}
+use Prim.Native.Nat.{ℕ, _+_, _-_, _≤_, _<_}
 use native.Mathlib.Decide.{decLt}
 use native.Mathlib.Omega.{arith}
 use borrow.Author.Needs.{needs}
-use mathlib.Core.Option.{Option}
+use mathlib.Core.Option.{Option, none}
 use lib.ListN.{length}
 use Rattle.codec_spec.specs.Reading.{Parsed, Fault}
 use Rattle.codec_spec.specs.Calls.{scanOf}
+use Rattle.codec_spec.specs.Blocks.{Taken}
 use Rattle.codec_spec.proofs.Parsing.{rest, rest-end}
 use Rattle.codec_spec.proofs.Turns.{scan-none, scan-some}
 use Rattle.codec_spec.proofs.Taking.{taken-epochs, taken-counts}
@@ -33,74 +35,94 @@ loop-holds c = (omega arith, omega arith, refl, omega arith, refl, refl)
 
 read-block-requires : tie.Need-read-block-requires Inv-loop μ-loop
 read-block-requires c κs =
-    let start = c .before .before .before .before .before .before .before in
-    let l = c .before .before .before .loop in
-    let p = start .pre .1 in
-    (l .inv .0, (omega (arith, p .0, l .inv .4), omega (arith, p .1, l .inv .5)))
+    let turn = c .before .before .before in
+    let s = turn .before .before .before .before in
+    let i = turn .loop .inv in
+    (i .0, (omega (arith, s .pre .1 .0, i .4), omega (arith, s .pre .1 .1, i .5)))
+
+-- a block is read, and from there back: the turn was entered, the loop stood, the start
+module _ (c : tie.After-read-block Inv-loop μ-loop) where
+  abbrev entered : tie.In-loop Inv-loop μ-loop
+  entered = c .before .before .before
+
+  abbrev turn : tie.At-loop Inv-loop μ-loop
+  turn = entered .before
+
+  abbrev start : tie.Start Inv-loop μ-loop
+  start = turn .before .before .before .before
+
+  abbrev src : List ℕ
+  src = start .args .src .now
+
+-- it has a fault
+abbrev faulty : tie.After-known-told Inv-loop μ-loop → tie.After-read-block Inv-loop μ-loop
+faulty c = c .before .before .before .before .before .before .before
 
 returns : tie.Need-returns Inv-loop μ-loop
 returns c =
-    let at-read-block = c .before .before .before .before .before .before .before in
-    let at-loop = at-read-block .before .before .before .before in
-    let start = at-loop .before .before .before .before in
-    let a = start .args in
-    let l = at-loop .loop in
-    let q = at-read-block .read-block .ensures .at-fault _ _ (c .before .refusal .given .1) in
-    ap (λ (f : Option Fault). scanOf (length (a .src .now)) f (length (rest (a .src .now) (a .start) (a .base) .records))) (sym q ∙ l .inv .2)
+    let r = faulty c in
+    let q = r .read-block .ensures .at-fault _ _ (c .before .refusal .given .1) in
+    ap (λ (f : Option Fault). scanOf (length (src r)) f (length (rest (src r) (start r .args .start) (start r .args .base) .records)))
+    (sym q ∙ turn r .loop .inv .2)
 
-add-n : tie.Need-add-n Inv-loop μ-loop
-add-n c =
-    let at-read-block = c .before .before .before .before .before .before .before in
-    let at-loop = at-read-block .before .before .before .before in
-    let l = at-loop .loop in
-    let t = at-read-block .read-block .ensures .taken _ _ _ (c .before .more .given .1) in
-    omega (arith, t .0 .gains, t .0 .within, l .inv .1)
+-- it has records
+module _ (c : tie.After-more Inv-loop μ-loop) where
+  abbrev read : tie.After-read-block Inv-loop μ-loop
+  read = c .before .before .before .before .before .before
+
+  abbrev n : ℕ
+  n = c .more .given .0 .0
+
+  abbrev next : ℕ
+  next = c .more .given .0 .1 .0
+
+  taken : Taken (src read) (turn read .loop .at) (turn read .loop .prev) n next (c .more .given .0 .1 .1 .0) (turn read .loop .epochs)
+      (turn read .loop .counts) (read .read-block .last .1 .1 .1 .0) (read .read-block .last .1 .1 .1 .1 .0)
+      × (next < length (src read) → 1 ≤ n) × (n ≤ 64)
+  taken = read .read-block .ensures .taken _ _ _ (c .more .given .1)
 
 loop-less : tie.Need-loop-less Inv-loop μ-loop
 loop-less c =
-    let at-read-block = c .before .before .before .before .before .before .before in
-    let at-loop-test = at-read-block .before .before .before in
-    let at-loop = at-loop-test .before in
-    let start = at-loop .before .before .before .before in
-    let l = at-loop .loop in
-    let i = at-loop-test .loop-test .taken in
-    let t = at-read-block .read-block .ensures .taken _ _ _ (c .before .more .given .1) in
-    elim (decLt (c .before .more .given .0 .1 .0) (length (start .args .src .now))) [
-      | yes h ↦ let m = t .1 h in omega (arith, t .0 .gains)
-      | no h ↦ omega (arith, t .0 .within)
+    let m = c .before in
+    let i = entered (read m) .loop-test .taken in
+    elim (decLt (next m) (length (src (read m)))) [
+      | yes h ↦ let some = taken m .1 h in omega (arith, taken m .0 .gains)
+      | no h ↦ omega (arith, taken m .0 .within)
     ]
 
 loop-again : tie.Need-loop-again Inv-loop μ-loop
 loop-again c =
-    let at-read-block = c .before .before .before .before .before .before .before in
-    let at-loop = at-read-block .before .before .before .before in
-    let l = at-loop .loop in
-    let t = at-read-block .read-block .ensures .taken _ _ _ (c .before .more .given .1) in (
-      t .0 .within,
-      omega (arith, t .0 .gains, l .inv .1),
-      sym (t .0 .fault-on) ∙ l .inv .2,
-      omega (arith, taken-long (t .0) 0, l .inv .3),
-      taken-epochs (t .0) ∙ l .inv .4,
-      taken-counts (t .0) ∙ l .inv .5,
+    let t = taken (c .before) .0 in
+    let i = turn (read (c .before)) .loop .inv in (
+      t .within,
+      omega (arith, t .gains, i .1),
+      sym (t .fault-on) ∙ i .2,
+      omega (arith, taken-long t 0, i .3),
+      taken-epochs t ∙ i .4,
+      taken-counts t ∙ i .5,
     )
 
+-- behind the loop nothing is left to read: there is no fault, and the records are all
+module _ (c : tie.After-loop Inv-loop μ-loop) where
+  abbrev last : tie.At-loop Inv-loop μ-loop
+  last = c .before
+
+  abbrev begun : tie.Start Inv-loop μ-loop
+  begun = last .before .before .before .before
+
+  abbrev all : Parsed
+  all = rest (begun .args .src .now) (begun .args .start) (begun .args .base)
+
+  ended : (all .fault ≡ none) × (last .loop .n ≡ length (all .records))
+  ended =
+      let e = rest-end (begun .args .src .now) (last .loop .at) (last .loop .prev) (c .loop-test .left) in
+      (sym (last .loop .inv .2) ∙ ap (λ (p : Parsed). p .fault) e, omega (arith, ap (λ (p : Parsed). length (p .records)) e, last .loop .inv .3))
+
 returns-2 : tie.Need-returns-2 Inv-loop μ-loop
-returns-2 c =
-    let start = c .before .before .before .before .before .before in
-    let a = start .args in
-    let l = c .before .before .loop in
-    let e = rest-end (a .src .now) (l .at) (l .prev) (c .before .loop-test .left) in
-    scan-none (length (a .src .now)) _ _ (sym (l .inv .2) ∙ ap (λ (p : Parsed). p .fault) e)
-    (omega (arith, ap (λ (p : Parsed). length (p .records)) e))
+returns-2 c = let e = ended (c .before) in scan-none _ _ _ (e .0) (omega (arith, e .1, c .if1 .taken))
 
 returns-3 : tie.Need-returns-3 Inv-loop μ-loop
-returns-3 c =
-    let start = c .before .before .before .before .before .before in
-    let a = start .args in
-    let l = c .before .before .loop in
-    let e = rest-end (a .src .now) (l .at) (l .prev) (c .before .loop-test .left) in
-    scan-some (length (a .src .now)) _ _ _ (sym (l .inv .2) ∙ ap (λ (p : Parsed). p .fault) e)
-    (omega (arith, ap (λ (p : Parsed). length (p .records)) e)) (c .if1 .left)
+returns-3 c = let e = ended (c .before) in scan-some _ _ _ _ (e .0) (e .1) (c .if1 .left)
 
 pub judge-records-spec : {M : Type 1} → statement M
 judge-records-spec =
@@ -111,17 +133,11 @@ judge-records-spec =
     loop-holds
     read-block-requires
     (λ c. search needs)
-    (λ c.
-    let at-read-block = c .before .before .before .before .before .before .before in
-    let at-loop = at-read-block .before .before .before .before in
-    at-read-block .read-block .kept .1 .1 .1 .0 ∙ at-loop .loop .inv .4)
-    (λ c.
-    let at-read-block = c .before .before .before .before .before .before .before in
-    let at-loop = at-read-block .before .before .before .before in
-    at-read-block .read-block .kept .1 .1 .1 .1 .0 ∙ at-loop .loop .inv .5)
+    (λ c. faulty c .read-block .kept .1 .1 .1 .0 ∙ turn (faulty c) .loop .inv .4)
+    (λ c. faulty c .read-block .kept .1 .1 .1 .1 .0 ∙ turn (faulty c) .loop .inv .5)
     returns
     (λ c. search needs)
-    add-n
+    (λ c. let m = c .before in omega (arith, taken m .0 .gains, taken m .0 .within, turn (read m) .loop .inv .1))
     loop-less
     loop-again
     (λ c. c .before .before .loop .inv .4)

@@ -1,4 +1,5 @@
--- `codec_writing::sizes::records_size` meets its contract: the sum so far and what the counts from k on add make the whole; a length is that of the table.
+-- `codec_writing::sizes::records_size` meets its contract: the sum so far and what the counts from k on add make the whole; a length is that
+-- of the table.
 -- Assumes nothing.
 use Prim.Native.Nat.{_-_}
 use native.Mathlib.Omega.{arith}

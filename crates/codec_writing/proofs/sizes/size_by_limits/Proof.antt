@@ -1,4 +1,5 @@
--- `codec_writing::sizes::size_by_limits` meets its contract: the sum so far and what the counts from k on add make the whole; a length is found by limits.
+-- `codec_writing::sizes::size_by_limits` meets its contract: the sum so far and what the counts from k on add make the whole; a length is
+-- found by limits.
 -- Assumes nothing.
 use Prim.Native.Nat.{_-_}
 use native.Mathlib.Omega.{arith}

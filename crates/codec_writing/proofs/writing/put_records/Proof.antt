@@ -23,105 +23,76 @@ abbrev μ-loop : tie.MeasureT-loop
 loop-holds : tie.Need-loop-holds Inv-loop μ-loop
 loop-holds c = (omega arith, parts-start _ _ _)
 
--- all records have room
-all-room : (c : tie.Start Inv-loop μ-loop) → let a = c .args in a .at + length (bytesFrom (a .epochs .now) (a .counts .now) 0) ≤ length (a .out .now)
-all-room c = omega (arith, c .pre .1, bytes-size (c .args .epochs .now) (c .args .counts .now) (c .pre .0))
+-- of what is given: the bytes of the records from the k-th on, and room for all
+module _ (s : tie.Start Inv-loop μ-loop) where
+  abbrev es : List ℕ
+  es = s .args .epochs .now
 
-room : (c : tie.In-loop Inv-loop μ-loop) →
-    let start = c .before .before .before .before .before in
-    let a = start .args in let l = c .before .loop in
-    l .i + length (bytesFrom (a .epochs .now) (a .counts .now) (l .k)) ≤ length (l .out)
-room c =
-    let start = c .before .before .before .before .before in
-    parts-room (c .before .loop .inv .1) (all-room start)
+  abbrev cs : List ℕ
+  cs = s .args .counts .now
 
--- a record is its epoch and its varint
-left-at : (c : tie.In-loop Inv-loop μ-loop) →
-    let start = c .before .before .before .before .before in
-    let es = start .args .epochs .now in let cs = start .args .counts .now in let k = c .before .loop .k in
-    bytesFrom es cs k ≡ big 2 (getD es k 0) ++ (varint (getD cs k 0) ++ bytesFrom es cs (k + 1))
-left-at c =
-    let start = c .before .before .before .before .before in
-    let a = start .args in bytes-on (a .epochs .now) (a .counts .now) (c .before .loop .k) (c .loop-test .taken)
-    (omega (arith, start .pre .0, c .loop-test .taken))
+  abbrev from : ℕ → List ℕ
+  from k = bytesFrom es cs k
+
+  all-room : s .args .at + length (from 0) ≤ length (s .args .out .now)
+  all-room = omega (arith, s .pre .1, bytes-size es cs (s .pre .0))
+
+-- in a turn, from there back: the loop stood, the start; a record is its epoch and its varint
+module _ (c : tie.In-loop Inv-loop μ-loop) where
+  abbrev turn : tie.At-loop Inv-loop μ-loop
+  turn = c .before
+
+  abbrev start : tie.Start Inv-loop μ-loop
+  start = turn .before .before .before .before
+
+  abbrev k : ℕ
+  k = turn .loop .k
+
+  abbrev epoch : ℕ
+  epoch = getD (es start) k 0
+
+  abbrev count : ℕ
+  count = getD (cs start) k 0
+
+  left-at : from start k ≡ big 2 epoch ++ (varint count ++ from start (k + 1))
+  left-at = bytes-on (es start) (cs start) k (c .loop-test .taken) (omega (arith, start .pre .0, c .loop-test .taken))
 
 -- the epoch is written
-epoch-put : (c : tie.After-put-be16 Inv-loop μ-loop) →
-    let at-loop = c .before .before .before .before in
-    let start = at-loop .before .before .before .before in
-    let a = start .args in let k = at-loop .loop .k in
-    Parts (bytesFrom (a .epochs .now) (a .counts .now) 0) (a .at) (a .out .now)
-    (varint (getD (a .counts .now) k 0) ++ bytesFrom (a .epochs .now) (a .counts .now) (k + 1))
-    (c .put-be16 .result) (c .put-be16 .last .0)
-epoch-put c =
-    let at-loop = c .before .before .before .before in
-    parts-put (at-loop .loop .inv .1) (left-at (c .before .before .before)) (c .put-be16 .ensures)
+module _ (c : tie.After-put-be16 Inv-loop μ-loop) where
+  abbrev entered : tie.In-loop Inv-loop μ-loop
+  entered = c .before .before .before
+
+  epoch-put : Parts (from (start entered) 0) (start entered .args .at) (start entered .args .out .now)
+      (varint (count entered) ++ from (start entered) (k entered + 1)) (c .put-be16 .result) (c .put-be16 .last .0)
+  epoch-put = parts-put (turn entered .loop .inv .1) (left-at entered) (c .put-be16 .ensures)
 
 put-be16-requires : tie.Need-put-be16-requires Inv-loop μ-loop
 put-be16-requires c κs =
-    let start = c .before .before .before .before .before .before .before in
-    let a = start .args in
-    let l = c .before .before .before .loop in
-    let v : List ℕ = varint (getD (a .counts .now) (l .k) 0) ++ bytesFrom (a .epochs .now) (a .counts .now) (l .k + 1) in
+    let e = c .before .before in
     omega (
       arith,
-      room (c .before .before),
-      ap length (left-at (c .before .before)),
-      length-append (big 2 (getD (a .epochs .now) (l .k) 0)) v,
-      length-big 2 (getD (a .epochs .now) (l .k) 0),
+      parts-room (turn e .loop .inv .1) (all-room (start e)),
+      ap length (left-at e),
+      length-append (big 2 (epoch e)) (varint (count e) ++ from (start e) (k e + 1)),
+      length-big 2 (epoch e),
     )
-
-mul-put-varint : tie.Need-mul-put-varint Inv-loop μ-loop
-mul-put-varint c =
-    let at-loop-test = c .before .before .before .before .before .before in
-    let start = at-loop-test .before .before .before .before .before in
-    omega (arith, start .good, start .pre .0, at-loop-test .loop-test .taken)
-
-shared-slice-read-put-varint : tie.Need-shared-slice-read-put-varint Inv-loop μ-loop
-shared-slice-read-put-varint c =
-    let at-loop-test = c .before .before .before .before .before .before .before in
-    let start = at-loop-test .before .before .before .before .before in
-    omega (arith, start .pre .0, at-loop-test .loop-test .taken)
 
 put-varint-requires : tie.Need-put-varint-requires Inv-loop μ-loop
 put-varint-requires c κs =
-    let at-put-be16 = c .before .before .before .before in
-    let at-loop = at-put-be16 .before .before .before .before in
-    let start = at-loop .before .before .before .before in
-    let a = start .args in
-    let l = at-loop .loop in
-    omega (
-      arith,
-      parts-room (epoch-put at-put-be16) (all-room start),
-      length-append (varint (getD (a .counts .now) (l .k) 0))
-          (bytesFrom (a .epochs .now) (a .counts .now) (l .k + 1)),
-    )
-
-add-k : tie.Need-add-k Inv-loop μ-loop
-add-k c =
-    let at-loop-test = c .before .before .before .before .before .before .before .before .before .before in
-    let start = at-loop-test .before .before .before .before .before in
-    omega (arith, start .good, at-loop-test .loop-test .taken)
-
-loop-less : tie.Need-loop-less Inv-loop μ-loop
-loop-less c =
-    let at-loop-test = c .before .before .before .before .before .before .before .before .before .before in
-    omega (arith, at-loop-test .loop-test .taken)
+    let p = c .before .before .before .before in
+    let e = entered p in
+    omega (arith, parts-room (epoch-put p) (all-room (start e)), length-append (varint (count e)) (from (start e) (k e + 1)))
 
 loop-again : tie.Need-loop-again Inv-loop μ-loop
 loop-again c =
-    let at-put-be16 = c .before .before .before .before .before .before .before in
-    let at-loop-test = at-put-be16 .before .before .before in
-    (omega (arith, at-loop-test .loop-test .taken), parts-put (epoch-put at-put-be16) refl (c .before .before .put-varint .ensures))
-
-same-length : tie.Need-same-length Inv-loop μ-loop
-same-length c = c .before .loop .inv .1 .long
+    let p = c .before .before .before .before .before .before .before in
+    (omega (arith, entered p .loop-test .taken), parts-put (epoch-put p) refl (c .before .before .put-varint .ensures))
 
 returns : tie.Need-returns Inv-loop μ-loop
 returns c =
-    let start = c .before .before .before .before .before in
-    let a = start .args in
-    parts-done (c .before .loop .inv .1) (bytes-end (a .epochs .now) (a .counts .now) (c .before .loop .k) (c .loop-test .left))
+    let l = c .before in
+    let s = l .before .before .before .before in
+    parts-done (l .loop .inv .1) (bytes-end (es s) (cs s) (l .loop .k) (c .loop-test .left))
 
 pub put-records-spec : {M : Type 1} → statement M
 put-records-spec =
@@ -133,11 +104,11 @@ put-records-spec =
     (λ c. search needs)
     (λ c. search needs)
     put-be16-requires
-    mul-put-varint
-    shared-slice-read-put-varint
+    (λ c. let e = entered (c .before .before .before) in omega (arith, start e .good, start e .pre .0, e .loop-test .taken))
+    (λ c. let p = c .before .before .before .before in omega (arith, start (entered p) .pre .0, entered p .loop-test .taken))
     put-varint-requires
-    add-k
-    loop-less
+    (λ c. let p = c .before .before .before .before .before .before .before in omega (arith, start (entered p) .good, entered p .loop-test .taken))
+    (λ c. let p = c .before .before .before .before .before .before .before in omega (arith, entered p .loop-test .taken))
     loop-again
-    same-length
+    (λ c. c .before .loop .inv .1 .long)
     returns)

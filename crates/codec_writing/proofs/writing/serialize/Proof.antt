@@ -1,15 +1,18 @@
 -- `codec_writing::writing::serialize` meets its contract: proper flags that fit are written head first, and else nothing is written. Assumes nothing.
-use mathlib.Core.Path.{refl, sym, _∙_}
-use Prim.Native.Nat.{_+_, _≤_}
+use mathlib.Core.Path.{_≡_, refl, sym, _∙_}
+use mathlib.Core.Bool.{true}
+use mathlib.Core.List.{List}
+use Prim.Native.Nat.{ℕ, _+_, _≤_}
 use native.Mathlib.Omega.{arith}
 use borrow.Author.Tests.{leb-true, leb-false}
 use lib.ListN.{length, take}
 use Rattle.fields_spec.specs.Writing.{Put}
 use Rattle.fields_spec.proofs.Parts.{parts-start, parts-put, parts-last, put-long}
-use Rattle.records_spec.specs.Flags.{flagsOf, ownerOf}
+use Rattle.records_spec.specs.declared.head.Head.{Head}
+use Rattle.records_spec.specs.Flags.{flagsOf, ownerOf, proper}
 use Rattle.records_spec.proofs.Proper.{IsProper, proper-inv}
 use Rattle.records_spec.proofs.Answers.{writing-short}
-use Rattle.codec_spec.specs.Bytes.{ownerBytes, bytesOf}
+use Rattle.codec_spec.specs.Bytes.{bytesOf}
 use Rattle.codec_spec.specs.Sizes.{countsSize}
 use Rattle.codec_spec.proofs.Sizing.{length-head, held-epochs, held-counts, length-flags}
 use Rattle.codec_spec.proofs.Writings.{serialized-proper, serialized-improper, bytes-proper, put-written}
@@ -18,103 +21,106 @@ use Rattle.codec_writing.proofs.writing.serialize.Statement.{statement}
 use Rattle.codec_writing.proofs.writing.serialize.Tie as tie
 
 -- the flags are proper
-right : (c : tie.Then1) →
-    let start = c .before .before .before .before .before in
-    let a = start .args in IsProper (a .head) (a .epochs .now) (a .counts .now)
-right c =
-    let start = c .before .before .before .before .before in
-    let a = start .args in proper-inv (a .head) (a .epochs .now) (a .counts .now) (sym (c .before .is-proper .ensures) ∙ c .if1 .taken)
+module _ (c : tie.Then1) where
+  abbrev start : tie.Start
+  start = c .before .before .before .before .before
 
--- and have room
-fits : (c : tie.Then2) →
-    let start = c .before .before .before .before .before .before .before .before .before in
-    let a = start .args in 3 + length (ownerBytes (ownerOf (a .head))) + countsSize (take (a .head .records) (a .counts .now)) ≤ length (a .out .now)
-fits c =
-    let start = c .before .before .before .before .before .before .before .before .before in
-    let a = start .args in
-    let h = leb-true (c .before .before .before .head-bytes-size .result + countsSize (take (a .head .records) (a .counts .now)))
-    (length (a .out .now)) (sym (c .before .fit .ensures) ∙ c .if2 .taken) in
-    omega (arith, c .before .before .before .head-bytes-size .ensures .0)
+  abbrev head : Head
+  head = start .args .head
 
--- the head and then the records are the flags
-put : (c : tie.After-slice-known3) →
-    let start = c .before .before .before .before .before .before .before .before .before .before .before .before .before .before .before .before
-    .before .before .before in
-    let a = start .args in
-    Put (bytesOf (flagsOf (a .head) (a .epochs .now) (a .counts .now))) 0 (c .before .before .put-records .result) (a .out .now)
-    (c .before .before .put-records .last .0)
-put c =
-    let at-put-head = c .before .before .before .before .before .before .before .before in
-    let at-if1 = at-put-head .before .before .before .before .before .before in
-    let start = at-if1 .before .before .before .before .before in
-    let a = start .args in
-    rw (bytes-proper (a .head) (a .epochs .now) (a .counts .now) (right at-if1))
-    (parts-last (parts-put (parts-start _ 0 (a .out .now)) refl (at-put-head .put-head .ensures)) (c .before .before .put-records .ensures))
+  abbrev es : List ℕ
+  es = start .args .epochs .now
 
-slice-aggregate-fit : tie.Need-slice-aggregate-fit
-slice-aggregate-fit c =
-    let start = c .before .before .before .before .before .before .before in
-    let a = start .args in sym (held-counts (a .head) (a .epochs .now) (a .counts .now) (right (c .before .before)))
+  abbrev cs : List ℕ
+  cs = start .args .counts .now
 
-put-head-requires : tie.Need-put-head-requires
-put-head-requires c κs = omega (arith, fits (c .before))
+  abbrev out : List ℕ
+  out = start .args .out .now
 
-slice-aggregate-put-records : tie.Need-slice-aggregate-put-records
-slice-aggregate-put-records c =
-    let at-if1 = c .before .before .before .before .before .before .before .before .before .before in
-    let start = at-if1 .before .before .before .before .before in
-    let a = start .args in sym (held-epochs (a .head) (a .epochs .now) (a .counts .now) (right at-if1))
+  abbrev bytes : List ℕ
+  bytes = bytesOf (flagsOf head es cs)
 
-slice-aggregate-put-records-2 : tie.Need-slice-aggregate-put-records-2
-slice-aggregate-put-records-2 c =
-    let at-if1 = c .before .before .before .before .before .before .before .before .before .before .before in
-    let start = at-if1 .before .before .before .before .before in
-    let a = start .args in sym (held-counts (a .head) (a .epochs .now) (a .counts .now) (right at-if1))
+  abbrev told : proper head es cs ≡ true
+  told = sym (c .before .is-proper .ensures) ∙ c .if1 .taken
+
+  right : IsProper head es cs
+  right = proper-inv head es cs told
+
+-- it is told whether they fit, and from there back: the head's size, that they are proper
+module _ (c : tie.After-fit) where
+  abbrev sized : tie.After-head-bytes-size
+  sized = c .before .before
+
+  abbrev good : tie.Then1
+  good = sized .before
+
+  abbrev size : ℕ
+  size = sized .head-bytes-size .result + countsSize (take (head good .records) (cs good))
+
+-- they fit
+fits : (c : tie.Then2) → size (c .before) ≤ length (out (good (c .before)))
+fits c = leb-true (size (c .before)) _ (sym (c .before .fit .ensures) ∙ c .if2 .taken)
+
+-- the head is written, and from there back: they fit, they are proper
+module _ (c : tie.After-put-head) where
+  abbrev roomy : tie.Then2
+  roomy = c .before .before
+
+  abbrev right-ones : tie.Then1
+  right-ones = good (roomy .before)
 
 put-records-requires : tie.Need-put-records-requires
 put-records-requires c κs =
-    let at-put-head = c .before .before .before .before .before in
-    let at-if2 = at-put-head .before .before in
-    let at-if1 = at-if2 .before .before .before .before in
-    let start = at-if1 .before .before .before .before .before in
-    let a = start .args in
-    let r = right at-if1 in
-    let p = at-put-head .put-head .ensures in (
-      held-epochs (a .head) (a .epochs .now) (a .counts .now) r ∙ sym (held-counts (a .head) (a .epochs .now) (a .counts .now) r),
-      omega (arith, fits at-if2, p .behind, length-head (a .head .kind) (ownerOf (a .head)) (a .head .base), put-long p),
+    let h = c .before .before .before .before .before in
+    let g = right-ones h in
+    let p = h .put-head .ensures in
+    let r = roomy h in (
+      held-epochs (head g) (es g) (cs g) (right g) ∙ sym (held-counts (head g) (es g) (cs g) (right g)),
+      omega (
+        arith,
+        fits r,
+        sized (r .before) .head-bytes-size .ensures .0,
+        p .behind,
+        length-head (head g .kind) (ownerOf (head g)) (head g .base),
+        put-long p,
+      ),
     )
 
-same-length : tie.Need-same-length
-same-length c = put-long (put c)
+-- the records are written, after the head: together they are the flags
+module _ (c : tie.After-put-records) where
+  abbrev headed : tie.After-put-head
+  headed = c .before .before .before .before .before .before
+
+  abbrev of : tie.Then1
+  of = right-ones headed
+
+  put : Put (bytes of) 0 (c .put-records .result) (out of) (c .put-records .last .0)
+  put =
+      rw (bytes-proper (head of) (es of) (cs of) (right of))
+      (parts-last (parts-put (parts-start _ 0 (out of)) refl (headed .put-head .ensures)) (c .put-records .ensures))
 
 returns : tie.Need-returns
 returns c =
-    let at-if2 = c .before .before .before .before .before .before .before .before .before .before in
-    let at-if1 = at-if2 .before .before .before .before in
-    let at-is-proper = at-if1 .before in
-    let start = at-is-proper .before .before .before .before in
-    let a = start .args in
-    let n = length-flags (a .head) (a .epochs .now) (a .counts .now) (right at-if1) in
-    put-written (bytesOf (flagsOf (a .head) (a .epochs .now) (a .counts .now))) (a .out .now) _ _ (put c) (omega (arith, n, fits at-if2))
-    ∙ sym (serialized-proper (a .head) (a .epochs .now) (a .counts .now) (a .out .now) (sym (at-is-proper .is-proper .ensures) ∙ at-if1 .if1 .taken))
+    let w = c .before .before in
+    let g = of w in
+    let r = roomy (headed w) in
+    let n = length-flags (head g) (es g) (cs g) (right g) in
+    put-written (bytes g) (out g) _ _ (put w) (omega (arith, n, fits r, sized (r .before) .head-bytes-size .ensures .0))
+    ∙ sym (serialized-proper (head g) (es g) (cs g) (out g) (told g))
 
 returns-2 : tie.Need-returns-2
 returns-2 c =
-    let at-if1 = c .before .before .before .before in
-    let at-is-proper = at-if1 .before in
-    let start = at-is-proper .before .before .before .before in
-    let a = start .args in
-    let n = length-flags (a .head) (a .epochs .now) (a .counts .now) (right at-if1) in
-    let m = leb-false (c .before .before .before .head-bytes-size .result + countsSize (take (a .head .records) (a .counts .now)))
-    (length (a .out .now)) (sym (c .before .fit .ensures) ∙ c .if2 .left) in
-    sym (serialized-proper (a .head) (a .epochs .now) (a .counts .now) (a .out .now) (sym (at-is-proper .is-proper .ensures) ∙ at-if1 .if1 .taken)
-    ∙ writing-short (bytesOf (flagsOf (a .head) (a .epochs .now) (a .counts .now))) (a .out .now)
-    (omega (arith, n, m, c .before .before .before .head-bytes-size .ensures .0)))
+    let f = c .before in
+    let g = good f in
+    let n = length-flags (head g) (es g) (cs g) (right g) in
+    let m = leb-false (size f) (length (out g)) (sym (f .fit .ensures) ∙ c .if2 .left) in
+    sym (serialized-proper (head g) (es g) (cs g) (out g) (told g)
+    ∙ writing-short (bytes g) (out g) (omega (arith, n, m, sized f .head-bytes-size .ensures .0)))
 
 returns-3 : tie.Need-returns-3
 returns-3 c =
-    let start = c .before .before .before .before .before in
-    let a = start .args in
+    let s = c .before .before .before .before .before in
+    let a = s .args in
     sym (serialized-improper (a .head) (a .epochs .now) (a .counts .now) (a .out .now) (sym (c .before .is-proper .ensures) ∙ c .if1 .left))
 
 pub serialize-spec : {M : Type 1} → statement M
@@ -123,13 +129,19 @@ serialize-spec =
     (tie.spec
     (λ c κs. search needs)
     (λ c κs. search needs)
-    slice-aggregate-fit
+    (λ c. let g = c .before .before in sym (held-counts (head g) (es g) (cs g) (right g)))
     (λ c κs. search needs)
-    put-head-requires
-    slice-aggregate-put-records
-    slice-aggregate-put-records-2
+    (λ c κs. omega (arith, fits (c .before), sized (c .before .before) .head-bytes-size .ensures .0))
+    (λ c.
+    let h = c .before .before .before .before in
+    let g = right-ones h in
+    sym (held-epochs (head g) (es g) (cs g) (right g)))
+    (λ c.
+    let h = c .before .before .before .before .before in
+    let g = right-ones h in
+    sym (held-counts (head g) (es g) (cs g) (right g)))
     put-records-requires
-    same-length
+    (λ c. put-long (put (c .before .before)))
     returns
     returns-2
     returns-3)

@@ -2,9 +2,9 @@
 -- Assumes nothing.
 use mathlib.Core.Path.{refl}
 use mathlib.Core.List.{List}
-use Prim.Native.Nat.{ℕ, _+_, _/_, _%_, _≤_}
+use Prim.Native.Nat.{ℕ, _+_, _/_, _%_, _≤_, _<_}
 use native.Mathlib.Omega.{arith}
-use lib.ListN.{set}
+use lib.ListN.{length, set}
 use Rattle.fields_spec.specs.Varint.{varint}
 use Rattle.fields_spec.proofs.Varints.{length-pos}
 use Rattle.fields_spec.proofs.Parts.{Parts, parts-start, parts-inside}
@@ -13,8 +13,17 @@ use borrow.Author.Needs.{needs}
 use Rattle.fields.proofs.varint.put_varint.Statement.{statement}
 use Rattle.fields.proofs.varint.put_varint.Tie as tie
 
--- the buffer after one to four groups
-module _ (out : List ℕ) (at count : ℕ) where
+-- the buffer after one to four groups, each of which has its place in it
+module _ (s : tie.Start) where
+  abbrev out : List ℕ
+  out = s .args .out .now
+
+  abbrev at : ℕ
+  at = s .args .at
+
+  abbrev count : ℕ
+  count = s .args .count
+
   abbrev one : List ℕ
   one = set out at (count % 128 + 128)
 
@@ -27,8 +36,11 @@ module _ (out : List ℕ) (at count : ℕ) where
   abbrev four : List ℕ
   four = set three (at + 3) (count / 2097152 % 128 + 128)
 
+  put-none : Parts (varint count) at out (varint count) at out
+  put-none = parts-start (varint count) at out
+
   put-one : 128 ≤ count → Parts (varint count) at out (varint (count / 128)) (at + 1) one
-  put-one h = putting-more (parts-start (varint count) at out) (at + 1) (count / 128) h refl refl
+  put-one h = putting-more put-none (at + 1) (count / 128) h refl refl
 
   put-two : 16384 ≤ count → Parts (varint count) at out (varint (count / 16384)) (at + 2) two
   put-two h = putting-more (put-one (omega arith)) (at + 2) (count / 16384) (omega arith) (omega arith) (omega arith)
@@ -39,119 +51,89 @@ module _ (out : List ℕ) (at count : ℕ) where
   put-four : 268435456 ≤ count → Parts (varint count) at out (varint (count / 268435456)) (at + 4) four
   put-four h = putting-more (put-three (omega arith)) (at + 4) (count / 268435456) (omega arith) (omega arith) (omega arith)
 
-slice-write-out : tie.Need-slice-write-out
-slice-write-out c = let a = c .before .args in parts-inside (parts-start (varint (a .count)) (a .at) (a .out .now)) (length-pos (a .count))
-    (c .before .pre)
+  first-in : at < length out
+  first-in = parts-inside put-none (length-pos count) (s .pre)
+
+  second-in : 128 ≤ count → at + 1 < length one
+  second-in h = parts-inside (put-one h) (length-pos (count / 128)) (s .pre)
+
+  third-in : 16384 ≤ count → at + 2 < length two
+  third-in h = parts-inside (put-two h) (length-pos (count / 16384)) (s .pre)
+
+  fourth-in : 2097152 ≤ count → at + 3 < length three
+  fourth-in h = parts-inside (put-three h) (length-pos (count / 2097152)) (s .pre)
+
+  fifth-in : 268435456 ≤ count → at + 4 < length four
+  fifth-in h = parts-inside (put-four h) (length-pos (count / 268435456)) (s .pre)
 
 returns : tie.Need-returns
-returns c =
-    let a = c .before .args in
-    putting-last (parts-start (varint (a .count)) (a .at) (a .out .now)) (a .at + 1) (c .if1 .taken) refl
-
-slice-write-out-2 : tie.Need-slice-write-out-2
-slice-write-out-2 c = let a = c .before .args in parts-inside (parts-start (varint (a .count)) (a .at) (a .out .now)) (length-pos (a .count))
-    (c .before .pre)
-
-slice-write-out-3 : tie.Need-slice-write-out-3
-slice-write-out-3 c = let a = c .before .before .args in parts-inside (put-one (a .out .now) (a .at) (a .count) (omega arith))
-    (length-pos (a .count / 128)) (c .before .before .pre)
+returns c = let s = c .before in putting-last (put-none s) (at s + 1) (c .if1 .taken) refl
 
 returns-2 : tie.Need-returns-2
 returns-2 c =
-    let a = c .before .before .args in
-    putting-last (put-one (a .out .now) (a .at) (a .count) (omega arith)) (a .at + 2) (omega (arith, c .before .before .fits .count .fits))
-    (omega arith)
-
-slice-write-out-4 : tie.Need-slice-write-out-4
-slice-write-out-4 c = let a = c .before .before .args in parts-inside (put-one (a .out .now) (a .at) (a .count) (omega arith))
-    (length-pos (a .count / 128)) (c .before .before .pre)
-
-slice-write-out-5 : tie.Need-slice-write-out-5
-slice-write-out-5 c = let a = c .before .before .before .args in parts-inside (put-two (a .out .now) (a .at) (a .count) (omega arith))
-    (length-pos (a .count / 16384)) (c .before .before .before .pre)
+    let s = c .before .before in
+    putting-last (put-one s (omega arith)) (at s + 2) (omega (arith, s .fits .count .fits)) (omega arith)
 
 returns-3 : tie.Need-returns-3
 returns-3 c =
-    let a = c .before .before .before .args in
-    putting-last (put-two (a .out .now) (a .at) (a .count) (omega arith)) (a .at + 3) (omega (arith, c .before .before .before .fits .count .fits))
-    (omega arith)
-
-slice-write-out-6 : tie.Need-slice-write-out-6
-slice-write-out-6 c = let a = c .before .before .before .args in parts-inside (put-two (a .out .now) (a .at) (a .count) (omega arith))
-    (length-pos (a .count / 16384)) (c .before .before .before .pre)
-
-slice-write-out-7 : tie.Need-slice-write-out-7
-slice-write-out-7 c =
-    let start = c .before .before .before .before in
-    let a = start .args in parts-inside (put-three (a .out .now) (a .at) (a .count) (omega arith)) (length-pos (a .count / 2097152)) (start .pre)
+    let s = c .before .before .before in
+    putting-last (put-two s (omega arith)) (at s + 3) (omega (arith, s .fits .count .fits)) (omega arith)
 
 returns-4 : tie.Need-returns-4
 returns-4 c =
-    let start = c .before .before .before .before in
-    let a = start .args in
-    putting-last (put-three (a .out .now) (a .at) (a .count) (omega arith)) (a .at + 4) (omega (arith, start .fits .count .fits)) (omega arith)
-
-slice-write-out-8 : tie.Need-slice-write-out-8
-slice-write-out-8 c =
-    let start = c .before .before .before .before in
-    let a = start .args in parts-inside (put-three (a .out .now) (a .at) (a .count) (omega arith)) (length-pos (a .count / 2097152)) (start .pre)
-
-slice-write-out-9 : tie.Need-slice-write-out-9
-slice-write-out-9 c =
-    let start = c .before .before .before .before in
-    let a = start .args in parts-inside (put-four (a .out .now) (a .at) (a .count) (omega arith)) (length-pos (a .count / 268435456)) (start .pre)
+    let s = c .before .before .before .before in
+    putting-last (put-three s (omega arith)) (at s + 4) (omega (arith, s .fits .count .fits)) (omega arith)
 
 returns-5 : tie.Need-returns-5
 returns-5 c =
-    let start = c .before .before .before .before in
-    let a = start .args in
-    putting-last (put-four (a .out .now) (a .at) (a .count) (omega arith)) (a .at + 5) (omega (arith, start .fits .count .fits)) (omega arith)
+    let s = c .before .before .before .before in
+    putting-last (put-four s (omega arith)) (at s + 5) (omega (arith, s .fits .count .fits)) (omega arith)
 
 pub put-varint-spec : {M : Type 1} → statement M
 put-varint-spec =
     tie.close
     (tie.spec
     (λ c. search needs)
-    slice-write-out
+    (λ c. first-in (c .before))
     (λ c. search needs)
     (λ c. search needs)
     returns
     (λ c. search needs)
     (λ c. search needs)
-    slice-write-out-2
+    (λ c. first-in (c .before))
     (λ c. search needs)
     (λ c. search needs)
-    slice-write-out-3
+    (λ c. let s = c .before .before in second-in s (omega arith))
     (λ c. search needs)
     (λ c. search needs)
     returns-2
     (λ c. search needs)
     (λ c. search needs)
     (λ c. search needs)
-    slice-write-out-4
+    (λ c. let s = c .before .before in second-in s (omega arith))
     (λ c. search needs)
     (λ c. search needs)
-    slice-write-out-5
+    (λ c. let s = c .before .before .before in third-in s (omega arith))
     (λ c. search needs)
     (λ c. search needs)
     returns-3
     (λ c. search needs)
     (λ c. search needs)
     (λ c. search needs)
-    slice-write-out-6
+    (λ c. let s = c .before .before .before in third-in s (omega arith))
     (λ c. search needs)
     (λ c. search needs)
-    slice-write-out-7
+    (λ c. let s = c .before .before .before .before in fourth-in s (omega arith))
     (λ c. search needs)
     (λ c. search needs)
     returns-4
     (λ c. search needs)
     (λ c. search needs)
     (λ c. search needs)
-    slice-write-out-8
+    (λ c. let s = c .before .before .before .before in fourth-in s (omega arith))
     (λ c. search needs)
     (λ c. search needs)
-    slice-write-out-9
+    (λ c. let s = c .before .before .before .before in fifth-in s (omega arith))
     (λ c. search needs)
     (λ c. search needs)
     returns-5)

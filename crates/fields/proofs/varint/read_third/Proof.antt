@@ -1,6 +1,7 @@
 -- `fields::varint::read_third` meets its contract: near the end of the bytes it is as judging says; else both bytes have the top bit set,
 -- or the varint ends with one of them. Assumes nothing.
 use mathlib.Core.Path.{sym, ap, ap₂, _∙_}
+use mathlib.Core.List.{List}
 use Prim.Native.Nat.{ℕ, _+_, _*_, _≤_, _<_}
 use native.Mathlib.Omega.{arith}
 use lib.ListN.{length, getD}
@@ -11,62 +12,70 @@ use Rattle.fields.proofs.varint.read_third.Statement.{statement}
 use Rattle.fields.proofs.varint.read_third.Tie as tie
 
 -- five bytes are there
-long : (c : tie.Else1) → let a = c .before .before .args in a .at + 5 ≤ length (a .src .now)
-long c = omega arith
+module _ (c : tie.Else1) where
+  abbrev start : tie.Start
+  start = c .before .before
 
-add-three : tie.Need-add-three
-add-three c =
-    let s = c .before .before .before .before .before in
-    omega (arith, c .wide .ensures, s .pre .1 .1, groups-below (s .args .src .now) (s .args .at) 2)
+  abbrev d : List ℕ
+  d = start .args .src .now
 
-add-read-fifth : tie.Need-add-read-fifth
-add-read-fifth c =
-    let s = c .before .before .before .before .before .before .before .before in
-    omega (arith, c .wide2 .ensures, c .before .before .before .wide .ensures, s .pre .1 .1, groups-below (s .args .src .now) (s .args .at) 2)
+  abbrev at : ℕ
+  at = start .args .at
+
+  abbrev two : ℕ
+  two = start .args .two
+
+  long : at + 5 ≤ length d
+  long = omega arith
+
+  small : two < 16384
+  small = omega (arith, start .pre .1 .1, groups-below d at 2)
+
+-- the third is known, after the test for five
+abbrev there : tie.After-wide → tie.Else1
+there c = c .before .before .before
 
 read-fifth-requires : tie.Need-read-fifth-requires
 read-fifth-requires c κs =
-    let at-if1 = c .before .before .before .before .before .before in
-    let s = at-if1 .before .before in
-    let d = s .args .src .now in
-    let l = long at-if1 in
-    let h : (127 < getD d (s .args .at + 2) 0) × (127 < getD d (s .args .at + 3) 0) = both-true _ _
+    let third = c .before .before .before in
+    let f = there third in
+    let p = start f .pre .1 in
+    let h : (127 < getD (d f) (at f + 2) 0) × (127 < getD (d f) (at f + 3) 0) = both-true _ _
     (sym (c .before .before .both-high .ensures) ∙ c .before .if2 .taken) in (
       omega arith,
       (
-        fourth-passed d (s .args .at) (s .args .two) (s .pre .1 .0) (s .pre .1 .1) l (h .0) (h .1),
-        ap₂ (λ (x y : ℕ). s .args .two + x * 16384 + y * 2097152) (c .before .before .before .wide .ensures) (c .wide2 .ensures)
-            ∙ four-say d (s .args .at) (s .args .two) (s .pre .1 .0) (s .pre .1 .1) l,
+        fourth-passed (d f) (at f) (two f) (p .0) (p .1) (long f) (h .0) (h .1),
+        ap₂ (λ (x y : ℕ). two f + x * 16384 + y * 2097152) (third .wide .ensures) (c .wide2 .ensures)
+            ∙ four-say (d f) (at f) (two f) (p .0) (p .1) (long f),
       ),
     )
 
+-- the varint ends with the third or the fourth byte
+module _ (c : tie.Else2) where
+  abbrev third : tie.After-wide
+  third = c .before .before
+
+  abbrev five : tie.Else1
+  five = there third
+
 returns-3 : tie.Need-returns-3
 returns-3 c =
-    let at-if1 = c .before .before .before .before .before .before .before in
-    let s = at-if1 .before .before in
-    let one = sym (c .before .before .before .both-high .ensures) ∙ c .before .before .if2 .left in
-    chosen-zero (s .args .src .now) (s .args .at) (s .args .two) (s .pre .1 .0) (s .pre .1 .1) (long at-if1) one _ (c .before .last-of .ensures)
+    let e = c .before .before in
+    let f = five e in
+    let p = start f .pre .1 in
+    chosen-zero (d f) (at f) (two f) (p .0) (p .1) (long f) (sym (e .before .both-high .ensures) ∙ e .if2 .left) _ (c .before .last-of .ensures)
     (c .if3 .taken)
-
-add-t14 : tie.Need-add-t14
-add-t14 c =
-    let at-wide = c .before .before .before .before .before in
-    let s = at-wide .before .before .before .before .before in
-    omega (arith, at-wide .wide .ensures, c .fourth-part .ensures .1, s .pre .1 .1, groups-below (s .args .src .now) (s .args .at) 2)
 
 returns-4 : tie.Need-returns-4
 returns-4 c =
-    let at-if2 = c .before .before .before .before in
-    let at-both-high = at-if2 .before in
-    let at-wide = at-both-high .before in
-    let at-if1 = at-wide .before .before .before in
-    let s = at-if1 .before .before in
-    let one = sym (at-both-high .both-high .ensures) ∙ at-if2 .if2 .left in
-    ap (λ (x : ℕ). Whole (record { count = s .args .two + x * 16384 + c .before .fourth-part .result; next = c .behind .result }))
-    (at-wide .wide .ensures)
-    ∙ chosen-read (s .args .src .now) (s .args .at) (s .args .two) (s .pre .1 .0) (s .pre .1 .1) (long at-if1) one _
-    (c .before .before .before .last-of .ensures)
-    (c .before .fourth-part .result) (c .behind .result) (c .before .fourth-part .ensures .0) (c .behind .ensures) (c .before .before .if3 .left)
+    let e = c .before .before .before .before in
+    let f = five e in
+    let p = start f .pre .1 in
+    let part = c .before .fourth-part in
+    ap (λ (x : ℕ). Whole (record { count = two f + x * 16384 + part .result; next = c .behind .result })) (third e .wide .ensures)
+    ∙ chosen-read (d f) (at f) (two f) (p .0) (p .1) (long f) (sym (e .before .both-high .ensures) ∙ e .if2 .left) _
+    (c .before .before .before .last-of .ensures) (part .result) (c .behind .result) (part .ensures .0) (c .behind .ensures)
+    (c .before .before .if3 .left)
 
 pub read-third-spec : {M : Type 1} → statement M
 read-third-spec =
@@ -81,17 +90,17 @@ read-third-spec =
     (λ c. search needs)
     (λ c κs. search needs)
     (λ c. search needs)
-    add-three
+    (λ c. omega (arith, c .wide .ensures, small (there c)))
     (λ c κs. search needs)
     (λ c κs. search needs)
     (λ c. search needs)
-    add-read-fifth
+    (λ c. let third = c .before .before .before in omega (arith, c .wide2 .ensures, third .wide .ensures, small (there third)))
     read-fifth-requires
     (λ c. search needs)
     (λ c κs. search needs)
     returns-3
     (λ c κs. search needs)
-    add-t14
+    (λ c. let e = c .before .before .before in omega (arith, third e .wide .ensures, c .fourth-part .ensures .1, small (five e)))
     (λ c. search needs)
     (λ c κs. search needs)
     returns-4)

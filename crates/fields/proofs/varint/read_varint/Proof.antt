@@ -1,6 +1,7 @@
 -- `fields::varint::read_varint` meets its contract: the bytes end, the first byte is the last, or the second, or two are passed.
 -- Assumes nothing.
 use mathlib.Core.Path.{_≡_, refl, sym, ap, ap₂, _∙_}
+use mathlib.Core.List.{List}
 use Prim.Native.Nat.{ℕ, _+_, _*_, _%_}
 use native.Mathlib.Omega.{arith}
 use lib.ListN.{getD, take, drop}
@@ -17,61 +18,63 @@ returns c =
     let a = c .before .before .args in
     read-cut (a .src .now) (a .at) 0 (passed-none (a .src .now) (a .at)) (omega arith)
 
+-- there is a first byte
+module _ (c : tie.Else1) where
+  abbrev start : tie.Start
+  start = c .before .before
+
+  abbrev d : List ℕ
+  d = start .args .src .now
+
+  abbrev at : ℕ
+  at = start .args .at
+
 returns-2 : tie.Need-returns-2
 returns-2 c =
-    let start = c .before .before .before .before .before in
-    let a = start .args in
-    (λ i. Whole (record { count = c .wide .ensures i; next = a .at + 1 }))
-    ∙ ap (readAt (a .at)) (sym (first-whole (a .src .now) (a .at) (c .before .before .before .if1 .left) (c .before .if2 .taken)))
+    let one = c .before .before .before in
+    (λ i. Whole (record { count = c .wide .ensures i; next = at one + 1 }))
+    ∙ ap (readAt (at one)) (sym (first-whole (d one) (at one) (one .if1 .left) (c .before .if2 .taken)))
 
--- the first byte is passed
-passed : (c : tie.Else2) →
-    let start = c .before .before .before .before in
-    let a = start .args in Passed (a .src .now) (a .at) 1
-passed c =
-    let start = c .before .before .before .before in
-    let a = start .args in first-more (a .src .now) (a .at) (c .before .before .if1 .left) (c .if2 .left)
+-- it is passed
+module _ (c : tie.Else2) where
+  abbrev first : tie.Else1
+  first = c .before .before
+
+  passed : Passed (d first) (at first) 1
+  passed = first-more (d first) (at first) (first .if1 .left) (c .if2 .left)
 
 returns-3 : tie.Need-returns-3
-returns-3 c =
-    let start = c .before .before .before .before .before in
-    let a = start .args in
-    read-cut (a .src .now) (a .at) 1 (passed (c .before)) (omega arith)
+returns-3 c = let p = c .before in read-cut (d (first p)) (at (first p)) 1 (passed p) (omega arith)
 
 -- what two bytes say
-two : (c : tie.After-wide3) →
-    let start = c .before .before .before .before .before .before .before .before in
-    let a = start .args in c .before .wide2 .result + c .wide3 .result * 128 ≡ value (take 2 (drop (a .at) (a .src .now)))
-two c =
-    let at-if1 = c .before .before .before .before .before .before in
-    let start = at-if1 .before .before in
-    let a = start .args in
-    let d = a .src .now in
-    ap₂ (λ (x y : ℕ). x + y * 128) (c .before .wide2 .ensures) (c .wide3 .ensures)
-    ∙ value-on d (a .at) 1 (getD d (a .at) 0 % 128) (omega arith) (first-value d (a .at) (at-if1 .if1 .left))
+module _ (c : tie.After-wide3) where
+  abbrev more : tie.Else2
+  more = c .before .before .before .before
+
+  abbrev one : tie.Else1
+  one = first more
+
+  two : c .before .wide2 .result + c .wide3 .result * 128 ≡ value (take 2 (drop (at one) (d one)))
+  two =
+      ap₂ (λ (x y : ℕ). x + y * 128) (c .before .wide2 .ensures) (c .wide3 .ensures)
+      ∙ value-on (d one) (at one) 1 (getD (d one) (at one) 0 % 128) (omega arith) (first-value (d one) (at one) (one .if1 .left))
 
 read-third-requires : tie.Need-read-third-requires
 read-third-requires c κs =
-    let at-if2 = c .before .before .before .before .before in
-    let start = at-if2 .before .before .before .before in
-    let a = start .args in
-    (omega arith, (passed-more (a .src .now) (a .at) 1 (passed at-if2) (omega arith) 2 refl (omega arith), two (c .before)))
+    let w = c .before in
+    (omega arith, (passed-more (d (one w)) (at (one w)) 1 (passed (more w)) (omega arith) 2 refl (omega arith), two w))
 
 returns-5 : tie.Need-returns-5
 returns-5 c =
-    let at-if2 = c .before .before .before .before .before .before in
-    let start = at-if2 .before .before .before .before in
-    let a = start .args in
-    read-zero (a .src .now) (a .at) 1 (passed at-if2) (omega arith) (omega arith) (omega arith) (omega arith) (c .if5 .taken)
+    let w = c .before .before in
+    read-zero (d (one w)) (at (one w)) 1 (passed (more w)) (omega arith) (omega arith) (omega arith) (omega arith) (c .if5 .taken)
 
 returns-6 : tie.Need-returns-6
 returns-6 c =
-    let at-if2 = c .before .before .before .before .before .before in
-    let start = at-if2 .before .before .before .before in
-    let a = start .args in
-    let p = passed at-if2 in
-    read-ended (a .src .now) (a .at) 1 p (omega arith) (omega arith) (omega arith) _ (a .at + 2) (omega (arith, c .if5 .left))
-    (passed-small (a .src .now) (a .at) 1 p (omega arith)) (two (c .before .before)) refl
+    let w = c .before .before in
+    let p = passed (more w) in
+    read-ended (d (one w)) (at (one w)) 1 p (omega arith) (omega arith) (omega arith) _ (at (one w) + 2) (omega (arith, c .if5 .left))
+    (passed-small (d (one w)) (at (one w)) 1 p (omega arith)) (two w) refl
 
 pub read-varint-spec : {M : Type 1} → statement M
 read-varint-spec =

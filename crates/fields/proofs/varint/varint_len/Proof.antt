@@ -1,5 +1,5 @@
--- `fields::varint::varint_len` meets its contract. A count of m significant bits lies between 2 ^ m / 2 and 2 ^ m - 1. The table's rule, computed once
--- over its 33 entries, says that the varints of both ends have the entry's length, and a larger number has no shorter varint.
+-- `fields::varint::varint_len` meets its contract. A count of m significant bits lies between 2 ^ m / 2 and 2 ^ m - 1. The table's rule,
+-- computed once over its 33 entries, says that the varints of both ends have the entry's length, and a larger number has no shorter varint.
 -- Assumes nothing.
 use mathlib.Core.Path.{_≡_, sym, ap, _∙_}
 use mathlib.Core.List.{List, [], _∷_}

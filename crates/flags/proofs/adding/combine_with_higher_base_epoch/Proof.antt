@@ -1,4 +1,5 @@
--- `flags::adding::combine_with_higher_base_epoch` meets its contract: what our record holds decides on the limit, and the record that is placed is the one put in.
+-- `flags::adding::combine_with_higher_base_epoch` meets its contract: what our record holds decides on the limit, and the record that is
+-- placed is the one put in.
 -- Assumes nothing.
 use mathlib.Core.Path.{_≡_, sym, ap, _∙_}
 use mathlib.Core.Bool.{true}

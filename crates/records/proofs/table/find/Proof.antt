@@ -5,7 +5,8 @@ use borrow.Author.Needs.{needs}
 use lib.ListN.{length}
 use Rattle.records_spec.specs.Tables.{placeOf}
 use Rattle.records_spec.proofs.Rising.{place-within, place-upto, place-past}
-use Rattle.records_spec.proofs.Halving.{Between, between-start, halved, middle-in, fewer-left, between-up, between-down, done-behind, done-here, done-end}
+use Rattle.records_spec.proofs.Halving.{Between, between-start, halved, middle-in, fewer-left}
+use Rattle.records_spec.proofs.Halving.{between-up, between-down, done-behind, done-here, done-end}
 use Rattle.records.proofs.table.find.Statement.{statement}
 use Rattle.records.proofs.table.find.Tie as tie
 

@@ -26,62 +26,69 @@ abbrev μ-loop : tie.MeasureT-loop
 μ-loop our-epochs our-counts their-epochs their-counts removed-epochs removed-bytes epochs₀ counts₀ end a₀ b₀ k₀ epochs counts a b k =
     end - (a + b)
 
--- the records that are to be placed, and the sections
-abbrev sections : tie.Start Inv-loop μ-loop → List At
-sections c = recordsOf (c .args .removed-epochs .now) (c .args .removed-bytes .now)
+-- of what is given: the sections, and the records that are to be placed
+module _ (s : tie.Start Inv-loop μ-loop) where
+  abbrev sections : List At
+  sections = recordsOf (s .args .removed-epochs .now) (s .args .removed-bytes .now)
 
-abbrev records : tie.Start Inv-loop μ-loop → List At
-records c = minus (union (recordsOf (c .args .our-epochs .now) (c .args .our-counts .now))
-    (recordsOf (c .args .their-epochs .now) (c .args .their-counts .now))) (sections c)
+  abbrev records : List At
+  records = minus
+      (union (recordsOf (s .args .our-epochs .now) (s .args .our-counts .now)) (recordsOf (s .args .their-epochs .now) (s .args .their-counts .now)))
+      sections
 
 loop-holds : tie.Need-loop-holds Inv-loop μ-loop
 loop-holds c =
-    let start = c .before .before .before .before .before .before .before .before in
-    let p = start .pre in
-    (walking-start (p .0) (p .1 .0) (omega arith, omega arith), filling-start _ _ _ _)
+    let s = c .before .before .before .before .before .before .before .before in
+    (walking-start (s .pre .0) (s .pre .1 .0) (omega arith, omega arith), filling-start _ _ _ _)
+
+-- from a turn of the loop to the start
+abbrev begun : tie.At-loop Inv-loop μ-loop → tie.Start Inv-loop μ-loop
+begun c = c .before .before .before .before .before .before .before .before .before
 
 next-record-requires : tie.Need-next-record-requires Inv-loop μ-loop
 next-record-requires c κs =
-    let start = c .before .before .before .before .before .before .before .before .before .before in
-    let p = start .pre in
+    let p = begun (c .before) .pre in
     (p .0, (p .1 .0, walking-within (c .before .loop .inv .0) (c .loop-test .taken)))
 
-room : (c : tie.Then1 Inv-loop μ-loop) →
-    let at-loop = c .before .before .before .before in
-    (at-loop .loop .k < length (at-loop .loop .epochs)) × (at-loop .loop .k < length (at-loop .loop .counts))
+-- the next record is lessened, and from there back: it was known, the loop stood, the start
+module _ (c : tie.After-remove-from Inv-loop μ-loop) where
+  abbrev next : tie.After-next-record Inv-loop μ-loop
+  next = c .before
+
+  abbrev turn : tie.At-loop Inv-loop μ-loop
+  turn = next .before .before
+
+  abbrev start : tie.Start Inv-loop μ-loop
+  start = begun turn
+
+room : (c : tie.Then1 Inv-loop μ-loop) → let l = turn (c .before) .loop in (l .k < length (l .epochs)) × (l .k < length (l .counts))
 room c =
-    let at-loop = c .before .before .before .before in
-    let b = at-loop .before .before .before .before .before .before .before .before .before in
-    let m = next-stays (c .before .before .next-record .ensures) (sections b) (c .before .remove-from .result) (c .before .remove-from .ensures)
-    (c .if1 .taken) in
-    filling-room (at-loop .loop .inv .1) m (omega (arith, b .pre .1 .1 .1 .0)) (omega (arith, b .pre .1 .1 .1 .1))
+    let r = c .before in
+    let p = start r .pre .1 .1 .1 in
+    let m = next-stays (next r .next-record .ensures) (sections (start r)) _ (r .remove-from .ensures) (c .if1 .taken) in
+    filling-room (turn r .loop .inv .1) m (omega (arith, p .0)) (omega (arith, p .1))
 
 loop-again : tie.Need-loop-again Inv-loop μ-loop
 loop-again c =
-    let at-loop = c .before .before .before .before in
-    let start = at-loop .before .before .before .before .before .before .before .before .before in
-    let l = at-loop .loop in
-    let s = c .before .before .next-record .ensures in
-    let m = next-stays s (sections start) (c .before .remove-from .result) (c .before .remove-from .ensures) (c .if1 .taken) in
-    (walking-step (l .inv .0) s, filling-step (l .inv .1) m)
+    let r = c .before in
+    let s = next r .next-record .ensures in
+    let m = next-stays s (sections (start r)) _ (r .remove-from .ensures) (c .if1 .taken) in
+    (walking-step (turn r .loop .inv .0) s, filling-step (turn r .loop .inv .1) m)
 
 loop-again-2 : tie.Need-loop-again-2 Inv-loop μ-loop
 loop-again-2 c =
-    let at-loop = c .before .before .before .before in
-    let b = at-loop .before .before .before .before .before .before .before .before .before in
-    let l = at-loop .loop in
-    let s = c .before .before .next-record .ensures in
-    let m = next-gone s (sections b) (c .before .remove-from .result) (c .before .remove-from .ensures) (c .if1 .left) in (
-      walking-step (l .inv .0) s,
-      subst
-          (λ (left : List At). Filling (records b) left 0 (l .k) (b .args .epochs .now) (b .args .counts .now) (l .epochs) (l .counts)) m (l .inv .1),
-    )
+    let r = c .before in
+    let a = start r .args in
+    let l = turn r .loop in
+    let s = next r .next-record .ensures in
+    let m = next-gone s (sections (start r)) _ (r .remove-from .ensures) (c .if1 .left) in
+    let F : List At → Type 0 = λ left. Filling (records (start r)) left 0 (l .k) (a .epochs .now) (a .counts .now) (l .epochs) (l .counts) in
+    (walking-step (l .inv .0) s, subst F m (l .inv .1))
 
 returns : tie.Need-returns Inv-loop μ-loop
 returns c =
-    let start = c .before .before .before .before .before .before .before .before .before .before in
     let l = c .before .loop in
-    filling-done (l .inv .1) (minus-done _ (sections start) (walking-done (l .inv .0) (c .loop-test .left)))
+    filling-done (l .inv .1) (minus-done _ (sections (begun (c .before))) (walking-done (l .inv .0) (c .loop-test .left)))
 
 pub remaining-into-spec : {M : Type 1} → statement M
 remaining-into-spec =
@@ -93,15 +100,10 @@ remaining-into-spec =
     loop-holds
     (λ c. omega arith)
     next-record-requires
-    (λ c κs.
-    let start = c .before .before .before .before .before .before .before .before .before .before .before in
-    start .pre .1 .1 .0)
+    (λ c κs. begun (c .before .before) .pre .1 .1 .0)
     (λ c. omega (arith, room c .0))
     (λ c. room c .0)
-    (λ c.
-    let at-loop = c .before .before .before .before in
-    let start = at-loop .before .before .before .before .before .before .before .before .before in
-    omega (arith, room c .1, at-loop .loop .inv .1 .counts .long, start .good))
+    (λ c. let r = c .before in omega (arith, room c .1, turn r .loop .inv .1 .counts .long, start r .good))
     (λ c. room c .1)
     (λ c. omega (arith, room c .0))
     (λ c. omega (arith, c .before .before .next-record .ensures .falls))

@@ -23,69 +23,84 @@ use Rattle.removal_spec.proofs.Merging.{above-single, above-disputed, above-own
 use Rattle.removal.proofs.removing.combine_with_higher_base_epoch_remove_bytes.Statement.{statement}
 use Rattle.removal.proofs.removing.combine_with_higher_base_epoch_remove_bytes.Tie as tie
 
--- ours, theirs and the removal
-abbrev ours : tie.Start → Flags
-ours c = flagsOf (c .args .ours) (c .args .our-epochs .now) (c .args .our-counts .now)
+-- of what is given: ours, theirs and the removal
+module _ (s : tie.Start) where
+  abbrev ours : Flags
+  ours = flagsOf (s .args .ours) (s .args .our-epochs .now) (s .args .our-counts .now)
 
-abbrev theirs : tie.Start → Flags
-theirs c = flagsOf (c .args .theirs) (c .args .their-epochs .now) (c .args .their-counts .now)
+  abbrev theirs : Flags
+  theirs = flagsOf (s .args .theirs) (s .args .their-epochs .now) (s .args .their-counts .now)
 
-abbrev removal : tie.Start → Removal
-removal c = removalOf (c .args .removed) (tables (c .args .ids .now) (c .args .removed-epochs .now) (c .args .removed-bytes .now))
+  abbrev removal : Removal
+  removal = removalOf (s .args .removed) (tables (s .args .ids .now) (s .args .removed-epochs .now) (s .args .removed-bytes .now))
 
-our-proper : (c : tie.Start) → IsProper (c .args .ours) (c .args .our-epochs .now) (c .args .our-counts .now)
-our-proper c = proper-inv (c .args .ours) (c .args .our-epochs .now) (c .args .our-counts .now) (c .pre .0)
+  our-proper : IsProper (s .args .ours) (s .args .our-epochs .now) (s .args .our-counts .now)
+  our-proper = proper-inv (s .args .ours) (s .args .our-epochs .now) (s .args .our-counts .now) (s .pre .0)
 
-their-proper : (c : tie.Start) → IsProper (c .args .theirs) (c .args .their-epochs .now) (c .args .their-counts .now)
-their-proper c = proper-inv (c .args .theirs) (c .args .their-epochs .now) (c .args .their-counts .now) (c .pre .1 .0)
+  their-proper : IsProper (s .args .theirs) (s .args .their-epochs .now) (s .args .their-counts .now)
+  their-proper = proper-inv (s .args .theirs) (s .args .their-epochs .now) (s .args .their-counts .now) (s .pre .1 .0)
 
 returns : tie.Need-returns
 returns c =
-    let at-hand-on = c .before .before .before .before in
-    let at-if1 = at-hand-on .before .before .before in
-    let b = at-if1 .before .before .before .before .before .before .before .before .before in
-    let a = b .args in
-    let p : length (ours b .records) ≡ 0 = omega (arith, proper-long (our-proper b), at-if1 .if1 .taken) in
-    at-hand-on .hand-on .ensures
+    let handed = c .before .before .before .before in
+    let none = handed .before .before .before in
+    let s = none .before .before .before .before .before .before .before .before .before in
+    let a = s .args in
+    let p : length (ours s .records) ≡ 0 = omega (arith, proper-long (our-proper s), none .if1 .taken) in
+    handed .hand-on .ensures
     ∙ sym (ap (λ (x : Answer Flags). placing x (a .epochs .now) (a .counts .now))
-    (above-single (a .strategy) (removal b) (ours b) (theirs b) (ours b .records) p))
+    (above-single (a .strategy) (removal s) (ours s) (theirs s) (ours s .records) p))
+
+-- the owners are combined, where ours has records
+module _ (c : tie.After-combine-owners) where
+  abbrev many : tie.Else1
+  many = c .before
+
+  abbrev start : tie.Start
+  start = many .before .before .before .before .before .before .before .before .before
+
+  some : 0 < length (ours start .records)
+  some = omega (arith, proper-long (our-proper start), many .if1 .left)
 
 returns-2 : tie.Need-returns-2
 returns-2 c =
-    let b = c .before .before .before .before .before .before .before .before .before .before .before .before in
-    let a = b .args in
-    let p : 0 < length (ours b .records) = omega (arith, proper-long (our-proper b), c .before .before .before .if1 .left) in
+    let o = c .before .before in
+    let s = start o in
+    let a = s .args in
     refused-placing (c .refused .result) (a .epochs .now) (a .counts .now)
-    (removedAbove (a .strategy) (removal b) (ours b) (theirs b) (ours b .records)) _ (c .refused .ensures)
-    (above-disputed (a .strategy) (removal b) (ours b) (theirs b) (ours b .records) p
-    (refused-owner _ (a .strategy) (ownerOf (a .ours)) (ownerOf (a .theirs)) (c .before .before .combine-owners .ensures) (c .before .if2 .taken)))
+    (removedAbove (a .strategy) (removal s) (ours s) (theirs s) (ours s .records)) _ (c .refused .ensures)
+    (above-disputed (a .strategy) (removal s) (ours s) (theirs s) (ours s .records) (some o)
+    (refused-owner _ (a .strategy) (ownerOf (a .ours)) (ownerOf (a .theirs)) (o .combine-owners .ensures) (c .before .if2 .taken)))
+
+-- our owner is known, and from there back: the owners agree, the start
+module _ (c : tie.After-owner-id) where
+  abbrev agreed : tie.Else2
+  agreed = c .before .before
+
+  abbrev begun : tie.Start
+  begun = start (agreed .before)
 
 returns-3 : tie.Need-returns-3
 returns-3 c =
-    let at-remove-bytes = c .before .before .before .before in
-    let at-owner-id = at-remove-bytes .before .before .before .before .before .before .before .before in
-    let at-if2 = at-owner-id .before .before in
-    let at-combine-owners = at-if2 .before in
-    let at-if1 = at-combine-owners .before in
-    let b = at-if1 .before .before .before .before .before .before .before .before .before in
-    let a = b .args in
-    let p : 0 < length (ours b .records) = omega (arith, proper-long (our-proper b), at-if1 .if1 .left) in
-    let w : MaybeOwner = at-combine-owners .combine-owners .result .owner in
-    let i = ap (λ (m : MaybeOwner). m .id) (at-owner-id .owner-id .ensures) ∙ owner-bytes (ownerOf (a .ours)) in
-    at-remove-bytes .remove-bytes .ensures
-    ∙ ap (λ (j : List ℕ). placing (taken j (removal b) (joined (ours b) (theirs b) (ownerIf (w .owned) (w .id)))) (a .epochs .now) (a .counts .now)) i
+    let removed = c .before .before .before .before in
+    let known = removed .before .before .before .before .before .before .before .before in
+    let o = agreed known .before in
+    let s = begun known in
+    let a = s .args in
+    let w : MaybeOwner = o .combine-owners .result .owner in
+    let i = ap (λ (m : MaybeOwner). m .id) (known .owner-id .ensures) ∙ owner-bytes (ownerOf (a .ours)) in
+    removed .remove-bytes .ensures
+    ∙ ap (λ (j : List ℕ). placing (taken j (removal s) (joined (ours s) (theirs s) (ownerIf (w .owned) (w .id)))) (a .epochs .now) (a .counts .now)) i
     ∙ sym (ap (λ (x : Answer Flags). placing x (a .epochs .now) (a .counts .now))
-    (above-owned (a .strategy) (removal b) (ours b) (theirs b) (ours b .records) p _
-    (answered-owner _ (combinedOwner (a .strategy) (ownerOf (a .ours)) (ownerOf (a .theirs))) (at-combine-owners .combine-owners .ensures)
-    (at-if2 .if2 .left))))
+    (above-owned (a .strategy) (removal s) (ours s) (theirs s) (ours s .records) (some o) _
+    (answered-owner _ (combinedOwner (a .strategy) (ownerOf (a .ours)) (ownerOf (a .theirs))) (o .combine-owners .ensures)
+    (agreed known .if2 .left))))
 
 pub combine-with-higher-base-epoch-remove-bytes-spec : {M : Type 1} → statement M
 combine-with-higher-base-epoch-remove-bytes-spec =
     tie.close
     (tie.spec
-    (λ c κs.
-    let start = c .before .before .before .before .before .before .before .before .before .before .before in
-    start .pre .0)
+    (λ c κs. let s = c .before .before .before .before .before .before .before .before .before .before .before in s .pre .0)
     (λ c. search needs)
     (λ c. search needs)
     returns
@@ -93,24 +108,14 @@ combine-with-higher-base-epoch-remove-bytes-spec =
     (λ c κs. search needs)
     returns-2
     (λ c κs. search needs)
-    (λ c.
-    let start = c .before .before .before .before .before .before .before .before .before .before .before .before .before .before .before in
-    sym (length-take-le _ _ (our-proper start .epochs-long)))
-    (λ c.
-    let start = c .before .before .before .before .before .before .before .before .before .before .before .before .before .before .before .before in
-    sym (length-take-le _ _ (our-proper start .counts-long)))
-    (λ c.
-    let start = c .before .before .before .before .before .before .before .before .before .before .before .before .before .before .before .before
-    .before in
-    sym (length-take-le _ _ (their-proper start .epochs-long)))
-    (λ c.
-    let start = c .before .before .before .before .before .before .before .before .before .before .before .before .before .before .before .before
-    .before .before in
-    sym (length-take-le _ _ (their-proper start .counts-long)))
+    (λ c. let k = c .before .before in sym (length-take-le _ _ (our-proper (begun k) .epochs-long)))
+    (λ c. let k = c .before .before .before in sym (length-take-le _ _ (our-proper (begun k) .counts-long)))
+    (λ c. let k = c .before .before .before .before in sym (length-take-le _ _ (their-proper (begun k) .epochs-long)))
+    (λ c. let k = c .before .before .before .before .before in sym (length-take-le _ _ (their-proper (begun k) .counts-long)))
     (λ c κs.
-    let start = c .before .before .before .before .before .before .before .before .before .before .before .before .before .before .before .before
-    .before .before .before .before in
-    (proper-table (our-proper start), (proper-table (their-proper start), start .pre .1 .1)))
+    let k = c .before .before .before .before .before .before .before in
+    let s = begun k in
+    (proper-table (our-proper s), (proper-table (their-proper s), s .pre .1 .1)))
     (λ c. search needs)
     (λ c. search needs)
     returns-3)

@@ -10,45 +10,51 @@ use Rattle.repair_spec.proofs.AllLines.{multi-listed, single-listed}
 use Rattle.repair_listing.proofs.listing.list_changes.Statement.{statement}
 use Rattle.repair_listing.proofs.listing.list_changes.Tie as tie
 
+-- it is known whether the kind is multi, and from there back: the head's size, the start
+module _ (c : tie.After-is-multi) where
+  abbrev sized : tie.After-head-size
+  sized = c .before
+
+  abbrev start : tie.Start
+  start = sized .before .before .before .before .before
+
+-- the first line is put, and from there back: the base is read, the kind is multi
+module _ (c : tie.After-put-line-if) where
+  abbrev read : tie.After-base-in
+  read = c .before .before .before
+
+  abbrev multi : tie.Then1
+  multi = read .before
+
 list-records-requires : tie.Need-list-records-requires
 list-records-requires c κs =
-    let at-put-line-if = c .before .before .before .before .before .before in
-    let at-if1 = at-put-line-if .before .before .before .before in
-    let at-is-multi = at-if1 .before in
-    let at-head-size = at-is-multi .before in
-    let start = at-head-size .before .before .before .before .before in
-    let a = start .args in
-    let s = start .pre in
-    let h = at-head-size .head-size .ensures in (
-      omega (arith, at-put-line-if .put-line-if .ensures .behind, line-if-short (eqb (a .records) 0) 0 KindChanged, head-three (a .kind), h),
+    let put = c .before .before .before .before .before .before in
+    let asked = multi put .before in
+    let a = start asked .args in
+    let s = start asked .pre in
+    let h = sized asked .head-size .ensures in (
+      omega (arith, put .put-line-if .ensures .behind, line-if-short (eqb (a .records) 0) 0 KindChanged, head-three (a .kind), h),
       omega (arith, h, s .head-inside),
-      s .wide (sym (at-is-multi .is-multi .ensures) ∙ at-if1 .if1 .taken),
+      s .wide (sym (asked .is-multi .ensures) ∙ multi put .if1 .taken),
     )
 
 returns : tie.Need-returns
 returns c =
-    let at-list-records = c .before .before .before .before in
-    let at-put-line-if = at-list-records .before .before .before .before .before .before .before in
-    let at-base-in = at-put-line-if .before .before .before in
-    let at-if1 = at-base-in .before in
-    let at-is-multi = at-if1 .before in
-    let at-head-size = at-is-multi .before in
-    let start = at-head-size .before .before .before .before .before in
-    let a = start .args in
-    multi-listed (a .kind) (a .src .now) (a .places .now) (a .records) (start .pre)
-    (sym (at-is-multi .is-multi .ensures) ∙ at-if1 .if1 .taken) _ _ _ _
-    (at-base-in .base-in .ensures) (at-head-size .head-size .ensures) (at-put-line-if .put-line-if .ensures) (at-list-records .list-records .ensures)
+    let listed = c .before .before .before .before in
+    let put = listed .before .before .before .before .before .before .before in
+    let asked = multi put .before in
+    let a = start asked .args in
+    multi-listed (a .kind) (a .src .now) (a .places .now) (a .records) (start asked .pre) (sym (asked .is-multi .ensures) ∙ multi put .if1 .taken)
+    _ _ _ _ (read put .base-in .ensures) (sized asked .head-size .ensures) (put .put-line-if .ensures) (listed .list-records .ensures)
 
 returns-2 : tie.Need-returns-2
 returns-2 c =
-    let at-put-line-if2 = c .before .before .before .before in
-    let at-if1 = at-put-line-if2 .before .before .before in
-    let at-is-multi = at-if1 .before in
-    let at-head-size = at-is-multi .before in
-    let start = at-head-size .before .before .before .before .before in
-    let a = start .args in
-    single-listed (a .kind) (a .src .now) (a .places .now) (a .records) (start .pre) (sym (at-is-multi .is-multi .ensures) ∙ at-if1 .if1 .left) _ _
-    (at-head-size .head-size .ensures) (at-put-line-if2 .put-line-if2 .ensures)
+    let put = c .before .before .before .before in
+    let single = put .before .before .before in
+    let asked = single .before in
+    let a = start asked .args in
+    single-listed (a .kind) (a .src .now) (a .places .now) (a .records) (start asked .pre) (sym (asked .is-multi .ensures) ∙ single .if1 .left) _ _
+    (sized asked .head-size .ensures) (put .put-line-if2 .ensures)
 
 pub list-changes-spec : {M : Type 1} → statement M
 list-changes-spec =
@@ -56,7 +62,7 @@ list-changes-spec =
     (tie.spec
     (λ c κs. search needs)
     (λ c κs. search needs)
-    (λ c κs. let start = c .before .before .before .before .before .before .before in start .pre .head-inside)
+    (λ c κs. start (c .before) .pre .head-inside)
     (λ c κs. search needs)
     list-records-requires
     (λ c. search needs)

@@ -2,7 +2,7 @@
 -- more lines than bytes. Assumes nothing.
 use mathlib.Core.Path.{sym, ap, _∙_}
 use mathlib.Core.Bool.{not}
-use mathlib.Core.List.{_++_}
+use mathlib.Core.List.{List, _++_}
 use Prim.Native.Nat.{ℕ, _-_, _≤_}
 use native.Mathlib.Omega.{arith}
 use lib.Dec.{ltb, eqb}
@@ -32,118 +32,124 @@ loop-holds c =
     let p = start .pre in
     (p .0, p .1, going-start _ _ _ _)
 
+-- the old record is read, and from there back: the turn was entered, the loop stood, the start
+module _ (c : tie.After-read-old Inv-loop μ-loop) where
+  abbrev entered : tie.In-loop Inv-loop μ-loop
+  entered = c .before
+
+  abbrev turn : tie.At-loop Inv-loop μ-loop
+  turn = entered .before
+
+  abbrev start : tie.Start Inv-loop μ-loop
+  start = turn .before .before .before .before .before
+
+  abbrev at : ℕ
+  at = turn .loop .at
+
+  abbrev src : List ℕ
+  src = start .args .src .now
+
+  abbrev places : List ℕ
+  places = start .args .places .now
+
+-- it is cut off
+abbrev cut : tie.After-put-line Inv-loop μ-loop → tie.After-enum-told Inv-loop μ-loop
+cut c = c .before .before .before
+
 returns : tie.Need-returns Inv-loop μ-loop
 returns c =
-    let at-put-line = c .before .before .before .before in
-    let at-enum-told = at-put-line .before .before .before in
-    let at-read-old = at-enum-told .before .before in
-    let at-loop-test = at-read-old .before in
-    let at-loop = at-loop-test .before in
-    let start = at-loop .before .before .before .before .before in
-    let a = start .args in
-    let l = at-loop .loop in
-    let q = is-cut (oldAt (l .at) (drop (l .at) (a .src .now))) (sym (at-enum-told .enum-told .given .1) ∙ at-read-old .read-old .ensures) in
-    going-last (l .inv .2) _ _ _ _ (lines-cut (a .base) (a .places .now) (l .highest) (a .src .now) (l .at) (at-loop-test .loop-test .taken) q)
-    (at-put-line .put-line .ensures)
+    let put = c .before .before .before .before in
+    let read = cut put .before .before in
+    let q = is-cut (oldAt (at read) (drop (at read) (src read))) (sym (cut put .enum-told .given .1) ∙ read .read-old .ensures) in
+    going-last (turn read .loop .inv .2) _ _ _ _
+    (lines-cut (start read .args .base) (places read) (turn read .loop .highest) (src read) (at read) (entered read .loop-test .taken) q)
+    (put .put-line .ensures)
 
--- a record whose count is too large
-large : (c : tie.After-slice-known6 Inv-loop μ-loop) →
-    let at-next = c .before .before .before .before .before .before .before .before in
-    let at-loop = at-next .before .before .before .before in
-    let start = at-loop .before .before .before .before .before in
-    Large (oldAt (at-loop .loop .at) (drop (at-loop .loop .at) (start .args .src .now))) (at-next .next .given .0 .0)
-large c =
-    let at-next = c .before .before .before .before .before .before .before .before in
-    let at-read-old = at-next .before .before in
-    is-large _ _ (sym (at-next .next .given .1) ∙ at-read-old .read-old .ensures)
+-- its count is too large
+module _ (c : tie.After-put-line2 Inv-loop μ-loop) where
+  abbrev named : tie.After-next Inv-loop μ-loop
+  named = c .before .before .before .before
+
+  abbrev read : tie.After-read-old Inv-loop μ-loop
+  read = named .before .before
+
+  large : Large (oldAt (at read) (drop (at read) (src read))) (named .next .given .0 .0)
+  large = is-large _ _ (sym (named .next .given .1) ∙ read .read-old .ensures)
 
 loop-less : tie.Need-loop-less Inv-loop μ-loop
 loop-less c =
-    let at-loop-test = c .before .before .before .before .before .before .before .before .before .before .before in
-    let at-loop = at-loop-test .before in
-    let start = at-loop .before .before .before .before .before in
-    let u = large-turn (start .args .src .now) (at-loop .loop .at) (at-loop-test .loop-test .taken) _ (large c) in
+    let put = c .before .before .before .before in
+    let r = read put in
+    let u = large-turn (src r) (at r) (entered r .loop-test .taken) _ (large put) in
     omega (arith, u .0 .inside, u .0 .some-bytes, u .1)
 
 loop-again : tie.Need-loop-again Inv-loop μ-loop
 loop-again c =
-    let at-put-line2 = c .before .before .before .before in
-    let at-loop-test = at-put-line2 .before .before .before .before .before .before .before in
-    let at-loop = at-loop-test .before in
-    let start = at-loop .before .before .before .before .before in
-    let a = start .args in
-    let l = at-loop .loop in
-    let t = at-loop-test .loop-test .taken in
-    let u = large-turn (a .src .now) (l .at) t _ (large c) in (
-      omega (arith, at-put-line2 .put-line2 .ensures .behind, l .inv .0, u .0 .some-bytes, u .1),
+    let put = c .before .before .before .before in
+    let r = read put in
+    let i = turn r .loop .inv in
+    let t = entered r .loop-test .taken in
+    let u = large-turn (src r) (at r) t _ (large put) in
+    let step = lines-large (start r .args .base) (places r) (turn r .loop .highest) (src r) (at r) t _ (large put) in (
+      omega (arith, put .put-line2 .ensures .behind, i .0, u .0 .some-bytes, u .1),
       omega (arith, u .0 .inside, u .1),
-      going-more (l .inv .2) _ _ _ _ _ (lines-large (a .base) (a .places .now) (l .highest) (a .src .now) (l .at) t _ (large c))
-          (at-put-line2 .put-line2 .ensures),
+      going-more (i .2) _ _ _ _ _ step (put .put-line2 .ensures),
     )
+
+-- its count fits
+module _ (c : tie.After-epoch Inv-loop μ-loop) where
+  abbrev old : tie.After-read-old Inv-loop μ-loop
+  old = c .before .before
+
+  abbrev epoch : ℕ
+  epoch = c .epoch .given .0 .0
+
+  abbrev count : ℕ
+  count = c .epoch .given .0 .1 .0
+
+  abbrev next : ℕ
+  next = c .epoch .given .0 .1 .1 .0
+
+  fitting : Fitting (oldAt (at old) (drop (at old) (src old))) epoch count next
+  fitting = is-fitting _ _ _ _ (sym (c .epoch .given .1) ∙ old .read-old .ensures)
 
 list-fitting-requires : tie.Need-list-fitting-requires Inv-loop μ-loop
 list-fitting-requires c κs =
-    let at-epoch = c .before .before .before .before in
-    let at-read-old = at-epoch .before .before in
-    let at-loop-test = at-read-old .before in
-    let at-loop = at-loop-test .before in
-    let start = at-loop .before .before .before .before .before in
-    let a = start .args in
-    let l = at-loop .loop in
-    let f = is-fitting (oldAt (l .at) (drop (l .at) (a .src .now))) _ _ _ (sym (at-epoch .epoch .given .1) ∙ at-read-old .read-old .ensures) in
-    let u = fitting-turn (a .src .now) (l .at) (at-loop-test .loop-test .taken) _ _ _ f in
-    (omega (arith, u .1), omega (arith, l .inv .0, u .0 .inside, u .0 .some-bytes, u .1, start .good))
-
--- a record whose count fits
-fitting : (c : tie.After-slice-known8 Inv-loop μ-loop) →
-    let at-epoch = c .before .before .before .before .before .before .before .before .before in
-    let at-loop = at-epoch .before .before .before .before in
-    let start = at-loop .before .before .before .before .before in
-    let v = at-epoch .epoch .given in
-    Fitting (oldAt (at-loop .loop .at) (drop (at-loop .loop .at) (start .args .src .now))) (v .0 .0) (v .0 .1 .0) (v .0 .1 .1 .0)
-fitting c =
-    let at-epoch = c .before .before .before .before .before .before .before .before .before in
-    let at-read-old = at-epoch .before .before in
-    is-fitting _ _ _ _ (sym (at-epoch .epoch .given .1) ∙ at-read-old .read-old .ensures)
+    let e = c .before .before .before .before in
+    let u = fitting-turn (src (old e)) (at (old e)) (entered (old e) .loop-test .taken) _ _ _ (fitting e) in
+    (omega (arith, u .1), omega (arith, turn (old e) .loop .inv .0, u .0 .inside, u .0 .some-bytes, u .1, start (old e) .good))
 
 loop-less-2 : tie.Need-loop-less-2 Inv-loop μ-loop
 loop-less-2 c =
-    let at-loop-test = c .before .before .before .before .before .before .before .before .before .before .before .before in
-    let at-loop = at-loop-test .before in
-    let start = at-loop .before .before .before .before .before in
-    let u = fitting-turn (start .args .src .now) (at-loop .loop .at) (at-loop-test .loop-test .taken) _ _ _ (fitting c) in
+    let e = c .before .before .before .before .before .before .before .before .before in
+    let u = fitting-turn (src (old e)) (at (old e)) (entered (old e) .loop-test .taken) _ _ _ (fitting e) in
     omega (arith, u .0 .inside, u .0 .some-bytes, u .1)
 
 loop-again-2 : tie.Need-loop-again-2 Inv-loop μ-loop
 loop-again-2 c =
-    let at-list-fitting = c .before .before .before .before in
-    let at-epoch = at-list-fitting .before .before .before .before .before in
-    let at-loop-test = at-epoch .before .before .before in
-    let at-loop = at-loop-test .before in
-    let start = at-loop .before .before .before .before .before in
-    let a = start .args in
-    let l = at-loop .loop in
-    let v = at-epoch .epoch .given in
-    let e : ℕ = v .0 .0 in
-    let o = oldOf (l .at) e (v .0 .1 .0) (v .0 .1 .1 .0) in
-    let x = dropped (a .base) (not (eqb (getD (a .places .now) e 0) (l .at))) o in
-    let t = at-loop-test .loop-test .taken in
-    let u = fitting-turn (a .src .now) (l .at) t _ _ _ (fitting c) in
-    let r = at-list-fitting .list-fitting .ensures in
-    let step = lines-fitting (a .base) (a .places .now) (l .highest) (a .src .now) (l .at) t _ _ _ (fitting c) in
-    let h = ap (λ (n : ℕ). recordLines x (ltb e (l .highest)) o ++ linesFrom (a .base) (a .places .now) n (v .0 .1 .1 .0) (a .src .now))
-    (sym (r .1)) in (
-      omega (arith, r .0 .behind, record-few x (ltb e (l .highest)) o (u .0 .some-bytes), l .inv .0, u .0 .some-bytes, u .1),
+    let listed = c .before .before .before .before in
+    let e = listed .before .before .before .before .before in
+    let r = old e in
+    let i = turn r .loop .inv in
+    let t = entered r .loop-test .taken in
+    let highest = turn r .loop .highest in
+    let base = start r .args .base in
+    let o = oldOf (at r) (epoch e) (count e) (next e) in
+    let x = dropped base (not (eqb (getD (places r) (epoch e) 0) (at r))) o in
+    let u = fitting-turn (src r) (at r) t _ _ _ (fitting e) in
+    let l = listed .list-fitting .ensures in
+    let step = lines-fitting base (places r) highest (src r) (at r) t _ _ _ (fitting e) in
+    let h = ap (λ (n : ℕ). recordLines x (ltb (epoch e) highest) o ++ linesFrom base (places r) n (next e) (src r)) (sym (l .1)) in (
+      omega (arith, l .0 .behind, record-few x (ltb (epoch e) highest) o (u .0 .some-bytes), i .0, u .0 .some-bytes, u .1),
       omega (arith, u .0 .inside, u .1),
-      going-more (l .inv .2) _ _ _ _ _ (step ∙ h) (r .0),
+      going-more (i .2) _ _ _ _ _ (step ∙ h) (l .0),
     )
 
 returns-2 : tie.Need-returns-2 Inv-loop μ-loop
 returns-2 c =
-    let start = c .before .before .before .before .before .before in
-    let a = start .args in
+    let s = c .before .before .before .before .before .before in
     let l = c .before .loop in
-    going-done (l .inv .2) (lines-end (a .base) (a .places .now) (l .highest) (a .src .now) (l .at) (c .loop-test .left))
+    going-done (l .inv .2) (lines-end (s .args .base) (s .args .places .now) (l .highest) (s .args .src .now) (l .at) (c .loop-test .left))
 
 pub list-records-spec : {M : Type 1} → statement M
 list-records-spec =
@@ -154,36 +160,22 @@ list-records-spec =
     loop-holds
     (λ c κs. omega (arith, c .loop-test .taken))
     (λ c. search needs)
-    (λ c κs.
-    let at-loop-test = c .before .before .before .before .before in
-    let at-loop = at-loop-test .before in
-    let start = at-loop .before .before .before .before .before in
-    omega (arith, at-loop .loop .inv .0, at-loop-test .loop-test .taken, start .good))
+    (λ c κs. let r = c .before .before .before .before in omega (arith, turn r .loop .inv .0, entered r .loop-test .taken, start r .good))
     (λ c.
-    let at-put-line = c .before .before .before .before in
-    let at-loop = at-put-line .before .before .before .before .before .before .before in
-    at-put-line .put-line .kept .1 .1 .0 ∙ at-loop .loop .inv .2 .offsets-long)
+    let put = c .before .before .before .before in
+    put .put-line .kept .1 .1 .0 ∙ turn (cut put .before .before) .loop .inv .2 .offsets-long)
     (λ c.
-    let at-put-line = c .before .before .before .before in
-    let at-loop = at-put-line .before .before .before .before .before .before .before in
-    at-put-line .put-line .kept .1 .1 .1 .0 ∙ at-loop .loop .inv .2 .changes-long)
+    let put = c .before .before .before .before in
+    put .put-line .kept .1 .1 .1 .0 ∙ turn (cut put .before .before) .loop .inv .2 .changes-long)
     returns
     (λ c. search needs)
-    (λ c κs.
-    let at-loop-test = c .before .before .before .before .before .before in
-    let at-loop = at-loop-test .before in
-    let start = at-loop .before .before .before .before .before in
-    omega (arith, at-loop .loop .inv .0, at-loop-test .loop-test .taken, start .good))
+    (λ c κs. let r = c .before .before .before .before .before in omega (arith, turn r .loop .inv .0, entered r .loop-test .taken, start r .good))
     loop-less
     loop-again
     (λ c. search needs)
     (λ c. search needs)
-    (λ c.
-    let start = c .before .before .before .before .before .before .before .before .before .before in
-    omega (arith, c .known-told2 .given, start .pre .2))
-    (λ c.
-    let start = c .before .before .before .before .before .before .before .before .before .before .before in
-    omega (arith, c .before .known-told2 .given, start .pre .2))
+    (λ c. omega (arith, c .known-told2 .given, start (old (c .before)) .pre .2))
+    (λ c. omega (arith, c .before .known-told2 .given, start (old (c .before .before)) .pre .2))
     list-fitting-requires
     loop-less-2
     loop-again-2

@@ -26,60 +26,80 @@ loop-holds c =
     placing-start (a .id) (a .base) (a .epochs .now) (a .counts .now) (a .removed-bytes) (a .rows)
     (tables (a .ids .now) (a .row-epochs .now) (a .row-bytes .now)) (start .pre .0) (start .pre .1 .0) (start .pre .1 .1)
 
+-- from a turn of the loop back: there is something to split, the start
+module _ (c : tie.At-loop Inv-loop μ-loop) where
+  abbrev some : tie.Else1 Inv-loop μ-loop
+  some = c .before
+
+  abbrev start : tie.Start Inv-loop μ-loop
+  start = some .before .before .before .before .before
+
 returns-2 : tie.Need-returns-2 Inv-loop μ-loop
 returns-2 c =
-    let start = c .before .before .before .before .before .before .before .before in
-    placing-none (c .before .before .loop .inv) (omega (arith, c .before .before .before .if1 .left)) (start .args .rows) (start .pre .1 .0)
-    (c .if2 .taken)
+    let t = c .before .before in
+    placing-none (t .loop .inv) (omega (arith, some t .if1 .left)) (start t .args .rows) (start t .pre .1 .0) (c .if2 .taken)
+
+-- something is left, in a turn that was entered
+module _ (c : tie.Else2 Inv-loop μ-loop) where
+  abbrev entered : tie.In-loop Inv-loop μ-loop
+  entered = c .before
+
+  abbrev turn : tie.At-loop Inv-loop μ-loop
+  turn = entered .before
 
 sub-k : tie.Need-sub-k Inv-loop μ-loop
 sub-k c =
-    let start = c .before .before .before .before .before .before .before .before in
-    let l = c .before .before .loop in
-    placing-room (l .inv) (min (l .left) (getD (start .args .counts .now) (l .j - 1) 0 - minimum)) (c .before .loop-test .taken)
+    let l = turn c .loop in
+    placing-room (l .inv) (min (l .left) (getD (start (turn c) .args .counts .now) (l .j - 1) 0 - minimum)) (entered c .loop-test .taken)
     (omega (arith, c .if2 .left)) refl .0
+
+-- it is known what the record gives
+abbrev more : tie.After-gives Inv-loop μ-loop → tie.Else2 Inv-loop μ-loop
+more c = c .before .before
 
 put-row-requires : tie.Need-put-row-requires Inv-loop μ-loop
 put-row-requires c κs =
-    let at-gives = c .before .before .before .before in
-    let at-if2 = at-gives .before .before in
-    let at-loop-test = at-if2 .before in
-    let at-loop = at-loop-test .before in
-    placing-room (at-loop .loop .inv) (at-gives .gives .result) (at-loop-test .loop-test .taken) (omega (arith, at-if2 .if2 .left))
-    (at-gives .gives .ensures) .1
+    let g = c .before .before .before .before in
+    let m = more g in
+    placing-room (turn m .loop .inv) (g .gives .result) (entered m .loop-test .taken) (omega (arith, m .if2 .left)) (g .gives .ensures) .1
 
 loop-again : tie.Need-loop-again Inv-loop μ-loop
 loop-again c =
-    let at-put-row = c .before .before .before .before .before in
-    let at-gives = at-put-row .before .before .before .before .before in
-    let at-if2 = at-gives .before .before in
-    let at-loop-test = at-if2 .before in
-    let at-loop = at-loop-test .before in
-    placing-step (at-loop .loop .inv) (at-gives .gives .result) (at-loop-test .loop-test .taken) (omega (arith, at-if2 .if2 .left))
-    (at-gives .gives .ensures) (at-put-row .put-row .ensures)
+    let put = c .before .before .before .before .before in
+    let g = put .before .before .before .before .before in
+    let m = more g in
+    placing-step (turn m .loop .inv) (g .gives .result) (entered m .loop-test .taken) (omega (arith, m .if2 .left)) (g .gives .ensures)
+    (put .put-row .ensures)
+
+-- behind the loop something is left for the base
+module _ (c : tie.Then3 Inv-loop μ-loop) where
+  abbrev over : tie.After-loop Inv-loop μ-loop
+  over = c .before
+
+  abbrev last : tie.At-loop Inv-loop μ-loop
+  last = over .before
 
 put-row-requires-2 : tie.Need-put-row-requires-2 Inv-loop μ-loop
 put-row-requires-2 c κs =
-    let at-loop-test = c .before .before .before .before in
-    let at-loop = at-loop-test .before in
-    base-room (at-loop .loop .inv) (omega (arith, at-loop-test .loop-test .left)) (c .before .before .before .if3 .taken)
+    let b = c .before .before .before in
+    base-room (last b .loop .inv) (omega (arith, over b .loop-test .left)) (b .if3 .taken)
+
+-- the base's row is put
+abbrev for-base : tie.After-put-row2 Inv-loop μ-loop → tie.Then3 Inv-loop μ-loop
+for-base c = c .before .before .before .before
 
 returns-3 : tie.Need-returns-3 Inv-loop μ-loop
 returns-3 c =
-    let at-put-row2 = c .before .before .before .before .before in
-    let at-if3 = at-put-row2 .before .before .before .before in
-    let at-loop-test = at-if3 .before in
-    let at-loop = at-loop-test .before in
-    let at-if1 = at-loop .before in
-    let start = at-if1 .before .before .before .before .before in
-    base-placed (at-loop .loop .inv) (omega (arith, at-loop-test .loop-test .left)) (at-if3 .if3 .taken) (omega (arith, at-if1 .if1 .left))
-    (start .args .rows) (start .pre .1 .0) (at-put-row2 .put-row2 .ensures)
+    let put = c .before .before .before .before .before in
+    let b = for-base put in
+    let l = last b in
+    base-placed (l .loop .inv) (omega (arith, over b .loop-test .left)) (b .if3 .taken) (omega (arith, some l .if1 .left)) (start l .args .rows)
+    (start l .pre .1 .0) (put .put-row2 .ensures)
 
 returns-4 : tie.Need-returns-4 Inv-loop μ-loop
 returns-4 c =
-    let start = c .before .before .before .before .before .before .before .before in
-    placing-none (c .before .before .loop .inv) (omega (arith, c .before .before .before .if1 .left)) (start .args .rows) (start .pre .1 .0)
-    (omega (arith, c .if3 .left))
+    let l = c .before .before in
+    placing-none (l .loop .inv) (omega (arith, some l .if1 .left)) (start l .args .rows) (start l .pre .1 .0) (omega (arith, c .if3 .left))
 
 pub sectioned-storage-removal-spec : {M : Type 1} → statement M
 sectioned-storage-removal-spec =
@@ -95,37 +115,19 @@ sectioned-storage-removal-spec =
     returns-2
     (λ c. omega arith)
     sub-k
-    (λ c.
-    let start = c .before .before .before .before .before .before .before .before in
-    omega (arith, c .before .before .loop .inv .within, start .good))
-    (λ c. omega (arith, c .before .before .before .loop .inv .within))
+    (λ c. omega (arith, turn c .loop .inv .within, start (turn c) .good))
+    (λ c. omega (arith, turn (c .before) .loop .inv .within))
     (λ c κs. search needs)
-    (λ c.
-    let at-loop = c .before .before .before .before .before .before .before in
-    let start = at-loop .before .before .before .before .before .before in
-    omega (arith, at-loop .loop .inv .within, start .good))
-    (λ c.
-    let at-loop = c .before .before .before .before .before .before .before .before in
-    omega (arith, at-loop .loop .inv .within, at-loop .loop .inv .even))
+    (λ c. let t = c .before .before .before .before .before .before .before in omega (arith, t .loop .inv .within, start t .good))
+    (λ c. let t = c .before .before .before .before .before .before .before .before in omega (arith, t .loop .inv .within, t .loop .inv .even))
     put-row-requires
-    (λ c.
-    let at-gives = c .before .before .before .before .before .before .before .before .before .before in
-    omega (arith, at-gives .gives .ensures))
+    (λ c. let g = c .before .before .before .before .before .before .before .before .before .before in omega (arith, g .gives .ensures))
     (λ c. omega arith)
     loop-again
     put-row-requires-2
-    (λ c.
-    let at-put-row2 = c .before .before .before .before .before in
-    let at-loop = at-put-row2 .before .before .before .before .before .before in
-    at-put-row2 .put-row2 .kept .0 ∙ backing-long (at-loop .loop .inv .backing) .0)
-    (λ c.
-    let at-put-row2 = c .before .before .before .before .before in
-    let at-loop = at-put-row2 .before .before .before .before .before .before in
-    at-put-row2 .put-row2 .kept .1 .0 ∙ backing-long (at-loop .loop .inv .backing) .1)
-    (λ c.
-    let at-put-row2 = c .before .before .before .before .before in
-    let at-loop = at-put-row2 .before .before .before .before .before .before in
-    at-put-row2 .put-row2 .kept .1 .1 .0 ∙ backing-long (at-loop .loop .inv .backing) .2)
+    (λ c. let p = c .before .before .before .before .before in p .put-row2 .kept .0 ∙ backing-long (last (for-base p) .loop .inv .backing) .0)
+    (λ c. let p = c .before .before .before .before .before in p .put-row2 .kept .1 .0 ∙ backing-long (last (for-base p) .loop .inv .backing) .1)
+    (λ c. let p = c .before .before .before .before .before in p .put-row2 .kept .1 .1 .0 ∙ backing-long (last (for-base p) .loop .inv .backing) .2)
     returns-3
     (λ c. backing-long (c .before .before .loop .inv .backing) .0)
     (λ c. backing-long (c .before .before .loop .inv .backing) .1)

@@ -13,50 +13,54 @@ use Rattle.sums_spec.proofs.Losing.{basic-later, basic-made, basic-lost}
 use Rattle.sums.proofs.sum.add_rows_to_basic_for_version.Statement.{statement}
 use Rattle.sums.proofs.sum.add_rows_to_basic_for_version.Tie as tie
 
--- the right one's tables
-abbrev rhs : tie.Start → Tables
-rhs c = tables (c .args .rhs-ids .now) (c .args .rhs-epochs .now) (c .args .rhs-bytes .now)
+-- of what is given: the right one's tables, and what rows leave in ours
+module _ (s : tie.Start) where
+  abbrev rhs : Tables
+  rhs = tables (s .args .rhs-ids .now) (s .args .rhs-epochs .now) (s .args .rhs-bytes .now)
 
--- what rows leave in our tables
-abbrev left : tie.Start → List Row → After
-left c l = placing (sectioned l) (tables (c .args .ids .now) (c .args .epochs .now) (c .args .bytes .now))
+  abbrev left : List Row → After
+  left l = placing (sectioned l) (tables (s .args .ids .now) (s .args .epochs .now) (s .args .bytes .now))
 
 returns : tie.Need-returns
 returns c =
-    let at-add-rows-to-basic = c .before .before .before .before .before in
-    let at-if1 = at-add-rows-to-basic .before .before .before .before in
-    let b = at-if1 .before .before .before .before .before in
-    at-add-rows-to-basic .add-rows-to-basic .ensures ∙ ap (left b)
-    (sym (basic-later (b .args .version) (b .args .removed-bytes) _ (at-if1 .if1 .taken)))
+    let added = c .before .before .before .before .before in
+    let later = added .before .before .before .before in
+    let s = later .before .before .before .before .before in
+    added .add-rows-to-basic .ensures ∙ ap (left s) (sym (basic-later (s .args .version) (s .args .removed-bytes) _ (later .if1 .taken)))
+
+-- at version 0 the rows that are lost are counted
+module _ (c : tie.After-count-lost) where
+  abbrev first : tie.Else1
+  first = c .before
+
+  abbrev start : tie.Start
+  start = first .before .before .before .before .before
 
 returns-2 : tie.Need-returns-2
 returns-2 c =
-    let at-add-rows-to-basic2 = c .before .before .before .before .before in
-    let at-if2 = at-add-rows-to-basic2 .before .before .before .before in
-    let at-count-lost = at-if2 .before in
-    let b = at-count-lost .before .before .before .before .before .before in
-    at-add-rows-to-basic2 .add-rows-to-basic2 .ensures
-    ∙ ap (left b) (sym (basic-made (b .args .version) (b .args .removed-bytes) (at-count-lost .count-lost .ensures)
-    (omega (arith, at-if2 .if2 .taken))))
+    let added = c .before .before .before .before .before in
+    let made = added .before .before .before .before in
+    let l = made .before in
+    let a = start l .args in
+    added .add-rows-to-basic2 .ensures
+    ∙ ap (left (start l)) (sym (basic-made (a .version) (a .removed-bytes) (l .count-lost .ensures) (omega (arith, made .if2 .taken))))
 
 add-rows-requires : tie.Need-add-rows-requires
 add-rows-requires c κs =
-    let at-count-lost = c .before .before .before .before .before .before .before in
-    let start = at-count-lost .before .before .before .before .before .before in
-    (proper-none _, part-proper _ _ (rhs start) (at-count-lost .count-lost .ensures .within) (start .pre))
+    let l = c .before .before .before .before .before .before .before in
+    (proper-none _, part-proper _ _ (rhs (start l)) (l .count-lost .ensures .within) (start l .pre))
 
 returns-3 : tie.Need-returns-3
 returns-3 c =
-    let at-add-rows = c .before .before .before .before .before in
-    let at-if2 = at-add-rows .before .before .before .before .before .before .before in
-    let at-count-lost = at-if2 .before in
-    let at-if1 = at-count-lost .before in
-    let b = at-if1 .before .before .before .before .before in
-    let l = at-count-lost .count-lost .ensures in
-    at-add-rows .add-rows .ensures
-    ∙ ap (left b)
-    (joined-nothing _ ∙ part-rows _ _ (rhs b) (l .within)
-    ∙ sym (basic-lost (b .args .version) (b .args .removed-bytes) l (omega (arith, at-if1 .if1 .left)) (omega (arith, at-if2 .if2 .left))))
+    let added = c .before .before .before .before .before in
+    let lost = added .before .before .before .before .before .before .before in
+    let l = lost .before in
+    let a = start l .args in
+    let n = l .count-lost .ensures in
+    added .add-rows .ensures
+    ∙ ap (left (start l))
+    (joined-nothing _ ∙ part-rows _ _ (rhs (start l)) (n .within)
+    ∙ sym (basic-lost (a .version) (a .removed-bytes) n (omega (arith, first l .if1 .left)) (omega (arith, lost .if2 .left))))
 
 pub add-rows-to-basic-for-version-spec : {M : Type 1} → statement M
 add-rows-to-basic-for-version-spec =

@@ -19,28 +19,29 @@ loop-holds c =
     let start = c .before .before .before .before in
     let p = start .pre in walking-start _ _ _ _ _ (p .1 .1 .0) (p .1 .1 .1)
 
+-- from a turn of the loop to the start
+abbrev start : tie.At-loop Inv-loop μ-loop → tie.Start Inv-loop μ-loop
+start c = c .before .before .before .before .before
+
 last-row-requires : tie.Need-last-row-requires Inv-loop μ-loop
 last-row-requires c κs =
-    let at-loop = c .before .before .before .before in
-    let start = at-loop .before .before .before .before .before in
-    let p = start .pre in
-    let l = at-loop .loop .inv in
-    (walking-ours (p .0) (p .1 .0) l, (walking-theirs (p .0) (p .1 .0) l, c .before .before .before .loop-test .taken))
+    let t = c .before .before .before .before in
+    let p = start t .pre in
+    (walking-ours (p .0) (p .1 .0) (t .loop .inv), (walking-theirs (p .0) (p .1 .0) (t .loop .inv), c .before .before .before .loop-test .taken))
+
+-- the last row is known, and from there back to the turn
+abbrev turn : tie.After-last-row Inv-loop μ-loop → tie.At-loop Inv-loop μ-loop
+turn c = c .before .before .before .before .before
 
 loop-again : tie.Need-loop-again Inv-loop μ-loop
 loop-again c =
-    let at-put-row = c .before .before .before .before .before in
-    let at-last-row = at-put-row .before .before .before .before .before in
-    let at-loop = at-last-row .before .before .before .before .before in
-    let start = at-loop .before .before .before .before .before in
-    let p = start .pre in
-    walking-step (p .0) (p .1 .0) (at-loop .loop .inv) (at-last-row .last-row .ensures) (at-put-row .put-row .ensures)
+    let put = c .before .before .before .before .before in
+    let l = put .before .before .before .before .before in
+    let p = start (turn l) .pre in
+    walking-step (p .0) (p .1 .0) (turn l .loop .inv) (l .last-row .ensures) (put .put-row .ensures)
 
 returns : tie.Need-returns Inv-loop μ-loop
-returns c =
-    let start = c .before .before .before .before .before .before in
-    let p = start .pre in
-    walking-done (p .0) (p .1 .0) (c .before .loop .inv) (c .loop-test .left)
+returns c = let p = start (c .before) .pre in walking-done (p .0) (p .1 .0) (c .before .loop .inv) (c .loop-test .left)
 
 pub join-in-place-spec : {M : Type 1} → statement M
 join-in-place-spec =
@@ -50,18 +51,12 @@ join-in-place-spec =
     μ-loop
     loop-holds
     last-row-requires
-    (λ c.
-    let at-loop = c .before .before .before .before .before in
-    let start = at-loop .before .before .before .before .before in
-    let p = start .pre in omega (arith, walking-room (p .0) (p .1 .0) (at-loop .loop .inv) (c .last-row .ensures) .0))
+    (λ c. let p = start (turn c) .pre in omega (arith, walking-room (p .0) (p .1 .0) (turn c .loop .inv) (c .last-row .ensures) .0))
     (λ c κs.
-    let at-last-row = c .before .before .before .before in
-    let at-loop = at-last-row .before .before .before .before .before in
-    let start = at-loop .before .before .before .before .before in
-    let p = start .pre in walking-room (p .0) (p .1 .0) (at-loop .loop .inv) (at-last-row .last-row .ensures) .1)
-    (λ c.
-    let at-last-row = c .before .before .before .before .before .before .before .before .before .before in
-    at-last-row .last-row .ensures .falls)
+    let l = c .before .before .before .before in
+    let p = start (turn l) .pre in
+    walking-room (p .0) (p .1 .0) (turn l .loop .inv) (l .last-row .ensures) .1)
+    (λ c. let l = c .before .before .before .before .before .before .before .before .before .before in l .last-row .ensures .falls)
     loop-again
     (λ c. backing-long (c .before .loop .inv .back) .0)
     (λ c. backing-long (c .before .loop .inv .back) .1)

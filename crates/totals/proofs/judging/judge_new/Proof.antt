@@ -1,9 +1,11 @@
 -- `totals::judging::judge_new` meets its contract: what was judged and what is left to judge make the whole. Assumes nothing.
-use mathlib.Core.Path.{_≡_, ap, _∙_}
+use mathlib.Core.Path.{_≡_, ap, ap₂, _∙_}
+use mathlib.Core.Bool.{cond, _&&_}
 use mathlib.Core.List.{List, _∷_}
-use Prim.Native.Nat.{_+_, _-_, _≤_}
+use Prim.Native.Nat.{ℕ, _+_, _-_, _≤_}
 use native.Mathlib.Omega.{arith}
 use borrow.Author.Needs.{needs}
+use lib.Dec.{ltb, eqb}
 use lib.ListN.{length, drop, getD}
 use Rattle.rows_spec.specs.Rows.{Row, row, tables, rowsIn}
 use Rattle.rows_spec.proofs.Comparing.{self-same}
@@ -26,65 +28,74 @@ Inv-loop owners epochs totals n old-owner old-epochs old-counts new-owner new-ep
 abbrev μ-loop : tie.MeasureT-loop
 μ-loop owners epochs totals n old-owner old-epochs old-counts new-owner new-epochs new-counts made₀ i₀ made i = length new-epochs - i
 
--- the new row at hand, the table and the old rows
-abbrev new : tie.After-count-at Inv-loop μ-loop → Row
-new c =
-    let at-loop = c .before .before .before .before .before in
-    let start = at-loop .before .before .before .before .before .before .before in
-    let a = start .args in let i = at-loop .loop .i in row (a .new-owner) (getD (a .new-epochs .now) i 0) (getD (a .new-counts .now) i 0)
+-- from a turn of the loop to the start
+abbrev start : tie.At-loop Inv-loop μ-loop → tie.Start Inv-loop μ-loop
+start c = c .before .before .before .before .before .before .before
 
-abbrev table : tie.After-count-at Inv-loop μ-loop → List Row
-table c =
-    let start = c .before .before .before .before .before .before .before .before .before .before .before .before in
-    let a = start .args in rowsIn (a .n) (tables (a .owners .now) (a .epochs .now) (a .totals .now))
-
-abbrev olds : tie.After-count-at Inv-loop μ-loop → List Row
-olds c =
-    let start = c .before .before .before .before .before .before .before .before .before .before .before .before in
-    let a = start .args in under (a .old-owner) (a .old-epochs .now) (a .old-counts .now)
-
+-- the old count is known, and from there back: the total was looked up, the turn was entered, the loop stood
 module _ (c : tie.After-count-at Inv-loop μ-loop) where
-  found : c .before .look-up .result .total ≡ totalAt (new c) (table c)
-  found = ap (λ (s : Spot). s .total) (c .before .look-up .ensures) ∙ total-same _ (new c) (table c) (self-same (new c))
+  abbrev looked : tie.After-look-up Inv-loop μ-loop
+  looked = c .before
 
-  taken : c .count-at .result ≡ totalAt (new c) (olds c)
-  taken = c .count-at .ensures ∙ total-same _ (new c) (olds c) (self-same (new c))
+  abbrev entered : tie.In-loop Inv-loop μ-loop
+  entered = looked .before .before .before
+
+  abbrev turn : tie.At-loop Inv-loop μ-loop
+  turn = entered .before
+
+  abbrev given : tie.Start Inv-loop μ-loop
+  given = start turn
+
+  abbrev i : ℕ
+  i = turn .loop .i
+
+  -- the new row at hand, the table, the old rows and the new ones
+  abbrev new : Row
+  new = row (given .args .new-owner) (getD (given .args .new-epochs .now) i 0) (getD (given .args .new-counts .now) i 0)
+
+  abbrev table : List Row
+  table = rowsIn (given .args .n) (tables (given .args .owners .now) (given .args .epochs .now) (given .args .totals .now))
+
+  abbrev olds : List Row
+  olds = under (given .args .old-owner) (given .args .old-epochs .now) (given .args .old-counts .now)
+
+  abbrev news : List Row
+  news = under (given .args .new-owner) (given .args .new-epochs .now) (given .args .new-counts .now)
+
+  found : looked .look-up .result .total ≡ totalAt new table
+  found = ap (λ (s : Spot). s .total) (looked .look-up .ensures) ∙ total-same _ new table (self-same new)
+
+  taken : c .count-at .result ≡ totalAt new olds
+  taken = c .count-at .ensures ∙ total-same _ new olds (self-same new)
 
   -- the total holds the old count
-  enough : c .count-at .result ≤ c .before .look-up .result .total
+  enough : c .count-at .result ≤ looked .look-up .result .total
   enough =
-      let start = c .before .before .before .before .before .before .before .before .before .before .before .before in
-      let p = start .pre .1 in
-      omega (arith, found, taken, covered-total (table c) (olds c) (under-ascends _ (p .0)) (p .1 .1) (new c))
+      let p = given .pre .1 in
+      omega (arith, found, taken, covered-total table olds (under-ascends _ (p .0)) (p .1 .1) new)
 
-  next :
-      let at-loop = c .before .before .before .before .before in
-      let start = at-loop .before .before .before .before .before .before .before in
-      drop (at-loop .loop .i) (under (start .args .new-owner) (start .args .new-epochs .now) (start .args .new-counts .now))
-      ≡ new c ∷ drop (at-loop .loop .i + 1) (under (start .args .new-owner) (start .args .new-epochs .now) (start .args .new-counts .now))
-  next =
-      let at-loop-test = c .before .before .before .before in
-      let at-loop = at-loop-test .before in
-      let start = at-loop .before .before .before .before .before .before .before in
-      under-on _ (start .pre .1 .1 .0) (at-loop .loop .i) (at-loop-test .loop-test .taken)
+  next : drop i news ≡ new ∷ drop (i + 1) news
+  next = under-on _ (given .pre .1 .1 .0) i (entered .loop-test .taken)
 
 returns : tie.Need-returns Inv-loop μ-loop
 returns c =
     let b = c .before in
-    let at-loop = b .before .before .before .before .before in
-    news-over (new b) _ (next b) (at-loop .loop .inv .2) (omega (arith, found b, taken b, enough b, c .if1 .taken))
+    news-over (new b) _ (next b) (turn b .loop .inv .2) (omega (arith, found b, taken b, enough b, c .if1 .taken))
 
 loop-again : tie.Need-loop-again Inv-loop μ-loop
 loop-again c =
     let b = c .before .before in
-    let at-loop-test = b .before .before .before .before in
-    let at-loop = at-loop-test .before in
-    let l = at-loop .loop in (
-      omega (arith, at-loop-test .loop-test .taken),
-      omega (arith, l .inv .1, c .one-if .ensures .1),
-      news-step (new b) _ (next b) (l .inv .2) (omega (arith, found b, taken b, enough b, c .before .if1 .left))
-          (c .one-if .ensures .0 ∙ rw (found b, taken b)),
+    let l = turn b .loop .inv in
+    let one = c .one-if .ensures .0 ∙ ap₂ (λ (x y : ℕ). cond (ltb 0 (new b .part .bytes) && eqb (x - y) 0) 1 0) (found b) (taken b) in (
+      omega (arith, entered b .loop-test .taken),
+      omega (arith, l .1, c .one-if .ensures .1),
+      news-step (new b) _ (next b) (l .2) (omega (arith, found b, taken b, enough b, c .before .if1 .left)) one,
     )
+
+add-made : tie.Need-add-made Inv-loop μ-loop
+add-made c =
+    let b = c .before .before in
+    omega (arith, entered b .loop-test .taken, turn b .loop .inv .1, c .one-if .ensures .1, given b .good)
 
 pub judge-new-spec : {M : Type 1} → statement M
 judge-new-spec =
@@ -96,33 +107,16 @@ judge-new-spec =
     (λ c. search needs)
     (λ c. c .before .loop-test .taken)
     (λ c. search needs)
-    (λ c.
-    let start = c .before .before .before .before .before .before .before .before .before .before in
-    omega (arith, c .before .before .loop-test .taken, start .pre .1 .1 .0 .even))
+    (λ c. omega (arith, c .before .before .loop-test .taken, start (c .before .before .before) .pre .1 .1 .0 .even))
     (λ c. omega (arith, c .shared-slice-known8 .given (c .before .before .before .loop .i)))
-    (λ c κs.
-    let start = c .before .before .before .before .before .before .before .before .before .before in
-    start .pre .0)
-    (λ c κs.
-    let start = c .before .before .before .before .before .before .before .before .before .before .before in
-    start .pre .1 .0)
+    (λ c κs. start (c .before .before .before) .pre .0)
+    (λ c κs. let t = c .before .before .before .before in start t .pre .1 .0)
     (λ c. enough c)
     (λ c. search needs)
     returns
     (λ c κs. search needs)
-    (λ c.
-    let at-loop-test = c .before .before .before .before .before .before in
-    let at-loop = at-loop-test .before in
-    let start = at-loop .before .before .before .before .before .before .before in
-    omega (arith, at-loop-test .loop-test .taken, at-loop .loop .inv .1, c .one-if .ensures .1, start .good))
-    (λ c.
-    let at-loop-test = c .before .before .before .before .before .before in
-    let start = at-loop-test .before .before .before .before .before .before .before .before in
-    omega (arith, at-loop-test .loop-test .taken, start .good))
-    (λ c.
-    let at-loop-test = c .before .before .before .before .before .before in
-    omega (arith, at-loop-test .loop-test .taken))
+    add-made
+    (λ c. let b = c .before .before in omega (arith, entered b .loop-test .taken, given b .good))
+    (λ c. omega (arith, entered (c .before .before) .loop-test .taken))
     loop-again
-    (λ c.
-    let start = c .before .before .before .before .before .before .before .before in
-    news-end (under-end _ (start .pre .1 .1 .0) _ (c .loop-test .left)) (c .before .loop .inv .2)))
+    (λ c. news-end (under-end _ (start (c .before) .pre .1 .1 .0) _ (c .loop-test .left)) (c .before .loop .inv .2)))

@@ -1,9 +1,11 @@
 -- `totals::judging::judge_old` meets its contract: what was judged and what is left to judge make the whole. Assumes nothing.
 use mathlib.Core.Path.{_≡_, ap, _∙_}
-use Prim.Native.Nat.{_-_, _≤_}
+use Prim.Native.Nat.{ℕ, _+_, _-_, _≤_}
 use native.Mathlib.Omega.{arith}
 use borrow.Author.Needs.{needs}
-use mathlib.Core.List.{List}
+use mathlib.Core.Bool.{cond, _&&_}
+use mathlib.Core.List.{List, _∷_}
+use lib.Dec.{ltb, eqb}
 use lib.ListN.{length, drop, getD}
 use Rattle.rows_spec.specs.Rows.{Row, row, tables, rowsIn}
 use Rattle.rows_spec.proofs.Comparing.{self-same}
@@ -24,43 +26,62 @@ Inv-loop owners epochs totals n owner old-epochs old-counts gone₀ i₀ gone i 
 abbrev μ-loop : tie.MeasureT-loop
 μ-loop owners epochs totals n owner old-epochs old-counts gone₀ i₀ gone i = length old-epochs - i
 
--- the old row at hand, and the total that was found for it
-abbrev old : tie.After-look-up Inv-loop μ-loop → Row
-old c =
-    let at-loop = c .before .before .before .before in
-    let start = at-loop .before .before .before .before .before in
-    let a = start .args in let i = at-loop .loop .i in row (a .owner) (getD (a .old-epochs .now) i 0) (getD (a .old-counts .now) i 0)
+-- from a turn of the loop to the start
+abbrev start : tie.At-loop Inv-loop μ-loop → tie.Start Inv-loop μ-loop
+start c = c .before .before .before .before .before
 
-abbrev table : tie.After-look-up Inv-loop μ-loop → List Row
-table c =
-    let start = c .before .before .before .before .before .before .before .before .before in
-    let a = start .args in rowsIn (a .n) (tables (a .owners .now) (a .epochs .now) (a .totals .now))
+-- the total is looked up, and from there back: the turn was entered, the loop stood
+module _ (c : tie.After-look-up Inv-loop μ-loop) where
+  abbrev entered : tie.In-loop Inv-loop μ-loop
+  entered = c .before .before .before
 
-found : (c : tie.After-look-up Inv-loop μ-loop) → c .look-up .result .total ≡ totalAt (old c) (table c)
-found c = ap (λ (s : Spot). s .total) (c .look-up .ensures) ∙ total-same _ (old c) (table c) (self-same (old c))
+  abbrev turn : tie.At-loop Inv-loop μ-loop
+  turn = entered .before
+
+  abbrev given : tie.Start Inv-loop μ-loop
+  given = start turn
+
+  abbrev i : ℕ
+  i = turn .loop .i
+
+  -- the old row at hand, the table and the old rows
+  abbrev old : Row
+  old = row (given .args .owner) (getD (given .args .old-epochs .now) i 0) (getD (given .args .old-counts .now) i 0)
+
+  abbrev table : List Row
+  table = rowsIn (given .args .n) (tables (given .args .owners .now) (given .args .epochs .now) (given .args .totals .now))
+
+  abbrev olds : List Row
+  olds = under (given .args .owner) (given .args .old-epochs .now) (given .args .old-counts .now)
+
+  found : c .look-up .result .total ≡ totalAt old table
+  found = ap (λ (s : Spot). s .total) (c .look-up .ensures) ∙ total-same _ old table (self-same old)
+
+  next : drop i olds ≡ old ∷ drop (i + 1) olds
+  next = under-on _ (given .pre .1) i (entered .loop-test .taken)
 
 short : tie.Need-returns Inv-loop μ-loop
 short c =
-    let at-loop-test = c .before .before .before .before in
-    let at-loop = at-loop-test .before in
-    let start = at-loop .before .before .before .before .before in
-    let l = at-loop .loop in
-    olds-short (old (c .before)) _ (under-on _ (start .pre .1) (l .i) (at-loop-test .loop-test .taken)) (l .inv .2)
-    (rw (← found (c .before)) (c .if1 .taken))
+    let l = c .before in
+    olds-short (old l) _ (next l) (turn l .loop .inv .2) (rw (← found l) (c .if1 .taken))
 
 loop-again : tie.Need-loop-again Inv-loop μ-loop
 loop-again c =
-    let at-loop-test = c .before .before .before .before .before in
-    let at-loop = at-loop-test .before in
-    let start = at-loop .before .before .before .before .before in
-    let l = at-loop .loop in
-    let t = at-loop-test .loop-test .taken in
-    let o = old (c .before .before) in
-    let held : o .part .bytes ≤ totalAt o (table (c .before .before)) = rw (← found (c .before .before)) (c .before .if1 .left) in (
+    let l = c .before .before in
+    let v = turn l .loop .inv in
+    let t = entered l .loop-test .taken in
+    let o = old l .part .bytes in
+    let held : o ≤ totalAt (old l) (table l) = rw (← found l) (c .before .if1 .left) in
+    let one = c .one-if .ensures .0 ∙ ap (λ (x : ℕ). cond (ltb 0 o && eqb x o) 1 0) (found l) in (
       omega arith,
-      omega (arith, l .inv .1, c .one-if .ensures .1),
-      olds-step o _ (under-on _ (start .pre .1) (l .i) t) (l .inv .2) held (c .one-if .ensures .0 ∙ rw (found (c .before .before))),
+      omega (arith, v .1, c .one-if .ensures .1),
+      olds-step (old l) _ (next l) (v .2) held one,
     )
+
+add-gone : tie.Need-add-gone Inv-loop μ-loop
+add-gone c =
+    let l = c .before .before in
+    omega (arith, entered l .loop-test .taken, turn l .loop .inv .1, c .one-if .ensures .1, given l .good)
 
 pub judge-old-spec : {M : Type 1} → statement M
 judge-old-spec =
@@ -70,26 +91,15 @@ judge-old-spec =
     μ-loop
     (λ c. (omega arith, omega arith, olds-start _ _))
     (λ c. search needs)
-    (λ c.
-    let start = c .before .before .before .before .before .before .before in
-    omega (arith, c .before .loop-test .taken, start .pre .1 .even))
+    (λ c. omega (arith, c .before .loop-test .taken, start (c .before .before) .pre .1 .even))
     (λ c. omega (arith, c .shared-slice-known5 .given (c .before .before .loop .i)))
     (λ c. search needs)
     (λ c. c .before .before .loop-test .taken)
-    (λ c κs. let start = c .before .before .before .before .before .before .before .before in start .pre .0)
+    (λ c κs. start (c .before .before .before) .pre .0)
     short
     (λ c κs. search needs)
-    (λ c.
-    let at-loop-test = c .before .before .before .before .before in
-    let at-loop = at-loop-test .before in
-    let start = at-loop .before .before .before .before .before in
-    omega (arith, at-loop-test .loop-test .taken, at-loop .loop .inv .1, c .one-if .ensures .1, start .good))
-    (λ c.
-    let at-loop-test = c .before .before .before .before .before in
-    let start = at-loop-test .before .before .before .before .before .before in
-    omega (arith, at-loop-test .loop-test .taken, start .good))
-    (λ c. let at-loop-test = c .before .before .before .before .before in omega (arith, at-loop-test .loop-test .taken))
+    add-gone
+    (λ c. let l = c .before .before in omega (arith, entered l .loop-test .taken, given l .good))
+    (λ c. omega (arith, entered (c .before .before) .loop-test .taken))
     loop-again
-    (λ c.
-    let start = c .before .before .before .before .before .before in
-    olds-end (under-end _ (start .pre .1) _ (c .loop-test .left)) (c .before .loop .inv .2)))
+    (λ c. olds-end (under-end _ (start (c .before) .pre .1) _ (c .loop-test .left)) (c .before .loop .inv .2)))

@@ -1,4 +1,5 @@
--- `totals_index_judging::judging::count_named` meets its contract: what is named stands in the first places of its tables, where `count_at` looks it up.
+-- `totals_index_judging::judging::count_named` meets its contract: what is named stands in the first places of its tables, where `count_at`
+-- looks it up.
 -- Assumes nothing.
 use borrow.Author.Needs.{needs}
 use Rattle.totals_index_spec.proofs.Fitting.{first-long}

@@ -1,4 +1,5 @@
--- `totals_index_work::work::replace_in` meets its contract, by the answer of the test: `totals::replace` does what it promises, or the refusal is told.
+-- `totals_index_work::work::replace_in` meets its contract, by the answer of the test: `totals::replace` does what it promises, or the refusal
+-- is told.
 -- Assumes nothing.
 use mathlib.Core.Path.{sym, _∙_}
 use borrow.Author.Needs.{needs}

@@ -23,13 +23,28 @@ loop-holds c =
     let p = c .before .pre in
     (p .0 .0, omega arith, p .0 .1, down-start _ _ _ _ refl, down-start _ _ _ _ refl, down-start _ _ _ _ refl)
 
+-- in a turn, from there back: the loop stood, the start
+module _ (c : tie.In-loop Inv-loop μ-loop) where
+  abbrev turn : tie.At-loop Inv-loop μ-loop
+  turn = c .before
+
+  abbrev start : tie.Start Inv-loop μ-loop
+  start = turn .before .before
+
+  -- the place that is read stands in each column, and so does the place that is written
+  room : (turn .loop .i < length (turn .loop .owners)) × (turn .loop .i < length (turn .loop .epochs)) × (turn .loop .i < length (turn .loop .totals))
+  room =
+      let i = turn .loop .inv in
+      let r = start .pre .1 in
+      let t = c .loop-test .taken in
+      (omega (arith, i .3 .long, r .ids-long), omega (arith, i .4 .long, r .epochs-long), omega (arith, i .5 .long, r .bytes-long))
+
 loop-again : tie.Need-loop-again Inv-loop μ-loop
 loop-again c =
-    let at-loop = c .before .before .before .before in
-    let start = at-loop .before .before in
-    let i = at-loop .loop .inv in
-    let r = start .pre .1 in
-    let t = c .before .before .before .loop-test .taken in (
+    let e = c .before .before .before in
+    let i = turn e .loop .inv in
+    let r = start e .pre .1 in
+    let t = e .loop-test .taken in (
       omega (arith, i .0),
       omega (arith, i .1),
       omega arith,
@@ -44,15 +59,6 @@ returns c =
     let r = c .before .before .before .pre .1 in
     let l = c .loop-test .left in
     three (down-done (i .3) (r .ids-long) l) (down-done (i .4) (r .epochs-long) l) (down-done (i .5) (r .bytes-long) l)
-
--- the place that is read stands in each column, and so does the place that is written
-room : (c : tie.In-loop Inv-loop μ-loop) → (c .before .loop .i < length (c .before .loop .owners))
-    × (c .before .loop .i < length (c .before .loop .epochs)) × (c .before .loop .i < length (c .before .loop .totals))
-room c =
-    let i = c .before .loop .inv in
-    let r = c .before .before .before .pre .1 in
-    let t = c .loop-test .taken in
-    (omega (arith, i .3 .long, r .ids-long), omega (arith, i .4 .long, r .epochs-long), omega (arith, i .5 .long, r .bytes-long))
 
 returns-2 : tie.Need-returns-2 Inv-loop μ-loop
 returns-2 c =
@@ -69,38 +75,20 @@ move-down-spec =
     Inv-loop
     μ-loop
     loop-holds
-    (λ c. omega (arith, room c .0, c .before .loop .inv .3 .long, c .before .before .before .good))
+    (λ c. omega (arith, room c .0, turn c .loop .inv .3 .long, start c .good))
     (λ c. room c .0)
-    (λ c.
-    let start = c .before .before .before .before in
-    omega (arith, room (c .before) .0, c .before .before .loop .inv .0, c .before .before .loop .inv .3 .long, start .good))
-    (λ c. omega (arith, room (c .before) .0, c .before .before .loop .inv .0))
-    (λ c.
-    let start = c .before .before .before .before in
-    omega (arith, room (c .before) .1, c .before .before .loop .inv .4 .long, start .good))
+    (λ c. let e = c .before in omega (arith, room e .0, turn e .loop .inv .0, turn e .loop .inv .3 .long, start e .good))
+    (λ c. let e = c .before in omega (arith, room e .0, turn e .loop .inv .0))
+    (λ c. let e = c .before in omega (arith, room e .1, turn e .loop .inv .4 .long, start e .good))
     (λ c. room (c .before .before) .1)
-    (λ c.
-    let start = c .before .before .before .before .before in
-    omega (arith, room (c .before .before) .1, c .before .before .before .loop .inv .0, c .before .before .before .loop .inv .4 .long, start .good))
-    (λ c. omega (arith, room (c .before .before) .1, c .before .before .before .loop .inv .0))
-    (λ c.
-    let start = c .before .before .before .before .before in
-    omega (arith, room (c .before .before) .2, c .before .before .before .loop .inv .5 .long, start .good))
+    (λ c. let e = c .before .before in omega (arith, room e .1, turn e .loop .inv .0, turn e .loop .inv .4 .long, start e .good))
+    (λ c. let e = c .before .before in omega (arith, room e .1, turn e .loop .inv .0))
+    (λ c. let e = c .before .before in omega (arith, room e .2, turn e .loop .inv .5 .long, start e .good))
     (λ c. room (c .before .before .before) .2)
-    (λ c.
-    let at-loop = c .before .before .before .before in
-    let start = at-loop .before .before in
-    omega (arith, room (c .before .before .before) .2, at-loop .loop .inv .0, at-loop .loop .inv .5 .long, start .good))
-    (λ c.
-    let at-loop = c .before .before .before .before in
-    omega (arith, room (c .before .before .before) .2, at-loop .loop .inv .0))
-    (λ c.
-    let start = c .before .before .before .before .before .before in
-    omega (arith, c .before .before .before .loop-test .taken, start .fits))
-    (λ c.
-    let at-loop = c .before .before .before .before in
-    let start = at-loop .before .before in
-    omega (arith, c .before .before .before .loop-test .taken, at-loop .loop .inv .0, start .fits))
+    (λ c. let e = c .before .before .before in omega (arith, room e .2, turn e .loop .inv .0, turn e .loop .inv .5 .long, start e .good))
+    (λ c. let e = c .before .before .before in omega (arith, room e .2, turn e .loop .inv .0))
+    (λ c. let e = c .before .before .before in omega (arith, e .loop-test .taken, start e .fits))
+    (λ c. let e = c .before .before .before in omega (arith, e .loop-test .taken, turn e .loop .inv .0, start e .fits))
     (λ c. omega (arith, c .before .before .before .loop-test .taken))
     loop-again
     (λ c. c .before .loop .inv .3 .long)

@@ -30,15 +30,35 @@ loop-holds c =
       up-start _ _ _ (omega (arith, p .0 .1, r .bytes-long)),
     )
 
+-- in a turn, from there back: the loop stood, the start
+module _ (c : tie.In-loop Inv-loop μ-loop) where
+  abbrev turn : tie.At-loop Inv-loop μ-loop
+  turn = c .before
+
+  abbrev start : tie.Start Inv-loop μ-loop
+  start = turn .before .before
+
+  -- the place that is written stands in each column, and so does the place that is read
+  room : (turn .loop .k ≤ length (turn .loop .owners)) × (turn .loop .k ≤ length (turn .loop .epochs)) × (turn .loop .k ≤ length (turn .loop .totals))
+      × (turn .loop .i ≤ turn .loop .k)
+  room =
+      let i = turn .loop .inv in
+      let r = start .pre .1 in
+      let k : turn .loop .k ≤ start .args .end = omega (arith, i .0, i .2) in (
+        omega (arith, up-long (i .3), r .ids-long),
+        omega (arith, up-long (i .4), r .epochs-long),
+        omega (arith, up-long (i .5), r .bytes-long),
+        omega (arith, i .0, start .pre .0 .1),
+      )
+
 loop-again : tie.Need-loop-again Inv-loop μ-loop
 loop-again c =
-    let at-loop = c .before .before .before .before in
-    let start = at-loop .before .before in
-    let i = at-loop .loop .inv in
-    let p = start .pre in
+    let e = c .before .before .before in
+    let i = turn e .loop .inv in
+    let p = start e .pre in
     let r = p .1 in
-    let t = c .before .before .before .loop-test .taken in
-    let k : at-loop .loop .i ≤ at-loop .loop .k = omega (arith, i .0, p .0 .1) in (
+    let t = e .loop-test .taken in
+    let k = room e .3 in (
       omega (arith, i .0),
       omega arith,
       omega (arith, i .2),
@@ -50,27 +70,12 @@ loop-again c =
 returns : tie.Need-returns Inv-loop μ-loop
 returns c =
     let i = c .before .loop .inv in
-    let p = c .before .before .before .pre .0 in
+    let s = c .before .before .before in
+    let a = s .args in
     let l = c .loop-test .left in
-    let e : c .before .loop .i ≡ c .before .before .before .args .from = omega (arith, i .1) in
-    let k : c .before .loop .k ≡ c .before .before .before .args .end
-    - (c .before .before .before .args .upto - c .before .before .before .args .from) = omega (arith, i .0, p .0, p .1) in
+    let e : c .before .loop .i ≡ a .from = omega (arith, i .1) in
+    let k : c .before .loop .k ≡ a .end - (a .upto - a .from) = omega (arith, i .0, s .pre .0 .0, s .pre .0 .1) in
     three (up-done (i .3) e k) (up-done (i .4) e k) (up-done (i .5) e k)
-
--- the place that is written stands in each column, and so does the place that is read
-room : (c : tie.In-loop Inv-loop μ-loop) → (c .before .loop .k ≤ length (c .before .loop .owners))
-    × (c .before .loop .k ≤ length (c .before .loop .epochs)) × (c .before .loop .k ≤ length (c .before .loop .totals))
-    × (c .before .loop .i ≤ c .before .loop .k)
-room c =
-    let i = c .before .loop .inv in
-    let p = c .before .before .before .pre in
-    let r = p .1 in
-    let k : c .before .loop .k ≤ c .before .before .before .args .end = omega (arith, i .0, i .2) in (
-      omega (arith, up-long (i .3), r .ids-long),
-      omega (arith, up-long (i .4), r .epochs-long),
-      omega (arith, up-long (i .5), r .bytes-long),
-      omega (arith, i .0, p .0 .1),
-    )
 
 returns-2 : tie.Need-returns-2 Inv-loop μ-loop
 returns-2 c =
@@ -93,29 +98,18 @@ move-up-spec =
     loop-holds
     (λ c. omega (arith, c .loop-test .taken))
     (λ c. omega (arith, c .loop-test .taken, room c .3))
-    (λ c. omega (arith, room c .0, room c .3, up-long (c .before .loop .inv .3), c .before .before .before .good))
+    (λ c. omega (arith, room c .0, room c .3, up-long (turn c .loop .inv .3), start c .good))
     (λ c. omega (arith, room c .0, room c .3, c .loop-test .taken))
-    (λ c.
-    let start = c .before .before .before .before in
-    omega (arith, room (c .before) .0, up-long (c .before .before .loop .inv .3), start .good))
-    (λ c. omega (arith, room (c .before) .0, room (c .before) .3, c .before .loop-test .taken))
-    (λ c.
-    let start = c .before .before .before .before in
-    omega (arith, room (c .before) .1, room (c .before) .3, up-long (c .before .before .loop .inv .4), start .good))
-    (λ c. omega (arith, room (c .before .before) .1, room (c .before .before) .3, c .before .before .loop-test .taken))
-    (λ c.
-    let start = c .before .before .before .before .before in
-    omega (arith, room (c .before .before) .1, up-long (c .before .before .before .loop .inv .4), start .good))
-    (λ c. omega (arith, room (c .before .before) .1, room (c .before .before) .3, c .before .before .loop-test .taken))
-    (λ c.
-    let start = c .before .before .before .before .before in
-    omega (arith, room (c .before .before) .2, room (c .before .before) .3, up-long (c .before .before .before .loop .inv .5), start .good))
-    (λ c. omega (arith, room (c .before .before .before) .2, room (c .before .before .before) .3, c .before .before .before .loop-test .taken))
-    (λ c.
-    let at-loop = c .before .before .before .before in
-    let start = at-loop .before .before in
-    omega (arith, room (c .before .before .before) .2, up-long (at-loop .loop .inv .5), start .good))
-    (λ c. omega (arith, room (c .before .before .before) .2, room (c .before .before .before) .3, c .before .before .before .loop-test .taken))
+    (λ c. let e = c .before in omega (arith, room e .0, up-long (turn e .loop .inv .3), start e .good))
+    (λ c. let e = c .before in omega (arith, room e .0, room e .3, e .loop-test .taken))
+    (λ c. let e = c .before in omega (arith, room e .1, room e .3, up-long (turn e .loop .inv .4), start e .good))
+    (λ c. let e = c .before .before in omega (arith, room e .1, room e .3, e .loop-test .taken))
+    (λ c. let e = c .before .before in omega (arith, room e .1, up-long (turn e .loop .inv .4), start e .good))
+    (λ c. let e = c .before .before in omega (arith, room e .1, room e .3, e .loop-test .taken))
+    (λ c. let e = c .before .before in omega (arith, room e .2, room e .3, up-long (turn e .loop .inv .5), start e .good))
+    (λ c. let e = c .before .before .before in omega (arith, room e .2, room e .3, e .loop-test .taken))
+    (λ c. let e = c .before .before .before in omega (arith, room e .2, up-long (turn e .loop .inv .5), start e .good))
+    (λ c. let e = c .before .before .before in omega (arith, room e .2, room e .3, e .loop-test .taken))
     (λ c. omega (arith, c .before .before .before .loop-test .taken))
     loop-again
     (λ c. up-long (c .before .loop .inv .3))

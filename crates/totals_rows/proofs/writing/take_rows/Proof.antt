@@ -1,12 +1,14 @@
 -- `totals_rows::writing::take_rows` meets its contract: the rows before one place are as they end, those from another on as they began.
 -- Assumes nothing.
+use mathlib.Core.Path.{_≡_}
 use Prim.Native.Nat.{_-_, _≤_, _<_}
 use native.Mathlib.Omega.{arith}
 use borrow.Author.Needs.{needs}
 use lib.ListN.{length, getD}
 use Rattle.rows_spec.specs.Rows.{tables}
 use Rattle.rows_spec.proofs.Rows.{room-less}
-use Rattle.totals_spec.proofs.Taking.{Taking, taking-start, taking-room, taking-even, taking-standing, taking-count, taking-done, taking-skip, taking-found, taking-gone, taking-space, taking-put}
+use Rattle.totals_spec.proofs.Taking.{Taking, taking-start, taking-room, taking-even, taking-standing, taking-count}
+use Rattle.totals_spec.proofs.Taking.{taking-done, taking-skip, taking-found, taking-gone, taking-space, taking-put}
 use Rattle.totals_rows.proofs.writing.take_rows.Statement.{statement}
 use Rattle.totals_rows.proofs.writing.take_rows.Tie as tie
 
@@ -22,95 +24,106 @@ loop-holds c =
     let start = c .before .before .before .before in
     let p = start .pre in taking-start _ _ _ _ _ (p .1 .1)
 
+-- from a turn of the loop to the start
+abbrev start : tie.At-loop Inv-loop μ-loop → tie.Start Inv-loop μ-loop
+start c = c .before .before .before .before .before
+
 look-up-requires : tie.Need-look-up-requires Inv-loop μ-loop
 look-up-requires c κs =
-    let at-loop = c .before .before .before .before .before .before .before in
-    let start = at-loop .before .before .before .before .before in
-    let p = start .pre in taking-standing (p .0) (p .1 .0) (at-loop .loop .inv)
+    let t = c .before .before .before .before .before .before .before in
+    taking-standing (start t .pre .0) (start t .pre .1 .0) (t .loop .inv)
 
--- the row that is looked up stands at the spot, and its total is no less than the count
-found : (c : tie.After-look-up Inv-loop μ-loop) →
-    let at-loop = c .before .before .before .before .before .before .before .before in
-    let start = at-loop .before .before .before .before .before in
-    (at-loop .loop .at ≤ c .look-up .result .place) × (c .look-up .result .place < start .args .n)
-    × (getD (start .args .old-counts .now) (at-loop .loop .i) 0 ≤ c .look-up .result .total)
-found c =
-    let at-if1 = c .before .before .before .before in
-    let at-loop-test = at-if1 .before .before .before in
-    let at-loop = at-loop-test .before in
-    let start = at-loop .before .before .before .before .before in
-    let p = start .pre in taking-found (p .0) (p .1 .0) (at-loop .loop .inv) (at-loop-test .loop-test .taken) (at-if1 .if1 .taken)
-    (c .look-up .ensures)
+-- from the look-up back: the row is under the owner, the turn was entered, the loop stood
+module _ (c : tie.After-look-up Inv-loop μ-loop) where
+  abbrev owned : tie.Then1 Inv-loop μ-loop
+  owned = c .before .before .before .before
+
+  abbrev entered : tie.In-loop Inv-loop μ-loop
+  entered = owned .before .before .before
+
+  abbrev turn : tie.At-loop Inv-loop μ-loop
+  turn = entered .before
+
+  -- the row that is looked up stands at the spot, and its total is no less than the count
+  found : (turn .loop .at ≤ c .look-up .result .place) × (c .look-up .result .place < start turn .args .n)
+      × (getD (start turn .args .old-counts .now) (turn .loop .i) 0 ≤ c .look-up .result .total)
+  found = taking-found (start turn .pre .0) (start turn .pre .1 .0) (turn .loop .inv) (entered .loop-test .taken) (owned .if1 .taken)
+      (c .look-up .ensures)
+
+-- the rows between are moved, and from there back to the look-up
+abbrev looked : tie.After-move-down Inv-loop μ-loop → tie.After-look-up Inv-loop μ-loop
+looked c = c .before .before .before .before
+
+-- the places are counted on, and from there back to the move
+abbrev moved : tie.After-struct-known3 Inv-loop μ-loop → tie.After-move-down Inv-loop μ-loop
+moved c = c .before .before .before .before .before .before .before .before
 
 move-down-requires : tie.Need-move-down-requires Inv-loop μ-loop
 move-down-requires c κs =
-    let at-loop = c .before .before .before .before .before .before .before .before .before .before .before in
-    let start = at-loop .before .before .before .before .before in
-    let p = start .pre in
-    let i = at-loop .loop .inv in
-    let f = found (c .before .before .before) in
-    ((i .behind, f .0), room-less _ (omega arith) (taking-room (p .0) (p .1 .0) i))
+    let l = c .before .before .before in
+    let i = turn l .loop .inv in
+    let f = found l in
+    ((i .behind, f .0), room-less _ (omega arith) (taking-room (start (turn l) .pre .0) (start (turn l) .pre .1 .0) i))
 
 put-row-requires : tie.Need-put-row-requires Inv-loop μ-loop
 put-row-requires c κs =
-    let at-move-down = c .before .before .before .before .before .before .before .before .before .before .before .before .before in
-    let at-look-up = at-move-down .before .before .before .before in
-    let at-if1 = at-look-up .before .before .before .before in
-    let at-loop-test = at-if1 .before .before .before in
-    let at-loop = at-loop-test .before in
-    let start = at-loop .before .before .before .before .before in
-    let p = start .pre in
-    taking-space (p .0) (p .1 .0) (at-loop .loop .inv) (at-loop-test .loop-test .taken) (at-if1 .if1 .taken) (at-look-up .look-up .ensures)
-    (at-move-down .move-down .ensures)
+    let counted = c .before .before .before .before .before in
+    let m = moved counted in
+    let l = looked m in
+    taking-space (start (turn l) .pre .0) (start (turn l) .pre .1 .0) (turn l .loop .inv) (entered l .loop-test .taken) (owned l .if1 .taken)
+    (l .look-up .ensures) (m .move-down .ensures)
 
 loop-again : tie.Need-loop-again Inv-loop μ-loop
 loop-again c =
-    let at-put-row = c .before .before .before .before .before in
-    let at-if2 = at-put-row .before .before .before .before .before in
-    let at-move-down = at-if2 .before .before .before .before .before .before .before .before .before in
-    let at-look-up = at-move-down .before .before .before .before in
-    let at-if1 = at-look-up .before .before .before .before in
-    let at-loop-test = at-if1 .before .before .before in
-    let at-loop = at-loop-test .before in
-    let start = at-loop .before .before .before .before .before in
-    let p = start .pre in
-    taking-put (p .0) (p .1 .0) (at-loop .loop .inv) (at-loop-test .loop-test .taken) (at-if1 .if1 .taken) (at-look-up .look-up .ensures)
-    (at-move-down .move-down .ensures) (at-if2 .if2 .taken) (at-put-row .put-row .ensures)
+    let put = c .before .before .before .before .before in
+    let some = put .before .before .before .before .before in
+    let m = moved (some .before) in
+    let l = looked m in
+    taking-put (start (turn l) .pre .0) (start (turn l) .pre .1 .0) (turn l .loop .inv) (entered l .loop-test .taken) (owned l .if1 .taken)
+    (l .look-up .ensures) (m .move-down .ensures) (some .if2 .taken) (put .put-row .ensures)
 
 loop-again-2 : tie.Need-loop-again-2 Inv-loop μ-loop
 loop-again-2 c =
-    let at-move-down = c .before .before .before .before .before .before .before .before .before in
-    let at-look-up = at-move-down .before .before .before .before in
-    let at-if1 = at-look-up .before .before .before .before in
-    let at-loop-test = at-if1 .before .before .before in
-    let at-loop = at-loop-test .before in
-    let start = at-loop .before .before .before .before .before in
-    let p = start .pre in
-    taking-gone (p .0) (p .1 .0) (at-loop .loop .inv) (at-loop-test .loop-test .taken) (at-if1 .if1 .taken) (at-look-up .look-up .ensures)
-    (at-move-down .move-down .ensures) (c .if2 .left)
+    let m = moved (c .before) in
+    let l = looked m in
+    taking-gone (start (turn l) .pre .0) (start (turn l) .pre .1 .0) (turn l .loop .inv) (entered l .loop-test .taken) (owned l .if1 .taken)
+    (l .look-up .ensures) (m .move-down .ensures) (c .if2 .left)
 
 loop-again-3 : tie.Need-loop-again-3 Inv-loop μ-loop
 loop-again-3 c =
-    let at-loop = c .before .before .before .before in
-    let start = at-loop .before .before .before .before .before in
-    let p = start .pre in taking-skip (p .0) (p .1 .0) (at-loop .loop .inv) (c .before .before .before .loop-test .taken) (c .if1 .left)
+    let t = c .before .before .before .before in
+    taking-skip (start t .pre .0) (start t .pre .1 .0) (t .loop .inv) (c .before .before .before .loop-test .taken) (c .if1 .left)
 
 move-down-requires-2 : tie.Need-move-down-requires-2 Inv-loop μ-loop
 move-down-requires-2 c κs =
-    let at-loop = c .before .before .before .before in
-    let start = at-loop .before .before .before .before .before in
-    let p = start .pre in let i = at-loop .loop .inv in ((i .behind, i .within), taking-room (p .0) (p .1 .0) i)
+    let t = c .before .before .before .before in
+    ((t .loop .inv .behind, t .loop .inv .within), taking-room (start t .pre .0) (start t .pre .1 .0) (t .loop .inv))
+
+-- at the end, from there back: the last rows were moved, the loop was left, the loop stood
+module _ (c : tie.After-slice-known8 Inv-loop μ-loop) where
+  abbrev last-moved : tie.After-move-down2 Inv-loop μ-loop
+  last-moved = c .before .before .before .before .before
+
+  abbrev left : tie.After-loop Inv-loop μ-loop
+  left = last-moved .before .before .before .before
+
+  abbrev last : tie.At-loop Inv-loop μ-loop
+  last = left .before
+
+  -- the tables are as long as they were
+  even : (length (last-moved .move-down2 .last .0) ≡ length (start last .args .owners .now))
+      × (length (last-moved .move-down2 .last .1 .0) ≡ length (start last .args .epochs .now))
+      × (length (last-moved .move-down2 .last .1 .1 .0) ≡ length (start last .args .totals .now))
+  even =
+      let s = start last .pre in
+      taking-even (s .0) (s .1 .0) (last .loop .inv) (left .loop-test .left) (last-moved .move-down2 .ensures)
 
 returns : tie.Need-returns Inv-loop μ-loop
 returns c =
-    let at-move-down2 = c .before .before .before .before .before in
-    let at-loop-test = at-move-down2 .before .before .before .before in
-    let at-loop = at-loop-test .before in
-    let start = at-loop .before .before .before .before .before in
-    let p = start .pre in
-    let i = at-loop .loop .inv in
-    let l = at-loop-test .loop-test .left in
-    (taking-done (p .0) (p .1 .0) i l (at-move-down2 .move-down2 .ensures), taking-count (p .0) (p .1 .0) i l)
+    let s = start (last c) .pre in
+    let i = last c .loop .inv in
+    let l = left c .loop-test .left in
+    (taking-done (s .0) (s .1 .0) i l (last-moved c .move-down2 .ensures), taking-count (s .0) (s .1 .0) i l)
 
 pub take-rows-spec : {M : Type 1} → statement M
 take-rows-spec =
@@ -127,65 +140,27 @@ take-rows-spec =
     (λ c. search needs)
     look-up-requires
     move-down-requires
-    (λ c.
-    let at-look-up = c .before .before .before .before .before .before .before .before .before .before in
-    found at-look-up .0)
-    (λ c.
-    let at-look-up = c .before .before .before .before .before .before .before .before .before .before in
-    let at-loop = at-look-up .before .before .before .before .before .before .before .before in
-    let start = at-loop .before .before .before .before .before in
-    let f = found at-look-up in omega (arith, at-loop .loop .inv .behind, start .fits))
-    (λ c.
-    let at-look-up = c .before .before .before .before .before .before .before .before .before .before .before in
-    let start = at-look-up .before .before .before .before .before .before .before .before .before .before .before .before .before in
-    let f = found at-look-up in omega (arith, start .fits))
-    (λ c.
-    let at-look-up = c .before .before .before .before .before .before .before .before .before .before .before .before .before .before .before
-    .before .before in
-    found at-look-up .2)
+    (λ c. let m = c .before .before .before .before .before .before in found (looked m) .0)
+    (λ c. let m = c .before .before .before .before .before .before in omega
+    (arith, found (looked m), turn (looked m) .loop .inv .behind, start (turn (looked m)) .fits))
+    (λ c. let m = c .before .before .before .before .before .before .before in omega (arith, found (looked m), start (turn (looked m)) .fits))
+    (λ c. let k = c .before .before .before .before .before in found (looked (moved k)) .2)
     put-row-requires
     (λ c.
-    let at-look-up = c .before .before .before .before .before .before .before .before .before .before .before .before .before .before .before
-    .before .before .before .before .before .before .before .before in
-    let at-loop = at-look-up .before .before .before .before .before .before .before .before in
-    let start = at-loop .before .before .before .before .before in
-    let f = found at-look-up in omega (arith, at-loop .loop .inv .behind, start .fits))
-    (λ c.
-    let at-loop-test = c .before .before .before .before .before .before .before .before .before .before .before .before .before .before .before
-    .before .before .before .before .before .before .before .before .before .before .before .before .before .before .before in
-    omega (arith, at-loop-test .loop-test .taken))
+    let k = c .before .before .before .before .before .before .before .before .before .before .before in
+    let l = looked (moved k) in
+    omega (arith, found l, turn l .loop .inv .behind, start (turn l) .fits))
+    (λ c. let k = c .before .before .before .before .before .before .before .before .before .before .before in omega
+    (arith, entered (looked (moved k)) .loop-test .taken))
     loop-again
-    (λ c.
-    let at-loop-test = c .before .before .before .before .before .before .before .before .before .before .before .before .before .before .before
-    .before .before .before .before .before in
-    omega (arith, at-loop-test .loop-test .taken))
+    (λ c. omega (arith, entered (looked (moved (c .before))) .loop-test .taken))
     loop-again-2
     (λ c. omega (arith, c .before .before .before .loop-test .taken))
     loop-again-3
     move-down-requires-2
-    (λ c.
-    let at-loop = c .before .before .before .before .before .before .before .before .before .before in
-    at-loop .loop .inv .within)
-    (λ c.
-    let at-loop = c .before .before .before .before .before .before .before .before .before .before in
-    let start = at-loop .before .before .before .before .before in
-    omega (arith, at-loop .loop .inv .behind, at-loop .loop .inv .within, start .fits))
-    (λ c.
-    let at-move-down2 = c .before .before .before .before .before in
-    let at-loop-test = at-move-down2 .before .before .before .before in
-    let at-loop = at-loop-test .before in
-    let start = at-loop .before .before .before .before .before in
-    let p = start .pre in taking-even (p .0) (p .1 .0) (at-loop .loop .inv) (at-loop-test .loop-test .left) (at-move-down2 .move-down2 .ensures) .0)
-    (λ c.
-    let at-move-down2 = c .before .before .before .before .before in
-    let at-loop-test = at-move-down2 .before .before .before .before in
-    let at-loop = at-loop-test .before in
-    let start = at-loop .before .before .before .before .before in
-    let p = start .pre in taking-even (p .0) (p .1 .0) (at-loop .loop .inv) (at-loop-test .loop-test .left) (at-move-down2 .move-down2 .ensures) .1)
-    (λ c.
-    let at-move-down2 = c .before .before .before .before .before in
-    let at-loop-test = at-move-down2 .before .before .before .before in
-    let at-loop = at-loop-test .before in
-    let start = at-loop .before .before .before .before .before in
-    let p = start .pre in taking-even (p .0) (p .1 .0) (at-loop .loop .inv) (at-loop-test .loop-test .left) (at-move-down2 .move-down2 .ensures) .2)
+    (λ c. last c .loop .inv .within)
+    (λ c. omega (arith, last c .loop .inv .behind, last c .loop .inv .within, start (last c) .fits))
+    (λ c. even c .0)
+    (λ c. even c .1)
+    (λ c. even c .2)
     returns)

@@ -1,4 +1,5 @@
--- `vectors_list::names::word_at` is safe and ends: the place stays at the start or behind it, and the measure is the number of bytes left. Assumes nothing.
+-- `vectors_list::names::word_at` is safe and ends: the place stays at the start or behind it, and the measure is the number of bytes left.
+-- Assumes nothing.
 use Prim.Native.Nat.{_-_, _≤_}
 use lib.ListN.{length}
 use borrow.Author.Needs.{needs}
