@@ -1,6 +1,9 @@
 // The adding merge, for C.
 ghost use mathlib.Core.Path.{_≡_};
-ghost use Rattle.capi_spec.specs.Told.{flagsLeft, flagsTold};
+ghost use Rattle.records_spec.specs.Outcomes.{after};
+ghost use Rattle.capi_spec.specs.Given.{flagsWereC};
+ghost use Rattle.records_spec.specs.Answers.{tablesWere, tablesLeft};
+ghost use Rattle.capi_spec.specs.Told.{flagsTold};
 ghost use Rattle.capi_spec.specs.Calls.{combinedAddedC, optionalCombinedAddedC};
 use capi_spec::CFlags;
 use capi_spec::CHead;
@@ -19,7 +22,11 @@ pub extern "C" fn petasunok_combine_added_bytes(
     epochs: &mut [u16],
     counts: &mut [u32],
 ) -> CFlags
-    ensures { λ r. ⌜ flagsLeft r (now (epochs .exit)) (now (counts .exit)) ≡ flagsTold (combinedAddedC ours (now («ours_epochs» .entry)) (now («ours_counts» .entry)) theirs (now («theirs_epochs» .entry)) (now («theirs_counts» .entry)) amount strategy (now (epochs .entry)) (now (counts .entry))) ⌝ }
+    ensures { λ r.
+        let our-flags = flagsWereC ours «ours_epochs» «ours_counts» in
+        let their-flags = flagsWereC theirs «theirs_epochs» «theirs_counts» in
+        let tables-lent = tablesWere epochs counts in
+        ⌜ after r (tablesLeft epochs counts) ≡ flagsTold (combinedAddedC our-flags their-flags amount strategy tables-lent) ⌝ }
 {
     capi_merges::combine_added_bytes(
         ours,
@@ -50,7 +57,11 @@ pub extern "C" fn petasunok_optional_combine_added_bytes(
     epochs: &mut [u16],
     counts: &mut [u32],
 ) -> CFlags
-    ensures { λ r. ⌜ flagsLeft r (now (epochs .exit)) (now (counts .exit)) ≡ flagsTold (optionalCombinedAddedC present ours (now («ours_epochs» .entry)) (now («ours_counts» .entry)) theirs (now («theirs_epochs» .entry)) (now («theirs_counts» .entry)) amount strategy (now (epochs .entry)) (now (counts .entry))) ⌝ }
+    ensures { λ r.
+        let our-flags = flagsWereC ours «ours_epochs» «ours_counts» in
+        let their-flags = flagsWereC theirs «theirs_epochs» «theirs_counts» in
+        let tables-lent = tablesWere epochs counts in
+        ⌜ after r (tablesLeft epochs counts) ≡ flagsTold (optionalCombinedAddedC present our-flags their-flags amount strategy tables-lent) ⌝ }
 {
     capi_merges::optional_combine_added_bytes(
         present,

@@ -1,6 +1,7 @@
 // The calls on a head alone, for C.
 ghost use mathlib.Core.Path.{_≡_};
 ghost use Rattle.records_spec.specs.Flags.{ownerIf, headFor};
+ghost use Rattle.records_spec.specs.Outcomes.{refused};
 ghost use Rattle.capi_spec.specs.Given.{isTrue};
 ghost use Rattle.capi_spec.specs.Told.{headTold, headAnswer, countTold, ownerIdTold};
 ghost use Rattle.capi_spec.specs.Calls.{withOwnerC, baseC, ownerIdC, typeByteC};

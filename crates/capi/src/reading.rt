@@ -1,8 +1,11 @@
 // Reading flags, for C.
 ghost use mathlib.Core.Path.{_≡_};
+ghost use Rattle.records_spec.specs.Answers.{tablesWere, tablesLeft};
+ghost use Rattle.fields_spec.specs.Lending.{was};
+ghost use Rattle.records_spec.specs.Outcomes.{after};
 ghost use Rattle.records_spec.specs.declared.head.Kind.the-variants.{SingleEpoch, MultiEpoch, SingleEpochOwned, MultiEpochOwned};
 ghost use Rattle.codec_spec.specs.Calls.{deserializedAs, deserialized};
-ghost use Rattle.capi_spec.specs.Told.{flagsLeft, flagsTold};
+ghost use Rattle.capi_spec.specs.Told.{flagsTold};
 use capi_spec::CFlags;
 
 // Reads flags of the kind that byte 0 names.
@@ -12,7 +15,7 @@ pub extern "C" fn petasunok_deserialize(
     epochs: &mut [u16],
     counts: &mut [u32],
 ) -> CFlags
-    ensures { λ r. ⌜ flagsLeft r (now (epochs .exit)) (now (counts .exit)) ≡ flagsTold (deserialized (now (src .entry)) (now (epochs .entry)) (now (counts .entry))) ⌝ }
+    ensures { λ r. ⌜ after r (tablesLeft epochs counts) ≡ flagsTold (deserialized (was src) (tablesWere epochs counts)) ⌝ }
 {
     capi_told::flags(codec::deserialize(src, epochs, counts))
 }
@@ -24,7 +27,7 @@ pub extern "C" fn petasunok_deserialize_single_epoch(
     epochs: &mut [u16],
     counts: &mut [u32],
 ) -> CFlags
-    ensures { λ r. ⌜ flagsLeft r (now (epochs .exit)) (now (counts .exit)) ≡ flagsTold (deserializedAs SingleEpoch (now (src .entry)) (now (epochs .entry)) (now (counts .entry))) ⌝ }
+    ensures { λ r. ⌜ after r (tablesLeft epochs counts) ≡ flagsTold (deserializedAs SingleEpoch (was src) (tablesWere epochs counts)) ⌝ }
 {
     capi_told::flags(codec::deserialize_single_epoch(src, epochs, counts))
 }
@@ -36,7 +39,7 @@ pub extern "C" fn petasunok_deserialize_multi_epoch(
     epochs: &mut [u16],
     counts: &mut [u32],
 ) -> CFlags
-    ensures { λ r. ⌜ flagsLeft r (now (epochs .exit)) (now (counts .exit)) ≡ flagsTold (deserializedAs MultiEpoch (now (src .entry)) (now (epochs .entry)) (now (counts .entry))) ⌝ }
+    ensures { λ r. ⌜ after r (tablesLeft epochs counts) ≡ flagsTold (deserializedAs MultiEpoch (was src) (tablesWere epochs counts)) ⌝ }
 {
     capi_told::flags(codec::deserialize_multi_epoch(src, epochs, counts))
 }
@@ -48,7 +51,7 @@ pub extern "C" fn petasunok_deserialize_single_epoch_owned(
     epochs: &mut [u16],
     counts: &mut [u32],
 ) -> CFlags
-    ensures { λ r. ⌜ flagsLeft r (now (epochs .exit)) (now (counts .exit)) ≡ flagsTold (deserializedAs SingleEpochOwned (now (src .entry)) (now (epochs .entry)) (now (counts .entry))) ⌝ }
+    ensures { λ r. ⌜ after r (tablesLeft epochs counts) ≡ flagsTold (deserializedAs SingleEpochOwned (was src) (tablesWere epochs counts)) ⌝ }
 {
     capi_told::flags(codec::deserialize_single_epoch_owned(src, epochs, counts))
 }
@@ -60,7 +63,7 @@ pub extern "C" fn petasunok_deserialize_multi_epoch_owned(
     epochs: &mut [u16],
     counts: &mut [u32],
 ) -> CFlags
-    ensures { λ r. ⌜ flagsLeft r (now (epochs .exit)) (now (counts .exit)) ≡ flagsTold (deserializedAs MultiEpochOwned (now (src .entry)) (now (epochs .entry)) (now (counts .entry))) ⌝ }
+    ensures { λ r. ⌜ after r (tablesLeft epochs counts) ≡ flagsTold (deserializedAs MultiEpochOwned (was src) (tablesWere epochs counts)) ⌝ }
 {
     capi_told::flags(codec::deserialize_multi_epoch_owned(src, epochs, counts))
 }

@@ -1,7 +1,9 @@
 // Splitting and adding up removals, for C.
 ghost use mathlib.Core.Path.{_≡_};
-ghost use Rattle.rows_spec.specs.Rows.{tables};
-ghost use Rattle.capi_spec.specs.Told.{countTold, truthTold, sumLeft, sumTold, splitLeft, splitTold};
+ghost use Rattle.records_spec.specs.Outcomes.{after};
+ghost use Rattle.capi_spec.specs.Given.{flagsWereC, holdingRowsC};
+ghost use Rattle.rows_spec.specs.Rows.{rowsWere, rowsLeft};
+ghost use Rattle.capi_spec.specs.Told.{countTold, truthTold, toldAs, sumAnswer, splitAnswer};
 ghost use Rattle.capi_spec.specs.Calls.{splitKeyC, splitValueC, summedC, hasRemovalC, totalRemovedC};
 use capi_spec::CCount;
 use capi_spec::CHead;
@@ -20,7 +22,10 @@ pub extern "C" fn petasunok_split_key_removed_bytes(
     epochs: &mut [u16],
     bytes: &mut [u32],
 ) -> CSum
-    ensures { λ r. ⌜ sumLeft r (tables (now (ids .exit)) (now (epochs .exit)) (now (bytes .exit))) ≡ sumTold (splitKeyC flags (now («flags_epochs» .entry)) (now («flags_counts» .entry)) key (tables (now (ids .entry)) (now (epochs .entry)) (now (bytes .entry)))) ⌝ }
+    ensures { λ r.
+        let flags-given = flagsWereC flags «flags_epochs» «flags_counts» in
+        let rows-lent = rowsWere ids epochs bytes in
+        ⌜ after r (rowsLeft ids epochs bytes) ≡ toldAs sumAnswer (splitKeyC flags-given key rows-lent) ⌝ }
 {
     capi_removals::split_key_removed_bytes(
         flags,
@@ -44,7 +49,10 @@ pub extern "C" fn petasunok_split_value_removed_bytes(
     epochs: &mut [u16],
     bytes: &mut [u32],
 ) -> CValueSplit
-    ensures { λ r. ⌜ splitLeft r (tables (now (ids .exit)) (now (epochs .exit)) (now (bytes .exit))) ≡ splitTold (splitValueC flags (now («flags_epochs» .entry)) (now («flags_counts» .entry)) value (tables (now (ids .entry)) (now (epochs .entry)) (now (bytes .entry)))) ⌝ }
+    ensures { λ r.
+        let flags-given = flagsWereC flags «flags_epochs» «flags_counts» in
+        let rows-lent = rowsWere ids epochs bytes in
+        ⌜ after r (rowsLeft ids epochs bytes) ≡ toldAs splitAnswer (splitValueC flags-given value rows-lent) ⌝ }
 {
     capi_removals::split_value_removed_bytes(
         flags,
@@ -70,7 +78,12 @@ pub extern "C" fn petasunok_add_assign(
     rhs_bytes: &[u32],
     version: u16,
 ) -> CSum
-    ensures { λ r. ⌜ sumLeft r (tables (now («lhs_ids» .exit)) (now («lhs_epochs» .exit)) (now («lhs_bytes» .exit))) ≡ sumTold (summedC version lhs (tables (now («lhs_ids» .entry)) (now («lhs_epochs» .entry)) (now («lhs_bytes» .entry))) rhs (tables (now («rhs_ids» .entry)) (now («rhs_epochs» .entry)) (now («rhs_bytes» .entry)))) ⌝ }
+    ensures { λ r.
+        let lhs-rows = rowsWere «lhs_ids» «lhs_epochs» «lhs_bytes» in
+        let rhs-rows = rowsWere «rhs_ids» «rhs_epochs» «rhs_bytes» in
+        let lhs-given = holdingRowsC lhs lhs-rows in
+        let rhs-given = holdingRowsC rhs rhs-rows in
+        ⌜ after r (rowsLeft «lhs_ids» «lhs_epochs» «lhs_bytes») ≡ toldAs sumAnswer (summedC version lhs-given rhs-given) ⌝ }
 {
     capi_removals::add_assign(
         lhs,
@@ -93,7 +106,7 @@ pub extern "C" fn petasunok_has_removal(
     removal_epochs: &[u16],
     removal_bytes: &[u32],
 ) -> CCount
-    ensures { λ r. ⌜ r ≡ truthTold (hasRemovalC removal (tables (now («removal_ids» .entry)) (now («removal_epochs» .entry)) (now («removal_bytes» .entry)))) ⌝ }
+    ensures { λ r. ⌜ r ≡ truthTold (hasRemovalC (holdingRowsC removal (rowsWere «removal_ids» «removal_epochs» «removal_bytes»))) ⌝ }
 {
     capi_removals::has_removal(removal, removal_ids, removal_epochs, removal_bytes)
 }
@@ -106,7 +119,7 @@ pub extern "C" fn petasunok_total_removed_bytes(
     removal_epochs: &[u16],
     removal_bytes: &[u32],
 ) -> CCount
-    ensures { λ r. ⌜ r ≡ countTold (totalRemovedC removal (tables (now («removal_ids» .entry)) (now («removal_epochs» .entry)) (now («removal_bytes» .entry)))) ⌝ }
+    ensures { λ r. ⌜ r ≡ countTold (totalRemovedC (holdingRowsC removal (rowsWere «removal_ids» «removal_epochs» «removal_bytes»))) ⌝ }
 {
     capi_removals::total_removed_bytes(removal, removal_ids, removal_epochs, removal_bytes)
 }

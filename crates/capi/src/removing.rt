@@ -1,7 +1,10 @@
 // The removing merge, for C.
 ghost use mathlib.Core.Path.{_≡_};
-ghost use Rattle.rows_spec.specs.Rows.{tables};
-ghost use Rattle.capi_spec.specs.Told.{flagsLeft, flagsTold};
+ghost use Rattle.records_spec.specs.Outcomes.{after};
+ghost use Rattle.capi_spec.specs.Given.{flagsWereC, holdingRowsC};
+ghost use Rattle.records_spec.specs.Answers.{tablesWere, tablesLeft};
+ghost use Rattle.rows_spec.specs.Rows.{rowsWere};
+ghost use Rattle.capi_spec.specs.Told.{flagsTold};
 ghost use Rattle.capi_spec.specs.Calls.{combinedRemovedC, optionalCombinedRemovedC};
 use capi_spec::CFlags;
 use capi_spec::CHead;
@@ -24,7 +27,13 @@ pub extern "C" fn petasunok_combine_removed_bytes(
     epochs: &mut [u16],
     counts: &mut [u32],
 ) -> CFlags
-    ensures { λ r. ⌜ flagsLeft r (now (epochs .exit)) (now (counts .exit)) ≡ flagsTold (combinedRemovedC ours (now («ours_epochs» .entry)) (now («ours_counts» .entry)) theirs (now («theirs_epochs» .entry)) (now («theirs_counts» .entry)) removal (tables (now («removal_ids» .entry)) (now («removal_epochs» .entry)) (now («removal_bytes» .entry))) strategy (now (epochs .entry)) (now (counts .entry))) ⌝ }
+    ensures { λ r.
+        let our-flags = flagsWereC ours «ours_epochs» «ours_counts» in
+        let their-flags = flagsWereC theirs «theirs_epochs» «theirs_counts» in
+        let removal-rows = rowsWere «removal_ids» «removal_epochs» «removal_bytes» in
+        let tables-lent = tablesWere epochs counts in
+        let removal-given = holdingRowsC removal removal-rows in
+        ⌜ after r (tablesLeft epochs counts) ≡ flagsTold (combinedRemovedC our-flags their-flags removal-given strategy tables-lent) ⌝ }
 {
     capi_merges::combine_removed_bytes(
         ours,
@@ -61,7 +70,14 @@ pub extern "C" fn petasunok_optional_combine_removed_bytes(
     epochs: &mut [u16],
     counts: &mut [u32],
 ) -> CFlags
-    ensures { λ r. ⌜ flagsLeft r (now (epochs .exit)) (now (counts .exit)) ≡ flagsTold (optionalCombinedRemovedC present ours (now («ours_epochs» .entry)) (now («ours_counts» .entry)) theirs (now («theirs_epochs» .entry)) (now («theirs_counts» .entry)) removal (tables (now («removal_ids» .entry)) (now («removal_epochs» .entry)) (now («removal_bytes» .entry))) strategy (now (epochs .entry)) (now (counts .entry))) ⌝ }
+    ensures { λ r.
+        let our-flags = flagsWereC ours «ours_epochs» «ours_counts» in
+        let their-flags = flagsWereC theirs «theirs_epochs» «theirs_counts» in
+        let removal-rows = rowsWere «removal_ids» «removal_epochs» «removal_bytes» in
+        let tables-lent = tablesWere epochs counts in
+        let removal-given = holdingRowsC removal removal-rows in
+        ⌜ after r (tablesLeft epochs counts)
+        ≡ flagsTold (optionalCombinedRemovedC present our-flags their-flags removal-given strategy tables-lent) ⌝ }
 {
     capi_merges::optional_combine_removed_bytes(
         present,

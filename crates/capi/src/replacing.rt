@@ -1,7 +1,9 @@
 // Replacing flags in a table of totals, for C.
 ghost use mathlib.Core.Path.{_≡_};
-ghost use Rattle.rows_spec.specs.Rows.{tables};
-ghost use Rattle.capi_spec.specs.Told.{totalsLeft, totalsTold};
+ghost use Rattle.records_spec.specs.Outcomes.{after};
+ghost use Rattle.capi_spec.specs.Told.{countTold, toldAs};
+ghost use Rattle.capi_spec.specs.Given.{flagsWereC};
+ghost use Rattle.rows_spec.specs.Rows.{rowsWere, rowsLeft};
 ghost use Rattle.capi_spec.specs.Calls.{totalsReplacedC};
 use capi_spec::CCount;
 use capi_spec::CHead;
@@ -22,7 +24,12 @@ pub extern "C" fn petasunok_totals_replace(
     new_epochs: &[u16],
     new_counts: &[u32],
 ) -> CCount
-    ensures { λ r. ⌜ totalsLeft r (tables (now (owners .exit)) (now (epochs .exit)) (now (totals .exit))) ≡ totalsTold (totalsReplacedC rows (tables (now (owners .entry)) (now (epochs .entry)) (now (totals .entry))) «old_present» old (now («old_epochs» .entry)) (now («old_counts» .entry)) «new_present» new (now («new_epochs» .entry)) (now («new_counts» .entry))) ⌝ }
+    ensures { λ r.
+        let old-flags = flagsWereC old «old_epochs» «old_counts» in
+        let new-flags = flagsWereC new «new_epochs» «new_counts» in
+        let rows-lent = rowsWere owners epochs totals in
+        ⌜ after r (rowsLeft owners epochs totals)
+        ≡ toldAs countTold (totalsReplacedC rows rows-lent «old_present» old-flags «new_present» new-flags) ⌝ }
 {
     capi_totals::totals_replace(
         rows,

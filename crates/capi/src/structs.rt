@@ -1,8 +1,9 @@
 // Replacing flags in a table of totals that is a slice of structs, for C.
-ghost use mathlib.Core.Path.{_≡_};
-ghost use Rattle.rows_spec.specs.Rows.{tables};
-ghost use Rattle.capi_spec.specs.Told.{structsLeft, structsTold};
-ghost use Rattle.capi_spec.specs.Calls.{structsReplacedC};
+ghost use Rattle.totals_index_spec.specs.Calls.{beside};
+ghost use Rattle.capi_spec.specs.Given.{flagsWereC};
+ghost use Rattle.fields_spec.specs.Lending.{was, left};
+ghost use Rattle.rows_spec.specs.Rows.{rowsWere, rowsLeft};
+ghost use Rattle.capi_spec.specs.Calls.{SaysStructsC};
 use capi_spec::CCount;
 use capi_spec::CHead;
 use totals_index_spec::Total;
@@ -25,10 +26,15 @@ pub extern "C" fn petasunok_totals_replace_structs(
     new_epochs: &[u16],
     new_counts: &[u32],
 ) -> CCount
-    ensures { λ r. ⌜ structsLeft r (now (table .exit)) (tables (now (owners .exit)) (now (epochs .exit)) (now (totals .exit))) ≡ structsTold (structsReplacedC rows (now (table .entry)) (tables (now (owners .entry)) (now (epochs .entry)) (now (totals .entry))) «old_present» old (now («old_epochs» .entry)) (now («old_counts» .entry)) «new_present» new (now («new_epochs» .entry)) (now («new_counts» .entry))) ⌝ }
+    ensures { λ r.
+        let old-flags = flagsWereC old «old_epochs» «old_counts» in
+        let new-flags = flagsWereC new «new_epochs» «new_counts» in
+        let rows-lent = rowsWere owners epochs totals in
+        let lent-left = beside (left table) (rowsLeft owners epochs totals) in
+        ⌜ SaysStructsC rows (was table) rows-lent «old_present» old-flags «new_present» new-flags r lent-left ⌝ }
 {
     if capi_given::can_replace(old_present, old, new_present, new) {
-        return capi_told::replaced(totals_index::replace(
+        return capi_told::count(totals_index::replace(
             rows,
             table,
             owners,

@@ -1,8 +1,10 @@
 // Writing flags and their sizes, for C.
 ghost use mathlib.Core.Path.{_≡_};
+ghost use Rattle.fields_spec.specs.Lending.{was, left};
 ghost use Rattle.codec_spec.specs.Sizes.{approximate};
-ghost use Rattle.capi_spec.specs.Given.{isTrue, changesGiven};
-ghost use Rattle.capi_spec.specs.Told.{countTold, bytesLeft, bytesTold};
+ghost use Rattle.records_spec.specs.Outcomes.{after};
+ghost use Rattle.capi_spec.specs.Given.{isTrue, changesGiven, flagsWereC};
+ghost use Rattle.capi_spec.specs.Told.{countTold, toldAs};
 ghost use Rattle.capi_spec.specs.Calls.{serializedC, sizeC};
 use capi_spec::CCount;
 use capi_spec::CHead;
@@ -17,7 +19,7 @@ pub extern "C" fn petasunok_serialize(
     flags_counts: &[u32],
     out: &mut [u8],
 ) -> CCount
-    ensures { λ r. ⌜ bytesLeft r (now (out .exit)) ≡ bytesTold (serializedC flags (now («flags_epochs» .entry)) (now («flags_counts» .entry)) (now (out .entry))) ⌝ }
+    ensures { λ r. ⌜ after r (left out) ≡ toldAs countTold (serializedC (flagsWereC flags «flags_epochs» «flags_counts») (was out)) ⌝ }
 {
     if capi_given::is_kind(flags.kind) {
         return capi_told::count(codec::serialize(
@@ -37,7 +39,7 @@ pub extern "C" fn petasunok_serialized_size(
     flags_epochs: &[u16],
     flags_counts: &[u32],
 ) -> CCount
-    ensures { λ r. ⌜ r ≡ countTold (sizeC flags (now («flags_epochs» .entry)) (now («flags_counts» .entry))) ⌝ }
+    ensures { λ r. ⌜ r ≡ countTold (sizeC (flagsWereC flags «flags_epochs» «flags_counts»)) ⌝ }
 {
     if capi_given::is_kind(flags.kind) {
         return capi_told::count(codec::serialized_size(

@@ -1,7 +1,8 @@
 // What C gives, as the calls take it. A byte that names no kind, removal or strategy is found before a call is made.
 ghost use mathlib.Core.Path.{_≡_};
 ghost use mathlib.Core.Bool.{_&&_};
-ghost use Rattle.capi_spec.specs.Given.{isTrue, isKind, isKindIf, kindFound, headGiven, changesGiven, isStrategy, strategyGiven, canMerge, canReplace, isRemoval, removedGiven};
+ghost use Rattle.capi_spec.specs.Given.{isTrue, isKind, isKindIf, kindFound, headGiven, changesGiven};
+ghost use Rattle.capi_spec.specs.Given.{isStrategy, strategyGiven, canMerge, canReplace, isRemoval, removedGiven};
 ghost use Rattle.records_spec.specs.Flags.{kindOfByte};
 use capi_spec::CHead;
 use capi_spec::CRemoval;

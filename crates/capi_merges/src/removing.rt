@@ -1,8 +1,11 @@
 // The removing merge, for C.
 ghost use mathlib.Core.Path.{_≡_};
-ghost use Rattle.rows_spec.specs.Rows.{tables};
-ghost use Rattle.capi_spec.specs.Told.{flagsLeft, flagsTold};
+ghost use Rattle.capi_spec.specs.Given.{flagsWereC, holdingRowsC};
+ghost use Rattle.records_spec.specs.Answers.{tablesWere, tablesLeft};
+ghost use Rattle.rows_spec.specs.Rows.{rowsWere};
+ghost use Rattle.capi_spec.specs.Told.{flagsTold};
 ghost use Rattle.capi_spec.specs.Calls.{combinedRemovedC, optionalCombinedRemovedC};
+ghost use Rattle.records_spec.specs.Outcomes.{after};
 use capi_spec::CFlags;
 use capi_spec::CHead;
 use capi_spec::CRemoval;
@@ -23,7 +26,13 @@ pub fn combine_removed_bytes(
     epochs: &mut [u16],
     counts: &mut [u32],
 ) -> CFlags
-    ensures { λ r. ⌜ flagsLeft r (now (epochs .exit)) (now (counts .exit)) ≡ flagsTold (combinedRemovedC ours (now («ours_epochs» .entry)) (now («ours_counts» .entry)) theirs (now («theirs_epochs» .entry)) (now («theirs_counts» .entry)) removal (tables (now («removal_ids» .entry)) (now («removal_epochs» .entry)) (now («removal_bytes» .entry))) strategy (now (epochs .entry)) (now (counts .entry))) ⌝ }
+    ensures { λ r.
+        let our-flags = flagsWereC ours «ours_epochs» «ours_counts» in
+        let their-flags = flagsWereC theirs «theirs_epochs» «theirs_counts» in
+        let removal-rows = rowsWere «removal_ids» «removal_epochs» «removal_bytes» in
+        let tables-lent = tablesWere epochs counts in
+        let removal-given = holdingRowsC removal removal-rows in
+        ⌜ after r (tablesLeft epochs counts) ≡ flagsTold (combinedRemovedC our-flags their-flags removal-given strategy tables-lent) ⌝ }
 {
     if capi_given::can_remove(true, ours, theirs, strategy, removal) {
         return capi_told::flags(removal::combine_removed_bytes(
@@ -62,7 +71,14 @@ pub fn optional_combine_removed_bytes(
     epochs: &mut [u16],
     counts: &mut [u32],
 ) -> CFlags
-    ensures { λ r. ⌜ flagsLeft r (now (epochs .exit)) (now (counts .exit)) ≡ flagsTold (optionalCombinedRemovedC present ours (now («ours_epochs» .entry)) (now («ours_counts» .entry)) theirs (now («theirs_epochs» .entry)) (now («theirs_counts» .entry)) removal (tables (now («removal_ids» .entry)) (now («removal_epochs» .entry)) (now («removal_bytes» .entry))) strategy (now (epochs .entry)) (now (counts .entry))) ⌝ }
+    ensures { λ r.
+        let our-flags = flagsWereC ours «ours_epochs» «ours_counts» in
+        let their-flags = flagsWereC theirs «theirs_epochs» «theirs_counts» in
+        let removal-rows = rowsWere «removal_ids» «removal_epochs» «removal_bytes» in
+        let tables-lent = tablesWere epochs counts in
+        let removal-given = holdingRowsC removal removal-rows in
+        ⌜ after r (tablesLeft epochs counts)
+        ≡ flagsTold (optionalCombinedRemovedC present our-flags their-flags removal-given strategy tables-lent) ⌝ }
 {
     let is_present = capi_given::is_true(present);
     if capi_given::can_remove(is_present, ours, theirs, strategy, removal) {

@@ -1,8 +1,10 @@
 // The split, the sum and the calls on a removal on what C gives, told as C gets it.
 ghost use mathlib.Core.Path.{_≡_};
-ghost use Rattle.rows_spec.specs.Rows.{tables};
-ghost use Rattle.capi_spec.specs.Told.{countTold, truthTold, sumLeft, sumTold, splitLeft, splitTold};
+ghost use Rattle.capi_spec.specs.Given.{flagsWereC, holdingRowsC};
+ghost use Rattle.rows_spec.specs.Rows.{rowsWere, rowsLeft};
+ghost use Rattle.capi_spec.specs.Told.{countTold, truthTold, toldAs, sumAnswer, splitAnswer};
 ghost use Rattle.capi_spec.specs.Calls.{splitKeyC, splitValueC, summedC, hasRemovalC, totalRemovedC};
+ghost use Rattle.records_spec.specs.Outcomes.{after};
 use capi_spec::CCount;
 use capi_spec::CHead;
 use capi_spec::CRemoval;
@@ -24,7 +26,10 @@ pub fn split_key_removed_bytes(
     epochs: &mut [u16],
     bytes: &mut [u32],
 ) -> CSum
-    ensures { λ r. ⌜ sumLeft r (tables (now (ids .exit)) (now (epochs .exit)) (now (bytes .exit))) ≡ sumTold (splitKeyC flags (now («flags_epochs» .entry)) (now («flags_counts» .entry)) key (tables (now (ids .entry)) (now (epochs .entry)) (now (bytes .entry)))) ⌝ }
+    ensures { λ r.
+        let flags-given = flagsWereC flags «flags_epochs» «flags_counts» in
+        let rows-lent = rowsWere ids epochs bytes in
+        ⌜ after r (rowsLeft ids epochs bytes) ≡ toldAs sumAnswer (splitKeyC flags-given key rows-lent) ⌝ }
 {
     if capi_given::is_kind(flags.kind) {
         return capi_told::sum(splitting::split_key_removed_bytes(
@@ -50,7 +55,10 @@ pub fn split_value_removed_bytes(
     epochs: &mut [u16],
     bytes: &mut [u32],
 ) -> CValueSplit
-    ensures { λ r. ⌜ splitLeft r (tables (now (ids .exit)) (now (epochs .exit)) (now (bytes .exit))) ≡ splitTold (splitValueC flags (now («flags_epochs» .entry)) (now («flags_counts» .entry)) value (tables (now (ids .entry)) (now (epochs .entry)) (now (bytes .entry)))) ⌝ }
+    ensures { λ r.
+        let flags-given = flagsWereC flags «flags_epochs» «flags_counts» in
+        let rows-lent = rowsWere ids epochs bytes in
+        ⌜ after r (rowsLeft ids epochs bytes) ≡ toldAs splitAnswer (splitValueC flags-given value rows-lent) ⌝ }
 {
     if capi_given::is_kind(flags.kind) {
         return capi_told::value_split(splitting::split_value_removed_bytes(
@@ -78,7 +86,12 @@ pub fn add_assign(
     rhs_bytes: &[u32],
     version: u16,
 ) -> CSum
-    ensures { λ r. ⌜ sumLeft r (tables (now («lhs_ids» .exit)) (now («lhs_epochs» .exit)) (now («lhs_bytes» .exit))) ≡ sumTold (summedC version lhs (tables (now («lhs_ids» .entry)) (now («lhs_epochs» .entry)) (now («lhs_bytes» .entry))) rhs (tables (now («rhs_ids» .entry)) (now («rhs_epochs» .entry)) (now («rhs_bytes» .entry)))) ⌝ }
+    ensures { λ r.
+        let lhs-rows = rowsWere «lhs_ids» «lhs_epochs» «lhs_bytes» in
+        let rhs-rows = rowsWere «rhs_ids» «rhs_epochs» «rhs_bytes» in
+        let lhs-given = holdingRowsC lhs lhs-rows in
+        let rhs-given = holdingRowsC rhs rhs-rows in
+        ⌜ after r (rowsLeft «lhs_ids» «lhs_epochs» «lhs_bytes») ≡ toldAs sumAnswer (summedC version lhs-given rhs-given) ⌝ }
 {
     if capi_given::can_sum(lhs, rhs) {
         return capi_told::sum(sums::add_assign(
@@ -103,7 +116,7 @@ pub fn has_removal(
     removal_epochs: &[u16],
     removal_bytes: &[u32],
 ) -> CCount
-    ensures { λ r. ⌜ r ≡ truthTold (hasRemovalC removal (tables (now («removal_ids» .entry)) (now («removal_epochs» .entry)) (now («removal_bytes» .entry)))) ⌝ }
+    ensures { λ r. ⌜ r ≡ truthTold (hasRemovalC (holdingRowsC removal (rowsWere «removal_ids» «removal_epochs» «removal_bytes»))) ⌝ }
 {
     if capi_given::is_removal(removal.kind) {
         return capi_told::has(rows::has_removal(
@@ -123,7 +136,7 @@ pub fn total_removed_bytes(
     removal_epochs: &[u16],
     removal_bytes: &[u32],
 ) -> CCount
-    ensures { λ r. ⌜ r ≡ countTold (totalRemovedC removal (tables (now («removal_ids» .entry)) (now («removal_epochs» .entry)) (now («removal_bytes» .entry)))) ⌝ }
+    ensures { λ r. ⌜ r ≡ countTold (totalRemovedC (holdingRowsC removal (rowsWere «removal_ids» «removal_epochs» «removal_bytes»))) ⌝ }
 {
     if capi_given::is_removal(removal.kind) {
         return capi_told::total(rows::total_removed_bytes(

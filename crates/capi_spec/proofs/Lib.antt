@@ -3,5 +3,4 @@ pub mod Telling
 pub mod Testing
 pub mod Marked
 pub mod Walking
-pub mod Only
 pub mod Examples

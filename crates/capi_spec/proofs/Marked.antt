@@ -3,21 +3,13 @@
 use Prim.Native.Nat.{ℕ}
 use mathlib.Core.Path.{_≡_, refl}
 use mathlib.Core.Bool.{true, false}
-use mathlib.Core.List.{List}
-use Rattle.records_spec.specs.Flags.{kindOfByte, zeros}
-use Rattle.records_spec.specs.Answers.{refused, kept}
+use Rattle.records_spec.specs.Flags.{kindOfByte, zeros, blank, Lent}
+use Rattle.records_spec.specs.Outcomes.{refused, kept, Answer, after}
 use Rattle.records_spec.specs.declared.head.Kind.the-variants.{SingleEpoch, MultiEpoch, SingleEpochOwned, MultiEpochOwned}
 use Rattle.flags_spec.specs.declared.owners.MergingOwnersStrategy.the-variants.{RaiseIssue, UseOurs, UseTheirs}
-use Rattle.rows_spec.specs.Rows.{Tables}
 use Rattle.rows_spec.specs.declared.removed.Removed.the-variants.{None, Basic, Sectioned}
-use Rattle.rows_spec.specs.Outcomes.{kept as keptRemoval}
-use Rattle.splitting_spec.specs.Calls.{kept as keptSplit}
-use Rattle.totals_spec.specs.Calls.{kept as keptTotals}
-use Rattle.totals_index_spec.specs.declared.structs.Total.{Total}
-use Rattle.repair_spec.specs.Calls.{kept as keptRepair}
 use Rattle.capi_spec.specs.Given.{isTrue, isKind, kindFound, isStrategy, strategyGiven, isRemoval, removedGiven}
-use Rattle.totals_index_spec.specs.Calls.{kept as keptStructs}
-use Rattle.capi_spec.specs.Told.{flagsLeft, flagsTold, countTold, truthTold, bytesLeft, bytesTold, sumLeft, sumTold, splitLeft, splitTold, totalsLeft, totalsTold, structsLeft, structsTold, repairLeft, repairTold}
+use Rattle.capi_spec.specs.Told.{toldAs, flagsTold, countTold, truthTold, sumAnswer, splitAnswer, repairAnswer}
 
 -- 0 to 3 are the four kinds, and no other byte is one
 pub kinds :
@@ -43,28 +35,22 @@ truths = (refl, refl, refl, refl)
 -- a refused answer is its number and zeros, and nothing lent has changed
 module _ (n : ℕ) where
   pub flags-refused :
-      (es cs : List ℕ)
-      → flagsTold (kept n es cs) ≡ flagsLeft (record { refusal = n; present = 0; head = record { kind = 0; base = 0; owner = zeros; records = 0 } }) es cs
-  flags-refused es cs = refl
+      (t : Lent) → flagsTold (kept n (blank t)) ≡ after
+      (record { refusal = n; present = 0; head = record { kind = 0; base = 0; owner = zeros; records = 0 } }) t
+  flags-refused t = refl
 
   pub count-refused : (countTold (refused n) ≡ record { refusal = n; count = 0 }) × (truthTold (refused n) ≡ record { refusal = n; count = 0 })
   count-refused = (refl, refl)
 
-  pub bytes-refused : (out : List ℕ) → bytesTold (record { answer = refused n; out = out }) ≡ bytesLeft (record { refusal = n; count = 0 }) out
-  bytes-refused out = refl
+  pub sum-refused : sumAnswer (refused n) ≡ record { refusal = n; removal = record { kind = 0; bytes = 0; rows = 0 } }
+  sum-refused = refl
 
-  pub sum-refused : (t : Tables) → sumTold (keptRemoval n t) ≡ sumLeft (record { refusal = n; removal = record { kind = 0; bytes = 0; rows = 0 } }) t
-  sum-refused t = refl
+  pub split-refused : splitAnswer (refused n) ≡ record { refusal = n; removal = record { kind = 0; bytes = 0; rows = 0 }; visited = 0 }
+  split-refused = refl
 
-  pub split-refused :
-      (t : Tables) → splitTold (keptSplit n t) ≡ splitLeft (record { refusal = n; removal = record { kind = 0; bytes = 0; rows = 0 }; visited = 0 }) t
-  split-refused t = refl
+  pub repair-refused : repairAnswer (refused n) ≡ record { refusal = n; bytes = 0; lines = 0 }
+  repair-refused = refl
 
-  pub totals-refused : (t : Tables) → totalsTold (keptTotals n t) ≡ totalsLeft (record { refusal = n; count = 0 }) t
-  totals-refused t = refl
-
-  pub structs-refused : (ts : List Total) (w : Tables) → structsTold (keptStructs n ts w) ≡ structsLeft (record { refusal = n; count = 0 }) ts w
-  structs-refused ts w = refl
-
-  pub repair-refused : (out os cs : List ℕ) → repairTold (keptRepair n out os cs) ≡ repairLeft (record { refusal = n; bytes = 0; lines = 0 }) out os cs
-  repair-refused out os cs = refl
+  -- of each of these what was lent is left
+  pub others-kept : {A B M : Type 0} (f : Answer A → B) (m : M) → toldAs f (kept n m) ≡ after (f (refused n)) m
+  others-kept f m = refl

@@ -10,5 +10,6 @@ pub merges : (p : ℕ) (o t : CHead) (s : ℕ) {g k b : Bool} → g ≡ isTrue p
 merges p o t s e m u = ap (λ (q : Bool). canMerge q o t s) (sym e) ∙ sym m ∙ u
 
 -- the same with one test more
-pub removes : (p : ℕ) (o t : CHead) (s : ℕ) (y : Bool) {g k b : Bool} → g ≡ isTrue p → k ≡ (canMerge g o t s && y) → k ≡ b → (canMerge (isTrue p) o t s && y) ≡ b
+pub removes : (p : ℕ) (o t : CHead) (s : ℕ) (y : Bool) {g k b : Bool} → g ≡ isTrue p → k ≡ (canMerge g o t s && y) → k ≡ b
+    → (canMerge (isTrue p) o t s && y) ≡ b
 removes p o t s y e m u = ap (λ (q : Bool). canMerge q o t s && y) (sym e) ∙ sym m ∙ u

@@ -15,7 +15,8 @@ use base.Fml.{Lft, Fml, ftrue, fres}
 use prog.Wp.{Heap, Env, Calls, Loops, Wp, afterSeq}
 use ghost.Atoms.{Atoms, sem}
 use contract.Monad.{fact}
-use types.Kit.{Given, Item, ‵, raw, _⊛_, some, later, await, pick, Goal, Post, post, anyQ, runs, Sq, Soaks, Go, _$_, _∵_, !, qed, use1, move, keep, drop, split, fsplit, done}
+use types.Kit.{Given, Item, ‵, raw, _⊛_, some, later, await, pick, Goal, Post, post, anyQ, runs, Sq, Soaks, Go, _$_, _∵_, !, qed, use1, move, keep}
+use types.Kit.{drop, split, fsplit, done}
 use types.Run.{Opd, first, branches, skips}
 use denote.RattleType.{RattleType}
 use denote.Laws.{Is, shows}
@@ -24,7 +25,8 @@ use denote.Slice.{MutSlice, finally, res-finally, codedHoleys, heres}
 use denote.Steps.{peeks, heard}
 
 module _ {M : Type 1} {𝓤 : URA M} {H : Heap 𝓤} {A : Atoms 𝓤} (W : Given 𝓤 H A) where
-  pub or-else : {Γ : List (Item 𝓤)} {C : Calls 𝓤 H} {Λ : Loops 𝓤 H} {E : Env 𝓤 H} {q : Post 𝓤 H} {c : Operand} {a b : Body} {y : Bool} → Opd (Go {0}) W Γ E c (vbool y)
+  pub or-else : {Γ : List (Item 𝓤)} {C : Calls 𝓤 H} {Λ : Loops 𝓤 H} {E : Env 𝓤 H} {q : Post 𝓤 H} {c : Operand} {a b : Body} {y : Bool}
+      → Opd (Go {0}) W Γ E c (vbool y)
       → (Holds y → Sq W Γ (runs C Λ E a (anyQ (afterSeq 𝓤 H (Wp 𝓤 H C Λ E b (post 𝓤 H q)) (post 𝓤 H q))))) → (Holds (not y) → Sq W Γ (runs C Λ E b q))
       → Sq W Γ (runs C Λ E (seq (cond c a skip) b) q)
   or-else o held failed = first ! $ branches ! o held (λ f. skips ! $ record { prf = failed f .prf })
@@ -36,7 +38,8 @@ module _ {M : Type 1} {𝓤 : URA M} {H : Heap 𝓤} {A : Atoms 𝓤} (W : Given
       await ! s $ pick ! (λ r. split ! $ move ! (1 ∷ []) $ pick ! (λ ws. split ! $ drop ! $ heard ! (φ r) (λ e. split ! $ drop ! $
       peeks ! R (Is R) (shows 𝓤 H A R) r (v ∷ []) (λ is. k r e is))))
 
-  pub gives-up : (R : RattleType) (ℓ : Lifetime) (κ : Lft) (x : RefT (List (R .Denot))) (vs : List Val) → ent 𝓤 (sem 𝓤 H A (MutSlice ℓ κ R .own x vs)) (sem 𝓤 H A (finally R (x .name) (x .now)))
+  pub gives-up : (R : RattleType) (ℓ : Lifetime) (κ : Lft) (x : RefT (List (R .Denot))) (vs : List Val)
+      → ent 𝓤 (sem 𝓤 H A (MutSlice ℓ κ R .own x vs)) (sem 𝓤 H A (finally R (x .name) (x .now)))
   gives-up R ℓ κ x vs =
       qed W (‵ (MutSlice ℓ κ R .own x vs) ∷ []) ∵ fsplit ! $ move ! (1 ∷ []) $ fsplit ! $
       use1 W (‵ (fres (x .name) (codedHoleys R .code (heres R (x .now))))) (W .names .obs-res (x .name) (codedHoleys R .code (heres R (x .now)))) $

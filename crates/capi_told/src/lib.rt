@@ -1,15 +1,15 @@
 // What the calls answer, as C gets it. In a refused answer everything but the number is 0.
 ghost use mathlib.Core.Path.{_≡_};
-ghost use mathlib.Core.List.{[]};
 ghost use Rattle.records_spec.specs.Refusals.{number};
-ghost use Rattle.records_spec.specs.Answers.{ok, refused, shown, counted, kept};
-ghost use Rattle.rows_spec.specs.Calls.{told, totalled};
-ghost use Rattle.rows_spec.specs.Outcomes.{toldRemoval};
-ghost use Rattle.splitting_spec.specs.Calls.{told as toldSplit};
-ghost use Rattle.totals_spec.specs.Calls.{told as toldTotals};
-ghost use Rattle.repair_spec.specs.Calls.{sizes};
+ghost use Rattle.records_spec.specs.Answers.{counted, presentIn};
+ghost use Rattle.rows_spec.specs.Calls.{decided, totalled, toldRemoval};
+ghost use Rattle.records_spec.specs.Outcomes.{refused, ok};
+ghost use Rattle.splitting_spec.specs.Calls.{toldSplit};
+ghost use Rattle.repair_spec.specs.Calls.{toldRepair};
+ghost use Rattle.records_spec.specs.Flags.{noHead};
 ghost use Rattle.rows_spec.specs.declared.removed.Removed.the-variants.{None};
-ghost use Rattle.capi_spec.specs.Told.{headTold, flagsAnswer, countTold, truthTold, ownerTold, ownerIdTold, removalTold, sumAnswer, splitAnswer, repairAnswer};
+ghost use Rattle.capi_spec.specs.Told.{headTold, flagsAnswer, countTold, truthTold, ownerTold};
+ghost use Rattle.capi_spec.specs.Told.{ownerIdTold, removalTold, sumAnswer, splitAnswer, repairAnswer};
 use capi_spec::CCount;
 use capi_spec::CFlags;
 use capi_spec::CHead;
@@ -34,7 +34,6 @@ use rows_spec::Removed;
 use rows_spec::StorageRemovedBytes;
 use rows_spec::Total;
 use splitting_spec::Splitting;
-use totals_spec::Replaced;
 
 // A head, its kind a byte.
 pub fn head(h: Head) -> CHead
@@ -52,7 +51,7 @@ pub fn head(h: Head) -> CHead
 
 // Flags, none, or a refusal.
 pub fn flags(answered: Answered) -> CFlags
-    ensures { λ r. ⌜ r ≡ flagsAnswer (shown answered [] []) ⌝ }
+    ensures { λ r. ⌜ r ≡ flagsAnswer (presentIn (answered .outcome)) (answered .head) ⌝ }
 {
     let outcome = answered.outcome;
     let found = answered.head;
@@ -78,7 +77,7 @@ pub fn flags(answered: Answered) -> CFlags
 
 // The refusal of a call that answers flags, where a byte names nothing.
 pub fn bad_flags() -> CFlags
-    ensures { λ r. ⌜ r ≡ flagsAnswer (kept 11 [] []) ⌝ }
+    ensures { λ r. ⌜ r ≡ flagsAnswer (refused (number Refusal.BadTable)) noHead ⌝ }
 {
     flags(records::refused(Refusal::BadTable))
 }
@@ -109,7 +108,7 @@ pub fn count(answer: Counted) -> CCount
 
 // 1 or 0 for yes or no, or a refusal.
 pub fn has(answer: HasRemoval) -> CCount
-    ensures { λ r. ⌜ r ≡ truthTold (told answer) ⌝ }
+    ensures { λ r. ⌜ r ≡ truthTold (decided answer) ⌝ }
 {
     match answer {
         HasRemoval::Yes => some_number(1),
@@ -128,22 +127,11 @@ pub fn total(answer: Total) -> CCount
     }
 }
 
-// A number of rows, or a refusal.
-pub fn replaced(answer: Replaced) -> CCount
-    ensures { λ r. ⌜ r ≡ countTold (toldTotals answer) ⌝ }
-{
-    match answer {
-        Replaced::Rows(n) => some_number(n as u64),
-        Replaced::IndexMismatch => no_number(14),
-        Replaced::Refused(refusal) => no_number(records::number(refusal)),
-    }
-}
-
 // The refusal where a byte of the old or the new flags names no kind.
 pub fn bad_table() -> CCount
-    ensures { λ r. ⌜ r ≡ countTold (refused 11) ⌝ }
+    ensures { λ r. ⌜ r ≡ countTold (refused (number Refusal.BadTable)) ⌝ }
 {
-    replaced(Replaced::Refused(Refusal::BadTable))
+    count(Counted::Refused(Refusal::BadTable))
 }
 
 // Whose owner, or a refusal.
@@ -268,16 +256,16 @@ pub fn value_split(splitting: Splitting) -> CValueSplit
 }
 
 // How many bytes and lines, or a refusal.
-pub fn repaired(outcome: repair_spec::Outcome) -> CRepaired
-    ensures { λ r. ⌜ r ≡ repairAnswer (sizes outcome) ⌝ }
+pub fn repaired(outcome: repair_spec::AnsweredRepair) -> CRepaired
+    ensures { λ r. ⌜ r ≡ repairAnswer (toldRepair outcome) ⌝ }
 {
     match outcome {
-        repair_spec::Outcome::Done { bytes, lines } => CRepaired {
+        repair_spec::AnsweredRepair::Done { bytes, lines } => CRepaired {
             refusal: 0,
             bytes,
             lines,
         },
-        repair_spec::Outcome::Refused(refusal) => CRepaired {
+        repair_spec::AnsweredRepair::Refused(refusal) => CRepaired {
             refusal: records::number(refusal),
             bytes: 0,
             lines: 0,

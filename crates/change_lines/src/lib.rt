@@ -2,6 +2,7 @@
 ghost use Prim.Native.Nat.{_+_, _≤_};
 ghost use mathlib.Core.Path.{_≡_};
 ghost use lib.ListN.{length};
+ghost use Rattle.fields_spec.specs.Lending.{was, left};
 ghost use Rattle.fields_spec.specs.Writing.{Put};
 ghost use Rattle.repair_spec.specs.Changes.{line};
 ghost use Rattle.change_lines_spec.specs.Text.{words, changeOf};
@@ -16,7 +17,7 @@ const LONGEST_LINE: usize = 36;
 // Writes the words of the change with a number at `at`; answers the place behind them.
 fn put_words(out: &mut [u8], at: usize, change: u8) -> usize
     requires { ⌜ at + longestWords ≤ length (now out) ⌝ }
-    ensures { λ r. ⌜ Put (words (changeOf change)) at r (now (out .entry)) (now (out .exit)) ⌝ }
+    ensures { λ r. ⌜ Put (words (changeOf change)) at r (was out) (left out) ⌝ }
 {
     if change == 1 {
         return put_text(out, at, b"re-encoded");
@@ -42,7 +43,7 @@ fn put_words(out: &mut [u8], at: usize, change: u8) -> usize
 // Writes a line at `at`; answers the place behind it.
 fn put_line(out: &mut [u8], at: usize, offset: usize, change: u8) -> usize
     requires { ⌜ at + longestLine ≤ length (now out) ⌝ }
-    ensures { λ r. ⌜ OneLine (line offset (changeOf change)) at r (now (out .entry)) (now (out .exit)) ⌝ }
+    ensures { λ r. ⌜ OneLine (line offset (changeOf change)) at r (was out) (left out) ⌝ }
 {
     let blank = put_decimal(out, at, offset as u64);
     let words = put_text(out, blank, b" ");
@@ -54,7 +55,7 @@ fn put_line(out: &mut [u8], at: usize, offset: usize, change: u8) -> usize
 pub fn put_lines(offsets: &[usize], changes: &[u8], from: usize, out: &mut [u8]) -> Chunk
     requires { ⌜ (length (now offsets) ≡ length (now changes)) × (from ≤ length (now offsets)) ⌝ }
     requires { ⌜ longestLine ≤ length (now out) ⌝ }
-    ensures { λ r. ⌜ Chunked (now (offsets .entry)) (now (changes .entry)) from r (now (out .entry)) (now (out .exit)) ⌝ }
+    ensures { λ r. ⌜ Chunked (was offsets) (was changes) from r (was out) (left out) ⌝ }
 {
     let mut size: usize = 0;
     let mut next = from;

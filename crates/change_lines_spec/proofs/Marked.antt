@@ -8,7 +8,8 @@ use Rattle.repair_spec.specs.declared.change.Change.the-variants.{ReEncoded, To
 use Rattle.change_lines_spec.specs.Text.{linesText, linesIn}
 
 pub marked :
-    linesText (line 0 KindChanged ∷ line 3 ReEncoded ∷ line 6 TooLarge ∷ line 11 NotAboveBase ∷ line 14 Replaced ∷ line 17 Moved ∷ line 120 TailCut ∷ [])
+    linesText (line 0 KindChanged ∷ line 3 ReEncoded ∷ line 6 TooLarge ∷ line 11 NotAboveBase ∷ line 14 Replaced ∷ line 17 Moved ∷ line 120 TailCut ∷
+    [])
     ≡ ascii "0 kind changed\n3 re-encoded\n6 too large\n11 not above base\n14 replaced\n17 moved\n120 tail cut\n"
 unfolding linesText decimal digits
 marked = refl

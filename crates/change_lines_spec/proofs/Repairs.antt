@@ -2,16 +2,19 @@
 use Prim.Native.Nat.{ℕ, _≤_}
 use native.Mathlib.Omega.{arith}
 use mathlib.Core.Path.{_≡_, refl, sym, ap, ap₂, _∙_}
-use mathlib.Core.Bool.{Bool, true, false, cond, _&&_}
+use mathlib.Core.Bool.{Bool, true, false, _&&_}
 use mathlib.Core.List.{List}
 use lib.Dec.{leb}
 use lib.ListN.{length, take}
 use Rattle.records_spec.specs.Tables.{over}
-use Rattle.records_spec.specs.Answers.{Answer, ok, refused, roomFor}
+use Rattle.records_spec.specs.Answers.{roomFor}
 use Rattle.records_spec.proofs.Tables.{over-first, over-holds}
 use Rattle.repair_spec.specs.Repairing.{Repaired, repaired}
-use Rattle.repair_spec.specs.Calls.{Sizes, After, shown, offsetsOf, changesOf, placed, kept, after, repairedInto}
-use Rattle.repair_spec.specs.declared.repairing.Outcome.the-variants.{Done}
+use Rattle.repair_spec.specs.Calls.{Sizes, offsetsOf, changesOf, repairedInto, written, placingRepair, repairLent, sizesOf, toldRepair, RepairAfter}
+use Rattle.records_spec.specs.Outcomes.{refused, Answer, ok, after, leaving, kept, placed}
+use Rattle.records_spec.specs.Refusals.{number}
+use Rattle.records_spec.specs.declared.refusal.Refusal.the-variants.{NoRoom}
+use Rattle.repair_spec.specs.declared.repairing.AnsweredRepair.the-variants.{Done}
 use Rattle.repair_spec.proofs.Columns.{length-offsetsOf, length-changesOf}
 use Rattle.change_lines_spec.specs.Text.{linesIn}
 use Rattle.change_lines_spec.proofs.Texts.{lines-back}
@@ -37,19 +40,20 @@ linesOf (ok s) = s .lines
 
 module _ (b n : ℕ) (out os cs out₀ os₀ cs₀ : List ℕ) where
   -- a call that was done has not been refused
-  not-kept : (k : ℕ) → shown (Done b n) out os cs ≡ kept k out₀ os₀ cs₀ → ⊥
+  not-kept : (k : ℕ) → after (toldRepair (Done b n)) (repairLent out os cs) ≡ kept k (repairLent out₀ os₀ cs₀) → ⊥
   not-kept k e =
-      let a : _≡_ {A = Answer Sizes} (ok (record { bytes = b; lines = n })) (refused k) = ap (λ (w : After). w .answer) e in
+      let a : _≡_ {A = Answer Sizes} (ok (record { bytes = b; lines = n })) (refused k) = ap (λ (w : RepairAfter). w .answer) e in
       let z : _≡_ {A = ℕ} 0 1 = cc in
       omega arith
 
-  left-placed : (r : Repaired) → shown (Done b n) out os cs ≡ placed r out₀ os₀ cs₀ → Left (ok r) b n out os cs
+  left-placed : (r : Repaired) → after (toldRepair (Done b n)) (repairLent out os cs) ≡ after (ok (sizesOf r)) (written r (repairLent out₀ os₀ cs₀))
+      → Left (ok r) b n out os cs
   left-placed r e =
-      let p : b ≡ length (r .bytes) = ap (λ (w : After). bytesOf (w .answer)) e in
-      let q : n ≡ length (r .lines) = ap (λ (w : After). linesOf (w .answer)) e in
-      let o : out ≡ over (r .bytes) out₀ = ap (λ (w : After). w .out) e in
-      let f : os ≡ over (offsetsOf (r .lines)) os₀ = ap (λ (w : After). w .offsets) e in
-      let g : cs ≡ over (changesOf (r .lines)) cs₀ = ap (λ (w : After). w .changes) e in
+      let p : b ≡ length (r .bytes) = ap (λ (w : RepairAfter). bytesOf (w .answer)) e in
+      let q : n ≡ length (r .lines) = ap (λ (w : RepairAfter). linesOf (w .answer)) e in
+      let o : out ≡ over (r .bytes) out₀ = ap (λ (w : RepairAfter). w .lent .out) e in
+      let f : os ≡ over (offsetsOf (r .lines)) os₀ = ap (λ (w : RepairAfter). w .lent .offsets) e in
+      let g : cs ≡ over (changesOf (r .lines)) cs₀ = ap (λ (w : RepairAfter). w .lent .changes) e in
       record {
         what = r;
         is-done = refl;
@@ -59,19 +63,26 @@ module _ (b n : ℕ) (out os cs out₀ os₀ cs₀ : List ℕ) where
         bytes-are = rw o (over-first (r .bytes) out₀ b (sym p));
         lines-are =
             rw (f, g)
-            (ap₂ linesIn (over-first (offsetsOf (r .lines)) os₀ n (length-offsetsOf (r .lines) ∙ sym q)) (over-first (changesOf (r .lines)) cs₀ n (length-changesOf (r .lines) ∙ sym q))
+            (ap₂ linesIn (over-first (offsetsOf (r .lines)) os₀ n (length-offsetsOf (r .lines) ∙ sym q))
+            (over-first (changesOf (r .lines)) cs₀ n (length-changesOf (r .lines) ∙ sym q))
             ∙ lines-back (r .lines));
       }
 
-  left-room : (t : Bool) (r : Repaired) → shown (Done b n) out os cs ≡ cond t (placed r out₀ os₀ cs₀) (kept 10 out₀ os₀ cs₀) → Left (ok r) b n out os cs
+  left-room : (t : Bool) (r : Repaired)
+      → after (toldRepair (Done b n)) (repairLent out os cs)
+      ≡ leaving (repairLent out₀ os₀ cs₀) (placed t (sizesOf r) (written r (repairLent out₀ os₀ cs₀)))
+      → Left (ok r) b n out os cs
+  unfolding leaving
   left-room true r e = left-placed r e
-  left-room false r e = absurd (not-kept 10 e)
+  left-room false r e = absurd (not-kept (number NoRoom) e)
 
-  pub left-after : (x : Answer Repaired) → shown (Done b n) out os cs ≡ after x out₀ os₀ cs₀ → Left x b n out os cs
-  unfolding after
+  pub left-after : (x : Answer Repaired) → after (toldRepair (Done b n)) (repairLent out os cs) ≡ placingRepair x (repairLent out₀ os₀ cs₀)
+      → Left x b n out os cs
+  unfolding placingRepair leaving
   left-after (refused k) e = absurd (not-kept k e)
   left-after (ok r) e = left-room (leb (length (r .bytes)) (length out₀) && roomFor (length (r .lines)) (length os₀) (length cs₀)) r e
 
   -- BYTES AND LIST ARE THE DEFINITION'S
-  pub left-repair : (src : List ℕ) → shown (Done b n) out os cs ≡ repairedInto src out₀ os₀ cs₀ → Left (repaired src) b n out os cs
+  pub left-repair : (src : List ℕ) → after (toldRepair (Done b n)) (repairLent out os cs) ≡ repairedInto src (repairLent out₀ os₀ cs₀)
+      → Left (repaired src) b n out os cs
   left-repair src e = left-after (repaired src) e

@@ -17,8 +17,8 @@ abbrev pub longestLine : ℕ
 longestLine = mostDigits + 1 + longestWords + 1
 
 -- the lines from the place i up to the place end
-abbrev pub between : ℕ → ℕ → List ℕ → List ℕ → List Line
-between i end os cs = drop i (take end (linesIn os cs))
+abbrev pub linesBetween : ℕ → ℕ → List ℕ → List ℕ → List Line
+linesBetween i end os cs = drop i (take end (linesIn os cs))
 
 -- a line's text stands at a place, and the place behind it is not far
 pub record OneLine (l : Line) (at next : ℕ) (old new : List ℕ) : Type 0 where
@@ -27,7 +27,7 @@ pub record OneLine (l : Line) (at next : ℕ) (old new : List ℕ) : Type 0 wher
 
 -- the text of the lines from a place up to another stands at the start; where any are left, that is one line at least
 pub record Chunked (os cs : List ℕ) (from : ℕ) (r : Chunk) (old new : List ℕ) : Type 0 where
-  pub put : Put (linesText (between from (r .next) os cs)) 0 (r .size) old new
+  pub put : Put (linesText (linesBetween from (r .next) os cs)) 0 (r .size) old new
   pub goes-on : from < length os → from < r .next
   pub inside : r .next ≤ length os
   pub fits : r .size ≤ length new

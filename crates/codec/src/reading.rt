@@ -3,8 +3,10 @@ ghost use mathlib.Core.Path.{_≡_};
 ghost use mathlib.Core.Bool.{true, false};
 ghost use mathlib.Core.List.{List};
 ghost use Prim.Native.Nat.{ℕ};
-ghost use Rattle.records_spec.specs.Flags.{multi};
-ghost use Rattle.records_spec.specs.Answers.{shown};
+ghost use Rattle.fields_spec.specs.Lending.{was};
+ghost use Rattle.records_spec.specs.Flags.{multi, lending};
+ghost use Rattle.records_spec.specs.Answers.{shown, tablesWere, tablesLeft};
+ghost use Rattle.records_spec.specs.Outcomes.{refused};
 ghost use Rattle.records_spec.specs.declared.head.Kind.the-variants.{SingleEpoch, MultiEpoch, SingleEpochOwned, MultiEpochOwned};
 ghost use Rattle.codec_spec.specs.Calls.{deserializedAs, deserialized};
 use codec_judging::base_in;
@@ -20,7 +22,7 @@ use records_spec::Refusal;
 // Reads flags of kind 1 or 3.
 fn read_multi(kind: Kind, src: &[u8], epochs: &mut [u16], counts: &mut [u32]) -> Answered
     requires { ⌜ multi kind ≡ true ⌝ }
-    ensures { λ r. ⌜ shown r (now (epochs .exit)) (now (counts .exit)) ≡ deserializedAs kind (now (src .entry)) (now (epochs .entry)) (now (counts .entry)) ⌝ }
+    ensures { λ r. ⌜ shown r (tablesLeft epochs counts) ≡ deserializedAs kind (was src) (tablesWere epochs counts) ⌝ }
 {
     let size = head_size(kind);
     if src.len() < size {
@@ -42,7 +44,7 @@ fn read_multi(kind: Kind, src: &[u8], epochs: &mut [u16], counts: &mut [u32]) ->
 // Reads flags of kind 0 or 2, which have no records: whatever tables are lent, they stay as they are.
 fn read_single(kind: Kind, src: &[u8]) -> Answered
     requires { ⌜ multi kind ≡ false ⌝ }
-    ensures { λ r. ⌜ ((es cs : List ℕ) → shown r es cs ≡ deserializedAs kind (now (src .entry)) es cs) ⌝ }
+    ensures { λ r. ⌜ ((es cs : List ℕ) → shown r (lending es cs) ≡ deserializedAs kind (was src) (lending es cs)) ⌝ }
 {
     if src.len() == head_size(kind) {
         let head = head_in(kind, src, 0);
@@ -53,7 +55,7 @@ fn read_single(kind: Kind, src: &[u8]) -> Answered
 
 // Reads flags of a kind, without a look at byte 0.
 fn read_as(kind: Kind, src: &[u8], epochs: &mut [u16], counts: &mut [u32]) -> Answered
-    ensures { λ r. ⌜ shown r (now (epochs .exit)) (now (counts .exit)) ≡ deserializedAs kind (now (src .entry)) (now (epochs .entry)) (now (counts .entry)) ⌝ }
+    ensures { λ r. ⌜ shown r (tablesLeft epochs counts) ≡ deserializedAs kind (was src) (tablesWere epochs counts) ⌝ }
 {
     if records::is_multi(kind) {
         return read_multi(kind, src, epochs, counts);
@@ -63,14 +65,14 @@ fn read_as(kind: Kind, src: &[u8], epochs: &mut [u16], counts: &mut [u32]) -> An
 
 // Reads flags of kind 0, whatever byte 0 says.
 pub fn deserialize_single_epoch(src: &[u8], epochs: &mut [u16], counts: &mut [u32]) -> Answered
-    ensures { λ r. ⌜ shown r (now (epochs .exit)) (now (counts .exit)) ≡ deserializedAs SingleEpoch (now (src .entry)) (now (epochs .entry)) (now (counts .entry)) ⌝ }
+    ensures { λ r. ⌜ shown r (tablesLeft epochs counts) ≡ deserializedAs SingleEpoch (was src) (tablesWere epochs counts) ⌝ }
 {
     read_as(Kind::SingleEpoch, src, epochs, counts)
 }
 
 // Reads flags of kind 1, whatever byte 0 says.
 pub fn deserialize_multi_epoch(src: &[u8], epochs: &mut [u16], counts: &mut [u32]) -> Answered
-    ensures { λ r. ⌜ shown r (now (epochs .exit)) (now (counts .exit)) ≡ deserializedAs MultiEpoch (now (src .entry)) (now (epochs .entry)) (now (counts .entry)) ⌝ }
+    ensures { λ r. ⌜ shown r (tablesLeft epochs counts) ≡ deserializedAs MultiEpoch (was src) (tablesWere epochs counts) ⌝ }
 {
     read_as(Kind::MultiEpoch, src, epochs, counts)
 }
@@ -81,21 +83,21 @@ pub fn deserialize_single_epoch_owned(
     epochs: &mut [u16],
     counts: &mut [u32],
 ) -> Answered
-    ensures { λ r. ⌜ shown r (now (epochs .exit)) (now (counts .exit)) ≡ deserializedAs SingleEpochOwned (now (src .entry)) (now (epochs .entry)) (now (counts .entry)) ⌝ }
+    ensures { λ r. ⌜ shown r (tablesLeft epochs counts) ≡ deserializedAs SingleEpochOwned (was src) (tablesWere epochs counts) ⌝ }
 {
     read_as(Kind::SingleEpochOwned, src, epochs, counts)
 }
 
 // Reads flags of kind 3, whatever byte 0 says.
 pub fn deserialize_multi_epoch_owned(src: &[u8], epochs: &mut [u16], counts: &mut [u32]) -> Answered
-    ensures { λ r. ⌜ shown r (now (epochs .exit)) (now (counts .exit)) ≡ deserializedAs MultiEpochOwned (now (src .entry)) (now (epochs .entry)) (now (counts .entry)) ⌝ }
+    ensures { λ r. ⌜ shown r (tablesLeft epochs counts) ≡ deserializedAs MultiEpochOwned (was src) (tablesWere epochs counts) ⌝ }
 {
     read_as(Kind::MultiEpochOwned, src, epochs, counts)
 }
 
 // Reads flags of the kind that byte 0 names. Their records go to the start of the two tables.
 pub fn deserialize(src: &[u8], epochs: &mut [u16], counts: &mut [u32]) -> Answered
-    ensures { λ r. ⌜ shown r (now (epochs .exit)) (now (counts .exit)) ≡ deserialized (now (src .entry)) (now (epochs .entry)) (now (counts .entry)) ⌝ }
+    ensures { λ r. ⌜ shown r (tablesLeft epochs counts) ≡ deserialized (was src) (tablesWere epochs counts) ⌝ }
 {
     if src.len() == 0 {
         return records::absent();

@@ -4,7 +4,8 @@ ghost use mathlib.Core.Path.{_≡_};
 ghost use mathlib.Core.Option.{none};
 ghost use Prim.Native.Nat.{_+_, _≤_, _<_};
 ghost use lib.ListN.{length, take, drop};
-ghost use Rattle.records_spec.specs.Tables.{recordsOf};
+ghost use Rattle.records_spec.specs.Answers.{recordsWere};
+ghost use Rattle.fields_spec.specs.Lending.{was, left};
 ghost use Rattle.codec_spec.specs.Reading.{parse};
 ghost use Rattle.codec_spec.specs.Blocks.{blockRecords, Blocked, filled, filledFrom};
 use crate::record::read_record;
@@ -28,7 +29,7 @@ pub fn read_block(
 ) -> Block
     requires { ⌜ start ≤ length (now src) ⌝ }
     requires { ⌜ (blockRecords ≤ length (now epochs)) × (blockRecords ≤ length (now counts)) ⌝ }
-    ensures { λ r. ⌜ Blocked (now (src .entry)) start base r (now (epochs .entry)) (now (counts .entry)) (now (epochs .exit)) (now (counts .exit)) ⌝ }
+    ensures { λ r. ⌜ Blocked (was src) start base r (was epochs) (was counts) (left epochs) (left counts) ⌝ }
 {
     let mut at = start;
     let mut prev = base;
@@ -73,7 +74,9 @@ fn place_last(
 ) -> Scan
     requires { ⌜ (n ≤ length (now «block_epochs»)) × (n ≤ length (now «block_counts»)) ⌝ }
     requires { ⌜ k + n < 18446744073709551616 ⌝ }
-    ensures { λ r. ⌜ filled r (now (epochs .exit)) (now (counts .exit)) ≡ filledFrom end k none (take n (recordsOf (now («block_epochs» .entry)) (now («block_counts» .entry)))) (now (epochs .entry)) (now (counts .entry)) ⌝ }
+    ensures { λ r.
+        let block-records = recordsWere «block_epochs» «block_counts» in
+        ⌜ filled r (left epochs) (left counts) ≡ filledFrom end k none (take n block-records) (was epochs) (was counts) ⌝ }
 {
     if records::fit(k + n, epochs.len(), counts.len()) {
         return Scan::Records(records::copy_run(
@@ -100,7 +103,9 @@ pub fn read_blocks(
     counts: &mut [u32],
 ) -> Scan
     requires { ⌜ (k ≤ at) × (at ≤ length (now src)) × (1 ≤ k → at < length (now src)) ⌝ }
-    ensures { λ r. ⌜ filled r (now (epochs .exit)) (now (counts .exit)) ≡ filledFrom (length (now (src .entry))) k (parse at 0 prev (drop at (now (src .entry))) .fault) (parse at 0 prev (drop at (now (src .entry))) .records) (now (epochs .entry)) (now (counts .entry)) ⌝ }
+    ensures { λ r.
+        let parsed = parse at 0 prev (drop at (was src)) in
+        ⌜ filled r (left epochs) (left counts) ≡ filledFrom (length (was src)) k (parsed .fault) (parsed .records) (was epochs) (was counts) ⌝ }
 {
     let mut block_epochs = [0u16; BLOCK_RECORDS];
     let mut block_counts = [0u32; BLOCK_RECORDS];

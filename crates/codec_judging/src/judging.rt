@@ -3,8 +3,9 @@ ghost use mathlib.Core.Path.{_≡_};
 ghost use mathlib.Core.Bool.{true, false};
 ghost use Prim.Native.Nat.{_+_, _≤_};
 ghost use lib.ListN.{length, take, drop};
-ghost use Rattle.records_spec.specs.Flags.{multi, agrees, ownerLength, idOf, headFor};
-ghost use Rattle.codec_spec.specs.Bytes.{behindKind, behindOwner, headSize};
+ghost use Rattle.fields_spec.specs.Lending.{was};
+ghost use Rattle.records_spec.specs.Flags.{multi, agrees, idOf, headFor, ownerLength};
+ghost use Rattle.codec_spec.specs.Bytes.{headSize, behindKind, behindOwner};
 ghost use Rattle.codec_spec.specs.Reading.{parse, noFlags, refusedAt, baseIn, ownerIn, readAs, read};
 ghost use Rattle.codec_spec.specs.Blocks.{blockRecords};
 ghost use Rattle.codec_spec.specs.Calls.{scanOf, judgement};
@@ -35,7 +36,9 @@ pub fn judge_records(
 ) -> Scan
     requires { ⌜ start ≤ length (now src) ⌝ }
     requires { ⌜ (blockRecords ≤ length (now epochs)) × (blockRecords ≤ length (now counts)) ⌝ }
-    ensures { λ r. ⌜ r ≡ scanOf (length (now (src .entry))) (parse start 0 base (drop start (now (src .entry))) .fault) (length (parse start 0 base (drop start (now (src .entry))) .records)) ⌝ }
+    ensures { λ r.
+        let parsed = parse start 0 base (drop start (was src)) in
+        ⌜ r ≡ scanOf (length (was src)) (parsed .fault) (length (parsed .records)) ⌝ }
 {
     let mut at = start;
     let mut prev = base;
@@ -75,7 +78,7 @@ pub fn head_size(kind: Kind) -> usize
 // The base epoch of flags of a kind.
 pub fn base_in(kind: Kind, src: &[u8]) -> u16
     requires { ⌜ headSize kind ≤ length (now src) ⌝ }
-    ensures { λ r. ⌜ r ≡ baseIn kind (now (src .entry)) ⌝ }
+    ensures { λ r. ⌜ r ≡ baseIn kind (was src) ⌝ }
 {
     if records::is_owned(kind) {
         return fields::be16_at(src, BEHIND_OWNER);
@@ -86,7 +89,7 @@ pub fn base_in(kind: Kind, src: &[u8]) -> u16
 // The owner's bytes, behind the kind.
 fn owner_bytes(src: &[u8]) -> OwnerId
     requires { ⌜ behindOwner ≤ length (now src) ⌝ }
-    ensures { λ r. ⌜ r ≡ take ownerLength (drop behindKind (now (src .entry))) ⌝ }
+    ensures { λ r. ⌜ r ≡ take ownerLength (drop behindKind (was src)) ⌝ }
 {
     let mut owner = [0u8; OWNER_LENGTH];
     let mut k: usize = 0;
@@ -100,7 +103,7 @@ fn owner_bytes(src: &[u8]) -> OwnerId
 // The owner of flags of a kind, or zeros.
 fn owner_in(kind: Kind, src: &[u8]) -> OwnerId
     requires { ⌜ headSize kind ≤ length (now src) ⌝ }
-    ensures { λ r. ⌜ r ≡ idOf (ownerIn kind (now (src .entry))) ⌝ }
+    ensures { λ r. ⌜ r ≡ idOf (ownerIn kind (was src)) ⌝ }
 {
     if records::is_owned(kind) {
         return owner_bytes(src);
@@ -134,7 +137,7 @@ fn refused_at(refusal: Refusal, place: usize) -> Judgement
 pub fn head_in(kind: Kind, src: &[u8], records: usize) -> Head
     requires { ⌜ headSize kind ≤ length (now src) ⌝ }
     requires { ⌜ agrees kind records ≡ true ⌝ }
-    ensures { λ r. ⌜ r ≡ headFor (baseIn kind (now (src .entry))) (ownerIn kind (now (src .entry))) records ⌝ }
+    ensures { λ r. ⌜ r ≡ headFor (baseIn kind (was src)) (ownerIn kind (was src)) records ⌝ }
 {
     let base = base_in(kind, src);
     let owner = owner_in(kind, src);
@@ -150,7 +153,7 @@ pub fn head_in(kind: Kind, src: &[u8], records: usize) -> Head
 fn present(kind: Kind, src: &[u8], records: usize) -> Judgement
     requires { ⌜ headSize kind ≤ length (now src) ⌝ }
     requires { ⌜ agrees kind records ≡ true ⌝ }
-    ensures { λ r. ⌜ r ≡ record { verdict = Verdict.Present; head = headFor (baseIn kind (now (src .entry))) (ownerIn kind (now (src .entry))) records } ⌝ }
+    ensures { λ r. ⌜ r ≡ record { verdict = Verdict.Present; head = headFor (baseIn kind (was src)) (ownerIn kind (was src)) records } ⌝ }
 {
     let head = head_in(kind, src, records);
     Judgement {
@@ -162,7 +165,7 @@ fn present(kind: Kind, src: &[u8], records: usize) -> Judgement
 // Judges flags of kind 1 or 3.
 fn judge_multi(kind: Kind, src: &[u8]) -> Judgement
     requires { ⌜ multi kind ≡ true ⌝ }
-    ensures { λ r. ⌜ r ≡ judgement (readAs kind (now (src .entry))) ⌝ }
+    ensures { λ r. ⌜ r ≡ judgement (readAs kind (was src)) ⌝ }
 {
     let size = head_size(kind);
     if src.len() < size {
@@ -180,7 +183,7 @@ fn judge_multi(kind: Kind, src: &[u8]) -> Judgement
 // Judges flags of kind 0 or 2.
 fn judge_single(kind: Kind, src: &[u8]) -> Judgement
     requires { ⌜ multi kind ≡ false ⌝ }
-    ensures { λ r. ⌜ r ≡ judgement (readAs kind (now (src .entry))) ⌝ }
+    ensures { λ r. ⌜ r ≡ judgement (readAs kind (was src)) ⌝ }
 {
     if src.len() == head_size(kind) {
         return present(kind, src, 0);
@@ -190,7 +193,7 @@ fn judge_single(kind: Kind, src: &[u8]) -> Judgement
 
 // Judges flags of a kind, without a look at byte 0.
 pub fn judge_as(kind: Kind, src: &[u8]) -> Judgement
-    ensures { λ r. ⌜ r ≡ judgement (readAs kind (now (src .entry))) ⌝ }
+    ensures { λ r. ⌜ r ≡ judgement (readAs kind (was src)) ⌝ }
 {
     if records::is_multi(kind) {
         return judge_multi(kind, src);
@@ -200,7 +203,7 @@ pub fn judge_as(kind: Kind, src: &[u8]) -> Judgement
 
 // Judges flag bytes.
 pub fn judge(src: &[u8]) -> Judgement
-    ensures { λ r. ⌜ r ≡ judgement (read (now (src .entry))) ⌝ }
+    ensures { λ r. ⌜ r ≡ judgement (read (was src)) ⌝ }
 {
     if src.len() == 0 {
         return absent();

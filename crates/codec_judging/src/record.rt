@@ -2,6 +2,7 @@
 ghost use mathlib.Core.Path.{_≡_};
 ghost use Prim.Native.Nat.{_≤_};
 ghost use lib.ListN.{length, drop};
+ghost use Rattle.fields_spec.specs.Lending.{was};
 ghost use Rattle.codec_spec.specs.Reading.{next};
 ghost use Rattle.codec_spec.specs.Blocks.{gotOf};
 use codec_spec::Got;
@@ -11,7 +12,7 @@ use records_spec::Refusal;
 // Reads the record at `at`, whose epoch has to be above `prev`.
 pub fn read_record(src: &[u8], at: usize, prev: u16) -> Got
     requires { ⌜ at ≤ length (now src) ⌝ }
-    ensures { λ r. ⌜ r ≡ gotOf at (next prev (drop at (now (src .entry)))) ⌝ }
+    ensures { λ r. ⌜ r ≡ gotOf at (next prev (drop at (was src))) ⌝ }
 {
     if src.len() - at < 2 {
         return Got::Bad(Refusal::WrongSize);

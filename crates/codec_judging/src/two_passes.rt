@@ -2,6 +2,7 @@
 ghost use mathlib.Core.Path.{_≡_};
 ghost use Prim.Native.Nat.{_+_, _≤_, _<_};
 ghost use lib.ListN.{length, drop};
+ghost use Rattle.fields_spec.specs.Lending.{was, left};
 ghost use Rattle.records_spec.specs.Tables.{Placed};
 ghost use Rattle.codec_spec.specs.Reading.{parse};
 ghost use Rattle.codec_spec.specs.Blocks.{blockRecords, Sound, filled, filledFrom};
@@ -20,7 +21,9 @@ fn fill_records(
 ) -> usize
     requires { ⌜ Sound (now src) start n ⌝ }
     requires { ⌜ (k + n ≤ length (now epochs)) × (k + n ≤ length (now counts)) ⌝ }
-    ensures { λ r. ⌜ ((s : Sound (now (src .entry)) start n) → Placed (parse start 0 (s .before) (drop start (now (src .entry))) .records) k r (now (epochs .entry)) (now (counts .entry)) (now (epochs .exit)) (now (counts .exit))) ⌝ }
+    ensures { λ r.
+        ⌜ ((s : Sound (was src) start n)
+        → Placed (parse start 0 (s .before) (drop start (was src)) .records) k r (was epochs) (was counts) (left epochs) (left counts)) ⌝ }
 {
     let end = k + n;
     let mut at = start;
@@ -50,7 +53,9 @@ pub fn read_twice(
 ) -> Scan
     requires { ⌜ (k ≤ at) × (at < length (now src)) ⌝ }
     requires { ⌜ (blockRecords ≤ length (now «block_epochs»)) × (blockRecords ≤ length (now «block_counts»)) ⌝ }
-    ensures { λ r. ⌜ filled r (now (epochs .exit)) (now (counts .exit)) ≡ filledFrom (length (now (src .entry))) k (parse at 0 prev (drop at (now (src .entry))) .fault) (parse at 0 prev (drop at (now (src .entry))) .records) (now (epochs .entry)) (now (counts .entry)) ⌝ }
+    ensures { λ r.
+        let parsed = parse at 0 prev (drop at (was src)) in
+        ⌜ filled r (left epochs) (left counts) ≡ filledFrom (length (was src)) k (parsed .fault) (parsed .records) (was epochs) (was counts) ⌝ }
 {
     match judge_records(src, at, prev, block_epochs, block_counts) {
         Scan::Faulty(refusal, place) => Scan::Faulty(refusal, place),

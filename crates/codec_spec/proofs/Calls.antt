@@ -9,8 +9,11 @@ use lib.ListN.{length, getD, take}
 use Rattle.fields_spec.specs.Varint.{largest}
 use Rattle.fields_spec.proofs.RoundTrip.{Bytes}
 use Rattle.records_spec.specs.Tables.{recordsOf, ascending, over}
-use Rattle.records_spec.specs.Flags.{owned, ownerLength, ownerIf, flagsOf, proper}
-use Rattle.records_spec.specs.Answers.{Answer, ok, Written, writing}
+use Rattle.records_spec.specs.Flags.{owned, ownerIf, flagsOf, proper, holding, Held, ownerLength}
+use Rattle.records_spec.specs.Answers.{BytesAfter, writing}
+use Rattle.records_spec.specs.Outcomes.{Answer, ok}
+use Rattle.records_spec.specs.Refusals.{number}
+use Rattle.records_spec.specs.declared.refusal.Refusal.the-variants.{NoRoom, BadTable}
 use Rattle.records_spec.specs.declared.head.Head.{Head}
 use Rattle.records_spec.proofs.Tables.{over-first}
 use Rattle.records_spec.proofs.Rising.{asc-head, asc-tail}
@@ -45,7 +48,7 @@ owner-fits true o n bs = owner o n bs
 owner-fits false o n bs = unowned
 
 -- a proper head and its tables stand for proper flags
-pub proper-flags : (h : Head) (es cs : List ℕ) → InRange h es cs → proper h es cs ≡ true → Proper (flagsOf h es cs)
+pub proper-flags : (h : Head) (es cs : List ℕ) → InRange h es cs → proper (holding h es cs) ≡ true → Proper (flagsOf (holding h es cs))
 proper-flags h es cs r p =
     record {
       base-fits = r .base-fits;
@@ -61,35 +64,35 @@ record Fitted (xs out : List ℕ) (n : ℕ) : Type 0 where
 fitted : (xs out : List ℕ) (n : ℕ) → writing xs out .answer ≡ ok n → Fitted xs out n
 fitted xs out n e =
     elim (decLt (length out) (length xs)) [
-      | yes h ↦ absurd (refused-not-ok 10 n (sym (ap (λ (w : Written). w .answer) (writing-short xs out h)) ∙ e))
+      | yes h ↦ absurd (refused-not-ok (number NoRoom) n (sym (ap (λ (w : BytesAfter). w .answer) (writing-short xs out h)) ∙ e))
       | no h ↦
-          let q : _≡_ {A = Answer ℕ} (ok (length xs)) (ok n) = sym (ap (λ (w : Written). w .answer) (writing-fits xs out (omega arith))) ∙ e in
+          let q : _≡_ {A = Answer ℕ} (ok (length xs)) (ok n) = sym (ap (λ (w : BytesAfter). w .answer) (writing-fits xs out (omega arith))) ∙ e in
           let c : length xs ≡ n = cc in
           record { count = sym c; room = omega arith }
     ]
 
 -- flags that were written, n bytes of them
-module _ (h : Head) (es cs out : List ℕ) (n : ℕ) (e : serialized h es cs out .answer ≡ ok n) where
-  were-proper : proper h es cs ≡ true
-  were-proper = by (proper h es cs) refl
+module _ (f : Held) (out : List ℕ) (n : ℕ) (e : serialized f out .answer ≡ ok n) where
+  were-proper : proper f ≡ true
+  were-proper = by (proper f) refl
     where
-      by : (b : Bool) → proper h es cs ≡ b → proper h es cs ≡ true
+      by : (b : Bool) → proper f ≡ b → proper f ≡ true
       by true q = q
-      by false q = absurd (refused-not-ok 11 n (sym (ap (λ (w : Written). w .answer) (serialized-improper h es cs out q)) ∙ e))
+      by false q = absurd (refused-not-ok (number BadTable) n (sym (ap (λ (w : BytesAfter). w .answer) (serialized-improper f out q)) ∙ e))
 
-  were-fitted : Fitted (bytesOf (flagsOf h es cs)) out n
-  were-fitted = fitted (bytesOf (flagsOf h es cs)) out n (sym (ap (λ (w : Written). w .answer) (serialized-proper h es cs out were-proper)) ∙ e)
+  were-fitted : Fitted (bytesOf (flagsOf f)) out n
+  were-fitted = fitted (bytesOf (flagsOf f)) out n (sym (ap (λ (w : BytesAfter). w .answer) (serialized-proper f out were-proper)) ∙ e)
 
   -- `serialized_size` IS THE LENGTH WRITTEN
-  pub size-written : sizeOf h es cs ≡ ok n
-  size-written = size-proper h es cs were-proper ∙ ap ok (sym (were-fitted .count))
+  pub size-written : sizeOf f ≡ ok n
+  size-written = size-proper f were-proper ∙ ap ok (sym (were-fitted .count))
 
   -- WHAT WAS WRITTEN IS READ BACK
-  pub written-read : InRange h es cs → read (take n (serialized h es cs out .out)) ≡ someFlags (flagsOf h es cs)
+  pub written-read : InRange (f .head) (f .epochs) (f .counts) → read (take n (serialized f out .lent)) ≡ someFlags (flagsOf f)
   written-read r =
-      let xs : List ℕ = bytesOf (flagsOf h es cs) in
-      let o : serialized h es cs out .out ≡ over xs out =
-      ap (λ (w : Written). w .out) (serialized-proper h es cs out were-proper ∙ writing-fits xs out (were-fitted .room)) in
+      let xs : List ℕ = bytesOf (flagsOf f) in
+      let o : serialized f out .lent ≡ over xs out =
+      ap (λ (w : BytesAfter). w .lent) (serialized-proper f out were-proper ∙ writing-fits xs out (were-fitted .room)) in
       ap (λ (l : List ℕ). read (take n l)) o
       ∙ ap read (over-first xs out n (sym (were-fitted .count)))
-      ∙ read-back (flagsOf h es cs) (proper-flags h es cs r were-proper)
+      ∙ read-back (flagsOf f) (proper-flags (f .head) (f .epochs) (f .counts) r were-proper)

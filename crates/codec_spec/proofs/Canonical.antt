@@ -24,7 +24,8 @@ use Rattle.codec_spec.specs.Bytes.{recordsBytes, headBytes, behindKind, 
 use Rattle.codec_spec.specs.Reading.{Parsed, parse, someFlags, withRecords, baseIn, ownerIn, recordsIn, flagsIn, readAs, readByte, read}
 use Rattle.codec_spec.proofs.Readings.{multi-long, single-right}
 use Rattle.codec_spec.proofs.Settling.{no-flags, read-whole, no-refusal}
-use Rattle.codec_spec.proofs.RoundTrip.{Canonical, records-back, records-reread, Owned, unowned, owner, head-back, bytes-drop, bytes-take, field-back, field-below}
+use Rattle.codec_spec.proofs.RoundTrip.{Canonical, records-back, records-reread, Owned, unowned, owner, head-back, bytes-drop, bytes-take}
+use Rattle.codec_spec.proofs.RoundTrip.{field-back, field-below}
 
 -- ---- proper flags
 
@@ -130,8 +131,10 @@ head-written k x xs false e bs h t =
     rw (e, ← t) (ap (λ (l : List ℕ). x ∷ l) (ap (λ (l : List ℕ). l ++ drop 2 xs) (field-back 2 xs bs (omega arith)) ∙ take-append-drop 2 xs))
 head-written k x xs true e bs h t =
     let n : ownedHead ≤ suc (length xs) = rw e at h in
-    let f : big 2 (said (take 2 (drop 32 xs))) ≡ take 2 (drop 32 xs) = field-back 2 (drop 32 xs) (bytes-drop 32 xs bs) (rw length-drop (omega arith)) in
-    rw (e, ← t) (ap (λ (l : List ℕ). x ∷ l) (ap (λ (l : List ℕ). (take 32 xs ++ l) ++ drop 34 xs) f ∙ ap (λ (l : List ℕ). l ++ drop 34 xs) (sym (take-add 32 2 xs)) ∙ take-append-drop 34 xs))
+    let f : big 2 (said (take 2 (drop 32 xs)))
+    ≡ take 2 (drop 32 xs) = field-back 2 (drop 32 xs) (bytes-drop 32 xs bs) (rw length-drop (omega arith)) in
+    rw (e, ← t) (ap (λ (l : List ℕ). x ∷ l) (ap (λ (l : List ℕ). (take 32 xs ++ l) ++ drop 34 xs) f
+    ∙ ap (λ (l : List ℕ). l ++ drop 34 xs) (sym (take-add 32 2 xs)) ∙ take-append-drop 34 xs))
 
 -- the owner that is read is one, and the base has 16 bits
 pub owner-written : (k : Kind) (xs : List ℕ) (b : Bool) → owned k ≡ b → Bytes xs → headSize k ≤ length xs → Owned (owns (ownerIn k xs)) (ownerIn k xs)

@@ -87,7 +87,8 @@ module _ {all : List At} {d es₀ cs₀ es cs : List ℕ} {k at i : ℕ} (g : Go
       let a = going-ahead h in
       let r = ahead-read d at (g .prev) a e v ee ev in
       let s = a .turn .step in
-      let same : rest d (at + a .size) (a .item .epoch) ≡ rest d (v .next) (a .item .epoch) = ap (λ (i : ℕ). rest d i (a .item .epoch)) (sym (r .1)) in
+      let same : rest d (at + a .size) (a .item .epoch)
+      ≡ rest d (v .next) (a .item .epoch) = ap (λ (i : ℕ). rest d i (a .item .epoch)) (sym (r .1)) in
       let left : rest d at (g .prev) .records ≡ e ⦂ v .count ∷ rest d (v .next) (a .item .epoch) .records =
       ap (λ (p : Parsed). p .records) s ∙ ap₂ (λ (x : At) (p : Parsed). x ∷ p .records) (sym (r .0)) same in
       record {

@@ -171,7 +171,12 @@ rest-bytes (suc f) d at prev h g =
     by i (bad r) q ih = omega (arith, ap (λ (p : Parsed). length (p .records)) (rest-bad d at prev r i q))
     by i (good r u) q ih =
         let t = rest-good d at prev r u i q in
-        omega (arith, t .some-bytes, ap (λ (p : Parsed). length (p .records)) (t .step), ih (at + u) (r .epoch) (t .inside) (omega (arith, t .some-bytes)))
+        omega (
+          arith,
+          t .some-bytes,
+          ap (λ (p : Parsed). length (p .records)) (t .step),
+          ih (at + u) (r .epoch) (t .inside) (omega (arith, t .some-bytes)),
+        )
 
 pub rest-long : (d : List ℕ) (at prev : ℕ) → at ≤ length d → at + length (rest d at prev .records) ≤ length d
 rest-long d at prev h = rest-bytes (length d) d at prev h (omega arith)

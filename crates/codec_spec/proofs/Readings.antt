@@ -13,7 +13,8 @@ use Rattle.records_spec.specs.declared.refusal.Refusal.{Refusal}
 use Rattle.records_spec.specs.declared.refusal.Refusal.the-variants.{WrongSize}
 use Rattle.records_spec.specs.declared.head.Kind.{Kind}
 use Rattle.codec_spec.specs.Bytes.{unownedHead, ownedHead, headSize}
-use Rattle.codec_spec.specs.Reading.{Fault, Parsed, noFlags, someFlags, refusedAt, withRecords, baseIn, ownerIn, recordsIn, flagsIn, readAs, readByte, read}
+use Rattle.codec_spec.specs.Reading.{Fault, Parsed, noFlags, someFlags, refusedAt, withRecords, baseIn, ownerIn, recordsIn, flagsIn, readAs}
+use Rattle.codec_spec.specs.Reading.{readByte, read}
 use Rattle.codec_spec.specs.Calls.{scanOf}
 use Rattle.codec_spec.specs.declared.judging.Scan.{Scan}
 use Rattle.codec_spec.specs.declared.judging.Scan.the-variants.{Faulty, Records}

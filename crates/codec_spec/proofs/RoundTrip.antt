@@ -35,7 +35,8 @@ next-back prev r ys h he hc =
     let a : xs ≡ big 2 (r .epoch) ++ (varint (r .bytes) ++ ys) = append-assoc (big 2 (r .epoch)) (varint (r .bytes)) ys in
     let two = length-big 2 (r .epoch) in
     let l : 2 ≤ length xs = omega (arith, ap length a, length-append (big 2 (r .epoch)) (varint (r .bytes) ++ ys)) in
-    let e : said (take 2 xs) ≡ r .epoch = ap (λ (l : List ℕ). said (take 2 l)) a ∙ ap said (take-at (big 2 (r .epoch)) (varint (r .bytes) ++ ys) 2 two) ∙ said-big 2 (r .epoch) he in
+    let e : said (take 2 xs) ≡ r .epoch = ap (λ (l : List ℕ). said (take 2 l)) a
+    ∙ ap said (take-at (big 2 (r .epoch)) (varint (r .bytes) ++ ys) 2 two) ∙ said-big 2 (r .epoch) he in
     let v : found (drop 2 xs) ≡ whole (r .bytes) (length (varint (r .bytes))) =
     ap (λ (l : List ℕ). found (drop 2 l)) a ∙ ap found (drop-at (big 2 (r .epoch)) (varint (r .bytes) ++ ys) 2 two) ∙ found-back (r .bytes) ys hc in
     next-long prev xs l ∙ ap₂ (withCount prev) e v ∙ withCount-above prev (r .epoch) (r .bytes) (length (varint (r .bytes))) h
@@ -47,7 +48,8 @@ records-back at prev (r ∷ rs) p =
     let n : ℕ = length (varint (r .bytes)) in
     let xs : List ℕ = recordBytes r ++ recordsBytes rs in
     let l : length (recordBytes r) ≡ 2 + n = omega (arith, length-append (big 2 (r .epoch)) (varint (r .bytes)), length-big 2 (r .epoch)) in
-    parse-good at prev xs r (2 + n) (omega (arith, length-append (recordBytes r) (recordsBytes rs))) (omega arith) (next-back prev r (recordsBytes rs) (p .0) (p .1) (p .2))
+    parse-good at prev xs r (2 + n) (omega (arith, length-append (recordBytes r) (recordsBytes rs))) (omega arith)
+    (next-back prev r (recordsBytes rs) (p .0) (p .1) (p .2))
     ∙ ap (λ (ys : List ℕ). before r (parse (at + (2 + n)) 0 (r .epoch) ys)) (drop-at (recordBytes r) (recordsBytes rs) (2 + n) l)
     ∙ ap (before r) (records-back (at + (2 + n)) (r .epoch) rs (p .3))
 
@@ -110,10 +112,12 @@ reread : (n at prev : ℕ) (xs : List ℕ) → length xs ≤ n → Bytes xs → 
 reread zero at prev [] h b z = reread-none at prev
 reread (suc n) at prev [] h b z = reread-none at prev
 reread zero at prev (x ∷ xs) h b z = absurd (omega arith)
-reread (suc n) at prev (x ∷ xs) h b z = by (next prev (x ∷ xs)) refl (λ r u k. reread n (at + u) (r .epoch) (drop u (x ∷ xs)) k (bytes-drop u (x ∷ xs) b))
+reread (suc n) at prev (x ∷ xs) h b z = by (next prev (x ∷ xs)) refl
+    (λ r u k. reread n (at + u) (r .epoch) (drop u (x ∷ xs)) k (bytes-drop u (x ∷ xs) b))
   where
     by : (m : Next) → next prev (x ∷ xs) ≡ m
-        → ((r : At) (u : ℕ) → length (drop u (x ∷ xs)) ≤ n → parse (at + u) 0 (r .epoch) (drop u (x ∷ xs)) .fault ≡ none → Reread (at + u) (r .epoch) (drop u (x ∷ xs)))
+        → ((r : At) (u : ℕ) → length (drop u (x ∷ xs)) ≤ n → parse (at + u) 0 (r .epoch) (drop u (x ∷ xs)) .fault ≡ none
+        → Reread (at + u) (r .epoch) (drop u (x ∷ xs)))
         → Reread at prev (x ∷ xs)
     by (bad r) q later = absurd (Option·some-ne-none _ (sym (ap (λ (p : Parsed). p .fault) (parse-bad at prev (x ∷ xs) r (omega arith) q)) ∙ z))
     by (good r u) q later =
@@ -140,7 +144,8 @@ pub record HeadIn (k : Kind) (xs : List ℕ) (o : Option (List ℕ)) (base : ℕ
   pub long : length xs ≡ headSize k + length ys
 
 -- a written head is the one that is read
-pub head-back : (k : Kind) (b : Bool) (o : Option (List ℕ)) (base : ℕ) (ys : List ℕ) → owned k ≡ b → Owned b o → base < 65536 → HeadIn k (headBytes k o base ++ ys) o base ys
+pub head-back : (k : Kind) (b : Bool) (o : Option (List ℕ)) (base : ℕ) (ys : List ℕ) → owned k ≡ b → Owned b o → base < 65536
+    → HeadIn k (headBytes k o base ++ ys) o base ys
 head-back k b o base ys e unowned h =
     let two = length-big 2 base in
     let t : take 2 (big 2 base ++ ys) ≡ big 2 base = take-at (big 2 base) ys 2 two in

@@ -10,17 +10,18 @@ use mathlib.Core.List.{List, [], _∷_}
 use lib.ListN.{length, take, drop}
 use Rattle.records_spec.specs.Tables.{At}
 use Rattle.records_spec.specs.Refusals.{number}
-use Rattle.records_spec.specs.Flags.{Flags, flags, owned, multi, kindOfByte, ownerLength, agrees, headOf, noHead}
-use Rattle.records_spec.specs.Answers.{shown, after}
+use Rattle.records_spec.specs.Flags.{Flags, flags, owned, multi, kindOfByte, agrees, headOf, noHead, lending, ownerLength}
+use Rattle.records_spec.specs.Answers.{shown, placingIf}
 use Rattle.records_spec.specs.declared.refusal.Refusal.{Refusal}
 use Rattle.records_spec.specs.declared.head.Kind.{Kind}
 use Rattle.records_spec.specs.declared.head.KindByte.{KindByte}
 use Rattle.records_spec.specs.declared.head.KindByte.the-variants.{Known, Unknown}
 use Rattle.records_spec.specs.declared.answer.Answered.{Answered}
 use Rattle.records_spec.specs.declared.answer.Outcome.the-variants.{Absent, Refused}
-use Rattle.records_spec.proofs.Answers.{after-refused, after-absent}
-use Rattle.codec_spec.specs.Bytes.{behindKind, ownedHead, headSize}
-use Rattle.codec_spec.specs.Reading.{Fault, Parsed, Read, noFlags, someFlags, refusedAt, withRecords, baseIn, ownerIn, recordsIn, flagsIn, readAs, readByte, read}
+use Rattle.records_spec.proofs.Answers.{placing-none, placing-if-refused}
+use Rattle.codec_spec.specs.Bytes.{headSize, behindKind, ownedHead}
+use Rattle.codec_spec.specs.Reading.{Fault, Parsed, Read, noFlags, someFlags, refusedAt, withRecords, baseIn, ownerIn, recordsIn, flagsIn}
+use Rattle.codec_spec.specs.Reading.{readAs, readByte, read}
 use Rattle.codec_spec.specs.Calls.{Complete, judgement, answer}
 use Rattle.codec_spec.specs.declared.judging.Verdict.the-variants.{Absent as IsAbsent, Present as IsPresent, Refused as IsRefused}
 use Rattle.codec_spec.proofs.Parsing.{rest-end}
@@ -76,8 +77,13 @@ read-whole k xs f e = by (multi k) refl
         elim (decLt (length xs) (headSize k)) [
           | yes h ↦ absurd (no-refusal _ _ f (sym (multi-short k xs m h) ∙ e))
           | no h ↦
-              let w = with-flags (length xs) (baseIn k xs) (ownerIn k xs) (recordsIn k xs .fault) (recordsIn k xs .records) f (sym (multi-long k xs m (omega arith)) ∙ e) in
-              record { complete = record { head-inside = omega arith; no-fault = w .no-fault; all-there = refl }; agrees-kind = agrees-multi k _ m (w .some-records); in-bytes = w .are-flags }
+              let w = with-flags (length xs) (baseIn k xs) (ownerIn k xs) (recordsIn k xs .fault) (recordsIn k xs .records) f
+              (sym (multi-long k xs m (omega arith)) ∙ e) in
+              record {
+                complete = record { head-inside = omega arith; no-fault = w .no-fault; all-there = refl };
+                agrees-kind = agrees-multi k _ m (w .some-records);
+                in-bytes = w .are-flags;
+              }
         ]
     by false m =
         elim (ℕ-discrete (length xs) (headSize k)) [
@@ -130,9 +136,12 @@ owner-behind xs f a e o = by (owned k) refl
 
 -- no flags, or a refusal
 module _ (x : Read) (es cs : List ℕ) (a : Answered) where
-  pub left-absent : a ≡ record { outcome = Absent; head = noHead } → x ≡ noFlags → shown a es cs ≡ after (answer x) es cs
-  left-absent ea e = ap (λ (b : Answered). shown b es cs) ea ∙ sym (ap (λ (y : Read). after (answer y) es cs) e ∙ after-absent es cs)
+  pub left-absent : a ≡ record { outcome = Absent; head = noHead } → x ≡ noFlags → shown a (lending es cs) ≡ placingIf (answer x) (lending es cs)
+  left-absent ea e = ap (λ (b : Answered). shown b (lending es cs)) ea
+      ∙ sym (ap (λ (y : Read). placingIf (answer y) (lending es cs)) e ∙ placing-none (lending es cs))
 
-  pub left-refused : (r : Refusal) (place : ℕ) → a ≡ record { outcome = Refused r; head = noHead } → x ≡ refusedAt r place → shown a es cs ≡ after (answer x) es cs
+  pub left-refused : (r : Refusal) (place : ℕ) → a ≡ record { outcome = Refused r; head = noHead } → x ≡ refusedAt r place
+      → shown a (lending es cs) ≡ placingIf (answer x) (lending es cs)
   left-refused r place ea e =
-      ap (λ (b : Answered). shown b es cs) ea ∙ sym (ap (λ (y : Read). after (answer y) es cs) e ∙ after-refused (number r) es cs)
+      ap (λ (b : Answered). shown b (lending es cs)) ea
+      ∙ sym (ap (λ (y : Read). placingIf (answer y) (lending es cs)) e ∙ placing-if-refused (number r) (lending es cs))

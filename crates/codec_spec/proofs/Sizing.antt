@@ -15,7 +15,7 @@ use Rattle.fields_spec.specs.Varint.{largest, varint}
 use Rattle.fields_spec.proofs.Bigs.{length-big}
 use Rattle.fields_spec.proofs.Varints.{length-five}
 use Rattle.records_spec.specs.Tables.{At, recordsOf, countsOf}
-use Rattle.records_spec.specs.Flags.{flags, flagsOf, ownerOf, kindOf}
+use Rattle.records_spec.specs.Flags.{flags, flagsOf, ownerOf, kindOf, holding}
 use Rattle.records_spec.specs.declared.head.Kind.{Kind}
 use Rattle.records_spec.specs.declared.head.Head.{Head}
 use Rattle.records_spec.proofs.Tables.{counts-records}
@@ -71,7 +71,8 @@ length-records (r ∷ rs) = omega (arith, length-append (recordBytes r) (records
 pub length-head : (k : Kind) (o : Option (List ℕ)) (base : ℕ) → length (headBytes k o base) ≡ 3 + length (ownerBytes o)
 length-head k o base = omega (arith, length-append (ownerBytes o) (big 2 base), length-big 2 base)
 
-pub length-bytes : (base : ℕ) (o : Option (List ℕ)) (rs : List At) → length (bytesOf (flags base o rs)) ≡ 3 + length (ownerBytes o) + countsSize (countsOf rs)
+pub length-bytes : (base : ℕ) (o : Option (List ℕ)) (rs : List At)
+    → length (bytesOf (flags base o rs)) ≡ 3 + length (ownerBytes o) + countsSize (countsOf rs)
 unfolding bytesOf
 length-bytes base o rs =
     let k : Kind = kindOf o (length rs) in
@@ -85,7 +86,7 @@ module _ (h : Head) (es cs : List ℕ) (p : IsProper h es cs) where
   pub held-counts : length (take (h .records) cs) ≡ h .records
   held-counts = length-take (h .records) cs ∙ omega (arith, p .counts-long)
 
-  pub length-flags : length (bytesOf (flagsOf h es cs)) ≡ 3 + length (ownerBytes (ownerOf h)) + countsSize (take (h .records) cs)
+  pub length-flags : length (bytesOf (flagsOf (holding h es cs))) ≡ 3 + length (ownerBytes (ownerOf h)) + countsSize (take (h .records) cs)
   length-flags =
       length-bytes (h .base) (ownerOf h) (recordsOf (take (h .records) es) (take (h .records) cs))
       ∙ rw (counts-records (take (h .records) es) (take (h .records) cs) (held-epochs ∙ sym held-counts))

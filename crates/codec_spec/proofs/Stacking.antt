@@ -15,7 +15,8 @@ use Rattle.records_spec.specs.Answers.{roomFor}
 use Rattle.records_spec.specs.declared.refusal.Refusal.{Refusal}
 use Rattle.records_spec.specs.declared.refusal.Refusal.the-variants.{WrongSize, NoRoom}
 use Rattle.records_spec.proofs.Answers.{room-both}
-use Rattle.records_spec.proofs.Tables.{length-epochsOf, length-countsOf, records-back, take-records, over-first, over-sets, epochs-append, counts-append}
+use Rattle.records_spec.proofs.Tables.{length-epochsOf, length-countsOf, records-back, take-records, over-first, over-sets, epochs-append}
+use Rattle.records_spec.proofs.Tables.{counts-append}
 use Rattle.codec_spec.specs.Reading.{Next, bad, good, next, Fault, Parsed}
 use Rattle.codec_spec.specs.Calls.{scanOf}
 use Rattle.codec_spec.specs.Blocks.{Taken, Filled, filled, filledFrom}
@@ -50,7 +51,8 @@ module _ (end k : ℕ) (rs : List At) (es cs : List ℕ) where
     pub epochs-set : es′ ≡ sets es k (epochsOf rs)
     pub counts-set : cs′ ≡ sets cs k (countsOf rs)
 
-  pub filled-whole : (f : Option Fault) (s : Scan) (n : ℕ) (es′ cs′ : List ℕ) → s ≡ Records n → filled s es′ cs′ ≡ filledFrom end k f rs es cs → Whole f n es′ cs′
+  pub filled-whole : (f : Option Fault) (s : Scan) (n : ℕ) (es′ cs′ : List ℕ) → s ≡ Records n → filled s es′ cs′ ≡ filledFrom end k f rs es cs
+      → Whole f n es′ cs′
   filled-whole (some f) s n es′ cs′ q e =
       let g : s ≡ Faulty (f .refusal) (f .place) = ap (λ (x : Filled). x .scan) e in
       let z : _≡_ {A = ℕ} 0 1 = cc in
@@ -61,7 +63,13 @@ module _ (end k : ℕ) (rs : List At) (es cs : List ℕ) where
       by true h =
           let g : filled s es′ cs′ ≡ filled (Records (k + length rs)) (sets es k (epochsOf rs)) (sets cs k (countsOf rs)) = rw h at e in
           let x : s ≡ Records (k + length rs) = ap (λ (x : Filled). x .scan) g in
-          record { no-fault = refl; has-room = h; count = cc; epochs-set = ap (λ (x : Filled). x .epochs) g; counts-set = ap (λ (x : Filled). x .counts) g }
+          record {
+            no-fault = refl;
+            has-room = h;
+            count = cc;
+            epochs-set = ap (λ (x : Filled). x .epochs) g;
+            counts-set = ap (λ (x : Filled). x .counts) g;
+          }
       by false h =
           let x : s ≡ Faulty NoRoom end = ap (λ (x : Filled). x .scan) (rw h at e) in
           let z : _≡_ {A = ℕ} 0 1 = cc in
@@ -97,11 +105,13 @@ sound-some d at prev h e = by (next prev (drop at d)) refl
 
 module _ (end k : ℕ) (f : Option Fault) (rs : List At) (es cs : List ℕ) where
   -- all were judged: one is at fault
-  pub judged-faulty : (r : Refusal) (place : ℕ) → (f ≡ none → 1 ≤ length rs) → Faulty r place ≡ scanOf end f (length rs) → filled (Faulty r place) es cs ≡ filledFrom end k f rs es cs
+  pub judged-faulty : (r : Refusal) (place : ℕ) → (f ≡ none → 1 ≤ length rs) → Faulty r place ≡ scanOf end f (length rs)
+      → filled (Faulty r place) es cs ≡ filledFrom end k f rs es cs
   judged-faulty r place here e = by f refl
     where
       by : (g : Option Fault) → f ≡ g → filled (Faulty r place) es cs ≡ filledFrom end k f rs es cs
-      by (some x) q = ap (λ (s : Scan). filled s es cs) (e ∙ ap (λ (g : Option Fault). scanOf end g (length rs)) q) ∙ sym (ap (λ (g : Option Fault). filledFrom end k g rs es cs) q)
+      by (some x) q = ap (λ (s : Scan). filled s es cs) (e ∙ ap (λ (g : Option Fault). scanOf end g (length rs)) q)
+          ∙ sym (ap (λ (g : Option Fault). filledFrom end k g rs es cs) q)
       by none q =
           let l = here q in
           let s : Faulty r place ≡ Records (length rs) = e ∙ sym (scan-some end (length rs) (length rs) f q refl (λ z. omega arith)) in
@@ -142,8 +152,10 @@ module _ {d : List ℕ} {at prev n j e : ℕ} {bes bcs bes′ bcs′ : List ℕ}
       let f : List At = take n (rest d at prev .records) in
       let le = length-epochsOf f ∙ first-long in
       let lc = length-countsOf f ∙ first-long in
-      let ee : take n bes′ ≡ epochsOf f = ap (take n) (t .placed .epochs-set ∙ over-sets (epochsOf f) bes (omega arith)) ∙ over-first (epochsOf f) bes n le in
-      let ec : take n bcs′ ≡ countsOf f = ap (take n) (t .placed .counts-set ∙ over-sets (countsOf f) bcs (omega arith)) ∙ over-first (countsOf f) bcs n lc in
+      let ee : take n bes′ ≡ epochsOf f = ap (take n) (t .placed .epochs-set ∙ over-sets (epochsOf f) bes (omega arith))
+      ∙ over-first (epochsOf f) bes n le in
+      let ec : take n bcs′ ≡ countsOf f = ap (take n) (t .placed .counts-set ∙ over-sets (countsOf f) bcs (omega arith))
+      ∙ over-first (countsOf f) bcs n lc in
       take-records n bes′ bcs′ ∙ ap₂ recordsOf ee ec ∙ records-back f
 
   -- the place behind all
@@ -178,8 +190,10 @@ module _ {d : List ℕ} {at prev n j e : ℕ} {bes bcs bes′ bcs′ : List ℕ}
     stacked-room he hc =
         let r : List At = rest d j e .records in
         let l = ap (length {A = At}) (taken-block he hc) ∙ first-long in
-        let b = room-both (k + n + length r) (length es) (length cs) (w .has-room) in
-        (omega (arith, l, b .0, ap length (w .epochs-set) ∙ length-sets es (k + n) (epochsOf r)), omega (arith, l, b .1, ap length (w .counts-set) ∙ length-sets cs (k + n) (countsOf r)))
+        let b = room-both (k + n + length r) (length es) (length cs) (w .has-room) in (
+          omega (arith, l, b .0, ap length (w .epochs-set) ∙ length-sets es (k + n) (epochsOf r)),
+          omega (arith, l, b .1, ap length (w .counts-set) ∙ length-sets cs (k + n) (countsOf r)),
+        )
 
     pub stacked : n ≤ length bes → n ≤ length bcs → (i : ℕ) (es′ cs′ : List ℕ) → Placed (take n (recordsOf bes′ bcs′)) k i es₁ cs₁ es′ cs′
         → filled (Records m) es′ cs′ ≡ filledFrom (length d) k (rest d at prev .fault) (rest d at prev .records) es cs

@@ -64,7 +64,8 @@ module _ {d : List ℕ} {at prev n j e : ℕ} {es₀ cs₀ es cs : List ℕ} (t 
 
 -- ---- a block, as the code tells it
 
-pub blocked-faulty : (d : List ℕ) (at prev : ℕ) (es cs es′ cs′ : List ℕ) (r : Refusal) (place : ℕ) → rest d at prev .fault ≡ some (record { refusal = r; place = place })
+pub blocked-faulty : (d : List ℕ) (at prev : ℕ) (es cs es′ cs′ : List ℕ) (r : Refusal) (place : ℕ)
+    → rest d at prev .fault ≡ some (record { refusal = r; place = place })
     → Blocked d at prev (Faulty r place) es cs es′ cs′
 blocked-faulty d at prev es cs es′ cs′ r place h =
     record {

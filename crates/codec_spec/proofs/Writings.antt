@@ -11,8 +11,11 @@ use Rattle.fields_spec.specs.Varint.{varint}
 use Rattle.fields_spec.specs.Writing.{Put}
 use Rattle.fields_spec.proofs.Parts.{Parts, parts-start, parts-byte}
 use Rattle.records_spec.specs.Tables.{At, recordsOf, over}
-use Rattle.records_spec.specs.Flags.{proper, flagsOf, ownerOf, typeByte, kindOf}
-use Rattle.records_spec.specs.Answers.{ok, refused, wrote, writing}
+use Rattle.records_spec.specs.Flags.{proper, flagsOf, ownerOf, typeByte, kindOf, holding, Held}
+use Rattle.records_spec.specs.Answers.{writing, counted}
+use Rattle.records_spec.specs.Outcomes.{refused, after, ok, leaving, refusing}
+use Rattle.records_spec.specs.Refusals.{number}
+use Rattle.records_spec.specs.declared.refusal.Refusal.the-variants.{BadTable}
 use Rattle.records_spec.specs.declared.head.Kind.{Kind}
 use Rattle.records_spec.specs.declared.head.Head.{Head}
 use Rattle.records_spec.specs.declared.answer.Counted.the-variants.{Count}
@@ -24,22 +27,22 @@ use Rattle.codec_spec.specs.Sizes.{countsSize}
 use Rattle.codec_spec.specs.Calls.{serialized, sizeOf}
 use Rattle.codec_spec.proofs.Sizing.{length-records, held-epochs, held-counts}
 
-module _ (h : Head) (es cs : List ℕ) where
-  pub size-proper : proper h es cs ≡ true → sizeOf h es cs ≡ ok (length (bytesOf (flagsOf h es cs)))
+module _ (f : Held) where
+  pub size-proper : proper f ≡ true → sizeOf f ≡ ok (length (bytesOf (flagsOf f)))
   unfolding sizeOf
   size-proper p = rw p
 
-  pub size-improper : proper h es cs ≡ false → sizeOf h es cs ≡ refused 11
+  pub size-improper : proper f ≡ false → sizeOf f ≡ refused (number BadTable)
   unfolding sizeOf
   size-improper p = rw p
 
   module _ (out : List ℕ) where
-    pub serialized-proper : proper h es cs ≡ true → serialized h es cs out ≡ writing (bytesOf (flagsOf h es cs)) out
-    unfolding serialized
+    pub serialized-proper : proper f ≡ true → serialized f out ≡ writing (bytesOf (flagsOf f)) out
+    unfolding serialized writing
     serialized-proper p = rw p
 
-    pub serialized-improper : proper h es cs ≡ false → serialized h es cs out ≡ record { answer = refused 11; out = out }
-    unfolding serialized
+    pub serialized-improper : proper f ≡ false → serialized f out ≡ refusing BadTable out
+    unfolding serialized leaving
     serialized-improper p = rw p
 
 -- ---- records
@@ -70,16 +73,18 @@ head-part k o base t out e = parts-byte (parts-start (headBytes k o base) 0 out)
 
 -- of proper flags the kind is the head's
 pub bytes-proper : (h : Head) (es cs : List ℕ) → IsProper h es cs
-    → bytesOf (flagsOf h es cs) ≡ headBytes (h .kind) (ownerOf h) (h .base) ++ recordsBytes (recordsOf (take (h .records) es) (take (h .records) cs))
+    → bytesOf (flagsOf (holding h es cs)) ≡ headBytes (h .kind) (ownerOf h) (h .base) ++ recordsBytes
+    (recordsOf (take (h .records) es) (take (h .records) cs))
 unfolding bytesOf
 bytes-proper h es cs p =
     let rs : List At = recordsOf (take (h .records) es) (take (h .records) cs) in
-    let n : length rs ≡ h .records = length-recordsOf (take (h .records) es) (take (h .records) cs) (held-epochs h es cs p ∙ sym (held-counts h es cs p)) ∙ held-epochs h es cs p in
+    let n : length rs ≡ h .records = length-recordsOf (take (h .records) es) (take (h .records) cs)
+    (held-epochs h es cs p ∙ sym (held-counts h es cs p)) ∙ held-epochs h es cs p in
     ap (λ (k : Kind). headBytes k (ownerOf h) (h .base) ++ recordsBytes rs) (ap (kindOf (ownerOf h)) n ∙ kind-agrees h (p .agrees-kind))
 
 -- bytes that were put at the start of an output with room
-pub put-written : (xs old new : List ℕ) (n : ℕ) → Put xs 0 n old new → length xs ≤ length old → wrote (Count n) new ≡ writing xs old
+pub put-written : (xs old new : List ℕ) (n : ℕ) → Put xs 0 n old new → length xs ≤ length old → after (counted (Count n)) new ≡ writing xs old
 put-written xs old new n p h =
     let e : n ≡ length xs = omega (arith, p .behind) in
     let o : new ≡ over xs old = p .wrote ∙ over-sets xs old h in
-    (λ i. record { answer = ok (e i); out = o i }) ∙ sym (writing-fits xs old h)
+    (λ i. after (ok (e i)) (o i)) ∙ sym (writing-fits xs old h)

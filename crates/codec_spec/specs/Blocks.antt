@@ -46,7 +46,8 @@ blockRecords = 64
 
 -- a block that was read: its first fault, or its records, not too many and not none where bytes are left behind them
 pub record Blocked (src : List ℕ) (at prev : ℕ) (b : Block) (es cs es′ cs′ : List ℕ) : Type 0 where
-  pub at-fault : (r : Refusal) (place : ℕ) → b ≡ BadBlock r place → parse at 0 prev (drop at src) .fault ≡ some (record { refusal = r; place = place })
+  pub at-fault : (r : Refusal) (place : ℕ) → b ≡ BadBlock r place
+      → parse at 0 prev (drop at src) .fault ≡ some (record { refusal = r; place = place })
   pub taken : (n next last : ℕ) → b ≡ Read n next last
       → Taken src at prev n next last es cs es′ cs′ × (next < length src → 1 ≤ n) × (n ≤ blockRecords)
 

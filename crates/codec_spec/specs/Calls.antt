@@ -8,11 +8,11 @@ use mathlib.Core.List.{List}
 use lib.Dec.{eqb}
 use lib.ListN.{length}
 use Rattle.records_spec.specs.Refusals.{number}
-use Rattle.records_spec.specs.Flags.{Flags, flagsOf, headOf, noHead, proper}
-use Rattle.records_spec.specs.Answers.{Answer, ok, refused, After, after, Written, writing}
+use Rattle.records_spec.specs.Outcomes.{Answer, ok, refused, _unless_, _>>_, leaving}
+use Rattle.records_spec.specs.Flags.{Flags, Lent, Held, flagsOf, headOf, noHead, proper}
+use Rattle.records_spec.specs.Answers.{FlagsAfter, placingIf, BytesAfter, placedBytes}
 use Rattle.records_spec.specs.declared.head.Kind.{Kind}
-use Rattle.records_spec.specs.declared.head.Head.{Head}
-use Rattle.records_spec.specs.declared.refusal.Refusal.the-variants.{WrongSize}
+use Rattle.records_spec.specs.declared.refusal.Refusal.the-variants.{WrongSize, BadTable}
 use Rattle.codec_spec.specs.Bytes.{bytesOf, headSize}
 use Rattle.codec_spec.specs.Reading.{Fault, Read, noFlags, someFlags, refusedAt, recordsIn, readAs, read}
 use Rattle.codec_spec.specs.declared.judging.Scan.{Scan}
@@ -44,17 +44,21 @@ answer (someFlags f) = ok (some f)
 answer (refusedAt r place) = refused (number r)
 
 -- the four readers by kind
-abbrev pub deserializedAs : Kind → List ℕ → List ℕ → List ℕ → After
-deserializedAs k src es cs = after (answer (readAs k src)) es cs
+abbrev pub deserializedAs : Kind → List ℕ → Lent → FlagsAfter
+deserializedAs k src = placingIf (answer (readAs k src))
 
 -- `deserialize`
-abbrev pub deserialized : List ℕ → List ℕ → List ℕ → After
-deserialized src es cs = after (answer (read src)) es cs
+abbrev pub deserialized : List ℕ → Lent → FlagsAfter
+deserialized src = placingIf (answer (read src))
 
--- `serialize`: 11 where the flags are not proper
-unfoldable pub serialized : Head → List ℕ → List ℕ → List ℕ → Written
-serialized h es cs out = cond (proper h es cs) (writing (bytesOf (flagsOf h es cs)) out) (record { answer = refused 11; out = out })
+-- `serialize`
+unfoldable pub serialized : Held → List ℕ → BytesAfter
+serialized f out = leaving out do
+  BadTable unless proper f
+  placedBytes (bytesOf (flagsOf f)) out
 
 -- `serialized_size`
-unfoldable pub sizeOf : Head → List ℕ → List ℕ → Answer ℕ
-sizeOf h es cs = cond (proper h es cs) (ok (length (bytesOf (flagsOf h es cs)))) (refused 11)
+unfoldable pub sizeOf : Held → Answer ℕ
+sizeOf f = do
+  BadTable unless proper f
+  ok (length (bytesOf (flagsOf f)))

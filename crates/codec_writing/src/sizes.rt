@@ -3,10 +3,11 @@ ghost use mathlib.Core.Path.{_≡_};
 ghost use Prim.Native.Nat.{_+_, _*_, _≤_};
 ghost use lib.Dec.{leb};
 ghost use lib.ListN.{length};
-ghost use Rattle.records_spec.specs.Flags.{owned, ownerLength, ownerIf, ownerOf};
-ghost use Rattle.records_spec.specs.Answers.{counted};
+ghost use Rattle.fields_spec.specs.Lending.{was};
+ghost use Rattle.records_spec.specs.Flags.{owned, ownerIf, ownerOf, ownerLength};
+ghost use Rattle.records_spec.specs.Answers.{counted, flagsWere};
 ghost use Rattle.codec_spec.specs.Bytes.{ownerBytes, unownedHead, ownedHead};
-ghost use Rattle.codec_spec.specs.Sizes.{longestRecord, changesSize, largestChanges, approximate, countsSize};
+ghost use Rattle.codec_spec.specs.Sizes.{changesSize, approximate, countsSize, longestRecord, largestChanges};
 ghost use Rattle.codec_spec.specs.Calls.{sizeOf};
 use codec_spec::Changes;
 use codec_spec::LONGEST_RECORD;
@@ -48,7 +49,7 @@ pub fn approximate_size(has_owner_id: bool, changes: Changes) -> u32
 
 // The number of bytes of records with these counts.
 fn records_size(counts: &[u32]) -> usize
-    ensures { λ r. ⌜ (r ≡ countsSize (now (counts .entry))) × (r ≤ longestRecord * length (now (counts .entry))) ⌝ }
+    ensures { λ r. ⌜ (r ≡ countsSize (was counts)) × (r ≤ longestRecord * length (was counts)) ⌝ }
 {
     let mut size: usize = 0;
     let mut k: usize = 0;
@@ -62,7 +63,7 @@ fn records_size(counts: &[u32]) -> usize
 // The same number, for the test of room. `records_size` looks each length up in the table that document 01 binds; this one sums
 // lengths by limits, since such a loop can become vector code.
 fn size_by_limits(counts: &[u32]) -> usize
-    ensures { λ r. ⌜ (r ≡ countsSize (now (counts .entry))) × (r ≤ longestRecord * length (now (counts .entry))) ⌝ }
+    ensures { λ r. ⌜ (r ≡ countsSize (was counts)) × (r ≤ longestRecord * length (was counts)) ⌝ }
 {
     let mut size: usize = 0;
     let mut k: usize = 0;
@@ -96,7 +97,7 @@ pub fn head_bytes_size(head: Head) -> usize
 // Whether `size` bytes and records with these counts fit in `room` bytes. The longest records are surely enough, and
 // then no sum is made.
 pub fn fit(size: usize, counts: &[u32], room: usize) -> bool
-    ensures { λ r. ⌜ r ≡ leb (size + countsSize (now (counts .entry))) room ⌝ }
+    ensures { λ r. ⌜ r ≡ leb (size + countsSize (was counts)) room ⌝ }
 {
     if room < size {
         return false;
@@ -110,7 +111,7 @@ pub fn fit(size: usize, counts: &[u32], room: usize) -> bool
 
 // The number of bytes of flags.
 pub fn serialized_size(head: Head, epochs: &[u16], counts: &[u32]) -> Counted
-    ensures { λ r. ⌜ counted r ≡ sizeOf head (now (epochs .entry)) (now (counts .entry)) ⌝ }
+    ensures { λ r. ⌜ counted r ≡ sizeOf (flagsWere head epochs counts) ⌝ }
 {
     if records::is_proper(head, epochs, counts) {
         let n = head.records;

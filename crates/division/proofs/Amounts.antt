@@ -50,7 +50,8 @@ module _ (ss : List At) (n : ℕ) where
   as-asked zero rs e k d = omega (arith, most rs k)
   as-asked (suc x) rs e k d = omega (arith, all rs (d (omega arith)))
 
-  pub each-gives : (x : ℕ) (rs : List At) → x + together ss rs ≡ n → ThreeKept ss rs → LatestFirst ss rs → (0 < x → AllDown ss rs) → RecordsGive ss n rs
+  pub each-gives : (x : ℕ) (rs : List At) → x + together ss rs ≡ n → ThreeKept ss rs → LatestFirst ss rs → (0 < x → AllDown ss rs)
+      → RecordsGive ss n rs
   unfolding together spare
   each-gives x [] e k l d = tt
   each-gives x (r ∷ later) e k l d =
@@ -115,7 +116,8 @@ module _ (ss : List At) (n : ℕ) where
       let q = lt-ltb (together ss later) n (omega arith) in
       cc
 
-  pub each-given : (x : ℕ) (rs : List At) → x + together ss rs ≡ n → OfEach (λ r later. 0 < gives ss (r .epoch) → SectionIfAsked ss n (r .epoch) later) rs
+  pub each-given : (x : ℕ) (rs : List At) → x + together ss rs ≡ n
+      → OfEach (λ r later. 0 < gives ss (r .epoch) → SectionIfAsked ss n (r .epoch) later) rs
   unfolding together
   each-given x [] e = tt
   each-given x (r ∷ later) e =

@@ -9,9 +9,11 @@ use native.Mathlib.Omega.{arith}
 use lib.Dec.{ltb}
 use Rattle.records_spec.specs.Tables.{At, epochsOf, ascending, has}
 use Rattle.splitting_spec.specs.Sections.{asked}
-use Rattle.division.specs.Fair.{Division, OfEach, gives, together, RightSum, ThreeKept, LatestFirst, BaseLast, SectionIfAsked, SectionWhereAsked, Fair}
+use Rattle.division.specs.Fair.{Division, OfEach, gives, together, RightSum, ThreeKept, LatestFirst, BaseLast, SectionIfAsked}
+use Rattle.division.specs.Fair.{SectionWhereAsked, Fair}
 use Rattle.division.proofs.Sums.{total-gives}
-use Rattle.division.proofs.Amounts.{RecordsGive, RecordsHave, each-gives, give-together, keep, latest, base-after, if-asked, asked-if, each-has, has-each, section-given, each-given}
+use Rattle.division.proofs.Amounts.{RecordsGive, RecordsHave, each-gives, give-together, keep, latest, base-after, if-asked, asked-if}
+use Rattle.division.proofs.Amounts.{each-has, has-each, section-given, each-given}
 
 -- what each epoch gives
 pub record Amounts (base : ℕ) (rs : List At) (n : ℕ) (ss : List At) : Type 0 where

@@ -8,12 +8,13 @@ use native.Mathlib.Omega.{arith}
 use native.Mathlib.Decide.{ℕ-discrete}
 use Rattle.records_spec.specs.Tables.{At, _⦂_, epochsOf, ascending, rising, has, held}
 use Rattle.records_spec.proofs.Held.{has-none, has-passes}
-use Rattle.division.specs.Fair.{Division, OfEach, total, together}
+use Rattle.division.specs.Fair.{Division, OfEach, allSections, together}
 use Rattle.division.specs.Needed.{Property, right-sum, three-kept, latest-first, base-last, section-where-asked, Says, AllBut}
 
 -- sections in order that each stand at the base or a record's epoch are a division
 module _ (base : ℕ) (rs : List At) where
-  nowhere : (ss : List At) → OfEach (λ s later. has (s .epoch) (base ⦂ 0 ∷ rs) ≡ true) ss → (e : ℕ) → (e ≡ base → ⊥) → has e rs ≡ false → has e ss ≡ false
+  nowhere : (ss : List At) → OfEach (λ s later. has (s .epoch) (base ⦂ 0 ∷ rs) ≡ true) ss → (e : ℕ) → (e ≡ base → ⊥) → has e rs ≡ false
+      → has e ss ≡ false
   nowhere [] f e p h = has-none e
   nowhere (s ∷ ss) f e p h =
       elim (ℕ-discrete e (s .epoch)) [
@@ -58,7 +59,7 @@ division base-last = placed 5 (7 ⦂ 4 ∷ []) (5 ⦂ 1 ∷ 7 ⦂ 0 ∷ []) refl
 division section-where-asked = placed 5 (7 ⦂ 10 ∷ 9 ⦂ 3 ∷ []) (7 ⦂ 1 ∷ []) refl (refl, tt)
 
 lacks : (p : Property) → SaysOf p p → ⊥
-unfolding has held total together
+unfolding has held allSections together
 lacks right-sum h = omega arith
 lacks three-kept h = omega (arith, h .0)
 lacks latest-first h = omega (arith, h .0 (omega arith) .0)
@@ -66,7 +67,7 @@ lacks base-last h = omega (arith, h (omega arith) .0)
 lacks section-where-asked h = true≢false (sym (h .at-records .1 .0))
 
 others : (p q : Property) → (q ≡ p → ⊥) → SaysOf q p
-unfolding has held total together
+unfolding has held allSections together
 others right-sum right-sum n = absurd (n refl)
 others right-sum three-kept n = (omega arith, tt)
 others right-sum latest-first n = (λ h. tt, tt)

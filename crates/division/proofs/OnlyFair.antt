@@ -30,7 +30,8 @@ module _ (base : ℕ) (rs : List At) (a : ascending base (epochsOf rs) ≡ true)
     -- with all five it stands where the split stands
     same-sections : Fair base rs n us → (e : ℕ) → has e us ≡ has e (split base rs n)
     same-sections f =
-        let x = standing base rs a n us d (amounts base rs a n us d (f .right-sum) (f .three-kept) (f .latest-first) (f .base-last)) (f .section-where-asked) in
+        let x = standing base rs a n us d (amounts base rs a n us d (f .right-sum) (f .three-kept) (f .latest-first) (f .base-last))
+        (f .section-where-asked) in
         let y = split-standing base rs a n in
         read-alike base rs has (ltb 0 (asked n rs)) (λ r later. ltb 0 (asked n later)) us (split base rs n) (x .base-has) (y .base-has)
         (x .records-have) (y .records-have) (λ e p h. d .nowhere-else e p h ∙ sym (split-division base rs a n .nowhere-else e p h))

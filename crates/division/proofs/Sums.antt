@@ -11,7 +11,7 @@ use Rattle.records_spec.specs.Tables.{At, _⦂_, epochsOf, ascending, rising, h
 use Rattle.records_spec.proofs.Rising.{asc-rises}
 use Rattle.records_spec.proofs.Held.{has-none, has-passes, held-passes, has-above, held-above}
 use Rattle.records_spec.proofs.Alike.{apart, not-first, held-first, has-unless}
-use Rattle.division.specs.Fair.{Division, total, gives, together}
+use Rattle.division.specs.Fair.{Division, allSections, gives, together}
 
 -- ---- one section more
 
@@ -30,7 +30,8 @@ module _ (s : At) (ss : List At) where
       rw (held-passes (r .epoch) s ss (λ d. p .0 (sym d)), beside rs (p .1))
 
   -- and its bytes where one does
-  among : (rs : List At) → rising (epochsOf rs) ≡ true → held (s .epoch) ss ≡ 0 → has (s .epoch) rs ≡ true → together (s ∷ ss) rs ≡ s .bytes + together ss rs
+  among : (rs : List At) → rising (epochsOf rs) ≡ true → held (s .epoch) ss ≡ 0 → has (s .epoch) rs ≡ true
+      → together (s ∷ ss) rs ≡ s .bytes + together ss rs
   unfolding together epochsOf rising
   among [] a z h = absurd (true≢false (sym h ∙ has-none (s .epoch)))
   among (r ∷ rs) a z h =
@@ -60,8 +61,8 @@ only-behind rs s ss a o e h =
       | no p ↦ sym (has-passes e s ss p) ∙ o e h
     ]
 
-all-sections : (rs ss : List At) → rising (epochsOf rs) ≡ true → rising (epochsOf ss) ≡ true → Only rs ss → total ss ≡ together ss rs
-unfolding total epochsOf rising
+all-sections : (rs ss : List At) → rising (epochsOf rs) ≡ true → rising (epochsOf ss) ≡ true → Only rs ss → allSections ss ≡ together ss rs
+unfolding allSections epochsOf rising
 all-sections rs [] a h o = sym (together-none rs)
 all-sections rs (s ∷ ss) a h o =
     let rest = all-sections rs ss a (asc-rises (s .epoch) (epochsOf ss) h) (only-behind rs s ss h o) in
@@ -69,7 +70,8 @@ all-sections rs (s ∷ ss) a h o =
     omega (arith, rest, among s ss rs a (held-above (s .epoch) (s .epoch) ss (omega arith) h) record-there)
 
 -- the base stands before the records
-pub total-gives : (base : ℕ) (rs ss : List At) → ascending base (epochsOf rs) ≡ true → Division base rs ss → total ss ≡ gives ss base + together ss rs
+pub total-gives : (base : ℕ) (rs ss : List At) → ascending base (epochsOf rs) ≡ true → Division base rs ss
+    → allSections ss ≡ gives ss base + together ss rs
 unfolding together epochsOf rising
 total-gives base rs ss a d =
     all-sections (base ⦂ 0 ∷ rs) ss a (d .ascends) (λ e h.

@@ -14,9 +14,9 @@ pub record Division (base : ℕ) (rs ss : List At) : Type 0 where
   pub nowhere-else : (e : ℕ) → (e ≡ base → ⊥) → has e rs ≡ false → has e ss ≡ false
 
 -- what some sections come to
-unfoldable pub total : List At → ℕ
-total [] = 0
-total (s ∷ ss) = s .bytes + total ss
+unfoldable pub allSections : List At → ℕ
+allSections [] = 0
+allSections (s ∷ ss) = s .bytes + allSections ss
 
 -- what an epoch gives: the bytes of its section; 0 where it has none
 abbrev pub gives : List At → ℕ → ℕ
@@ -44,7 +44,7 @@ AllDown ss rs = OfEach (λ r later. gives ss (r .epoch) + least r ≡ r .bytes) 
 
 -- the right sum
 abbrev pub RightSum : List At → ℕ → Type 0
-RightSum ss n = total ss ≡ n
+RightSum ss n = allSections ss ≡ n
 
 -- no record left with less than the smaller of its count and 3: with what it gives that is at most the count
 abbrev pub ThreeKept : List At → List At → Type 0

@@ -4,6 +4,7 @@ ghost use mathlib.Core.Bool.{true, _&&_};
 ghost use Prim.Native.Nat.{_+_, _*_, _≤_, _<_};
 ghost use lib.Dec.{ltb};
 ghost use lib.ListN.{length, take, drop};
+ghost use Rattle.fields_spec.specs.Lending.{was, left};
 ghost use Rattle.fields_spec.specs.Selects.{Selected};
 ghost use Rattle.fields_spec.specs.Varint.{varint, value, found, isWhole, judgedAt, readAt, Passed, Ending};
 ghost use Rattle.fields_spec.specs.Writing.{Put};
@@ -62,7 +63,7 @@ pub fn varint_len(count: u32) -> usize
 // Writes the minimal varint of `count` at `at`; answers the place behind it. Unrolled: there are five lengths.
 pub fn put_varint(out: &mut [u8], at: usize, count: u32) -> usize
     requires { ⌜ at + length (varint count) ≤ length (now out) ⌝ }
-    ensures { λ r. ⌜ Put (varint count) at r (now (out .entry)) (now (out .exit)) ⌝ }
+    ensures { λ r. ⌜ Put (varint count) at r (was out) (left out) ⌝ }
 {
     if count < 128 {
         out[at] = count as u8;
@@ -92,7 +93,7 @@ pub fn put_varint(out: &mut [u8], at: usize, count: u32) -> usize
 // 32 bits where the fifth is below 16.
 fn end_at(src: &[u8], at: usize, k: usize) -> Judged
     requires { ⌜ Ending (now src) at k ⌝ }
-    ensures { λ r. ⌜ r ≡ judgedAt at (found (drop at (now (src .entry)))) ⌝ }
+    ensures { λ r. ⌜ r ≡ judgedAt at (found (drop at (was src))) ⌝ }
 {
     let last = src[at + k];
     if last == 0 {
@@ -112,7 +113,7 @@ fn end_at(src: &[u8], at: usize, k: usize) -> Judged
 
 // Judges the varint at `at`, byte by byte and without what it says: it is incomplete where it does not end within ten bytes.
 pub fn judge_varint(src: &[u8], at: usize) -> Judged
-    ensures { λ r. ⌜ r ≡ judgedAt at (found (drop at (now (src .entry)))) ⌝ }
+    ensures { λ r. ⌜ r ≡ judgedAt at (found (drop at (was src))) ⌝ }
 {
     if src.len() <= at {
         return Judged::Incomplete(at);
@@ -145,7 +146,7 @@ fn wide(byte: u8) -> u32
 fn varint_third(src: &[u8], at: usize, two: u32) -> Varint
     requires { ⌜ isWhole (found (drop at (now src))) ≡ true ⌝ }
     requires { ⌜ Passed (now src) at 2 × (two ≡ value (take 2 (drop at (now src)))) ⌝ }
-    ensures { λ r. ⌜ Reading.Whole r ≡ readAt at (found (drop at (now (src .entry)))) ⌝ }
+    ensures { λ r. ⌜ Reading.Whole r ≡ readAt at (found (drop at (was src))) ⌝ }
 {
     let third = src[at + 2];
     let three = two + wide(third % 128) * 16384;
@@ -173,7 +174,7 @@ fn varint_third(src: &[u8], at: usize, two: u32) -> Varint
 // What the varint at `at` says, where judging found a whole one.
 pub fn varint_at(src: &[u8], at: usize) -> Varint
     requires { ⌜ isWhole (found (drop at (now src))) ≡ true ⌝ }
-    ensures { λ r. ⌜ Reading.Whole r ≡ readAt at (found (drop at (now (src .entry)))) ⌝ }
+    ensures { λ r. ⌜ Reading.Whole r ≡ readAt at (found (drop at (was src))) ⌝ }
 {
     let first = src[at];
     if first < 128 {
@@ -195,7 +196,7 @@ pub fn varint_at(src: &[u8], at: usize) -> Varint
 
 // Reads the varint at `at` byte by byte, as judging found it: where the bytes end soon, and where it is refused.
 fn read_judged(src: &[u8], at: usize) -> Reading
-    ensures { λ r. ⌜ r ≡ readAt at (found (drop at (now (src .entry)))) ⌝ }
+    ensures { λ r. ⌜ r ≡ readAt at (found (drop at (was src))) ⌝ }
 {
     match judge_varint(src, at) {
         Judged::Incomplete(place) => Reading::Incomplete(place),
@@ -247,7 +248,7 @@ fn behind(third: u8, next: usize) -> usize
 fn read_fifth(src: &[u8], at: usize, four: u32) -> Reading
     requires { ⌜ at + 4 < length (now src) ⌝ }
     requires { ⌜ Passed (now src) at 4 × (four ≡ value (take 4 (drop at (now src)))) ⌝ }
-    ensures { λ r. ⌜ r ≡ readAt at (found (drop at (now (src .entry)))) ⌝ }
+    ensures { λ r. ⌜ r ≡ readAt at (found (drop at (was src))) ⌝ }
 {
     let fifth = src[at + 4];
     if fifth < 16 {
@@ -266,7 +267,7 @@ fn read_fifth(src: &[u8], at: usize, four: u32) -> Reading
 fn read_third(src: &[u8], at: usize, two: u32) -> Reading
     requires { ⌜ at + 2 ≤ length (now src) ⌝ }
     requires { ⌜ Passed (now src) at 2 × (two ≡ value (take 2 (drop at (now src)))) ⌝ }
-    ensures { λ r. ⌜ r ≡ readAt at (found (drop at (now (src .entry)))) ⌝ }
+    ensures { λ r. ⌜ r ≡ readAt at (found (drop at (was src))) ⌝ }
 {
     if src.len() - at < 5 {
         return read_judged(src, at);
@@ -288,7 +289,7 @@ fn read_third(src: &[u8], at: usize, two: u32) -> Reading
 
 // Reads the varint at `at`. One and two bytes are the most frequent, and have tests of their own.
 pub fn read_varint(src: &[u8], at: usize) -> Reading
-    ensures { λ r. ⌜ r ≡ readAt at (found (drop at (now (src .entry)))) ⌝ }
+    ensures { λ r. ⌜ r ≡ readAt at (found (drop at (was src))) ⌝ }
 {
     if src.len() <= at {
         return Reading::Incomplete(at);

@@ -78,8 +78,10 @@ module _ (d : List ℕ) (at two : ℕ) (p : Passed d at 2) (e : two ≡ value (t
           elim (decLt 127 (getD d (at + 2) 0)) [
             | yes h ↦
                 let f = fourth-low h in
-                read-ended d at 3 (third-passed h) (omega arith) f (omega arith) _ next (omega (arith, l .below h)) (passed-small d at 3 (third-passed h) (omega arith)) (omega (arith, four-say, q .below h)) (omega (arith, n .below h))
+                read-ended d at 3 (third-passed h) (omega arith) f (omega arith) _ next (omega (arith, l .below h))
+                (passed-small d at 3 (third-passed h) (omega arith)) (omega (arith, four-say, q .below h)) (omega (arith, n .below h))
             | no h ↦
                 let i : getD d (at + 2) 0 ≤ 127 = omega arith in
-                read-ended d at 2 p (omega arith) (omega arith) (omega arith) _ next (omega (arith, l .from i)) (passed-small d at 2 p (omega arith)) (omega (arith, three-say, q .from i)) (n .from i)
+                read-ended d at 2 p (omega arith) (omega arith) (omega arith) _ next (omega (arith, l .from i)) (passed-small d at 2 p (omega arith))
+                (omega (arith, three-say, q .from i)) (n .from i)
           ]

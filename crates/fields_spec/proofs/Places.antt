@@ -11,7 +11,8 @@ use lib.Dec.{leb, eqb}
 use borrow.Author.Tests.{lt-ltb, le-ltb, le-leb, lt-leb, eq-eqb, ne-eqb}
 use lib.ListN.{length, getD, take, drop, drop-of-length-le, length-drop, length-take}
 use lib.Seq.{drop-cons, getD-drop}
-use Rattle.fields_spec.specs.Varint.{largest, varint, high, value, incomplete, notCanonical, whole, canonical, found, isWhole, judgedAt, readAt, Passed}
+use Rattle.fields_spec.specs.Varint.{largest, varint, high, value, incomplete, notCanonical, whole, canonical, found, isWhole, judgedAt, readAt}
+use Rattle.fields_spec.specs.Varint.{Passed}
 use Rattle.fields_spec.specs.declared.varint.Judged.the-variants.{Incomplete}
 use Rattle.fields_spec.specs.declared.varint.Reading.the-variants.{Whole}
 use Rattle.fields_spec.proofs.Bases.{size-below}
@@ -50,7 +51,8 @@ value-top (x ∷ xs) zero h = omega (arith, pow-zero 128)
 value-top (x ∷ xs) (suc k) h =
     let ih = value-top xs k (omega arith) in
     let b : ℕ = getD xs k 0 % 128 in
-    let e : b * (128 * 128 ^ k) ≡ 128 * (b * 128 ^ k) = sym (mul-assoc b 128 (128 ^ k)) ∙ ap (λ (z : ℕ). z * 128 ^ k) (mul-comm b 128) ∙ mul-assoc 128 b (128 ^ k) in
+    let e : b * (128 * 128 ^ k) ≡ 128 * (b * 128 ^ k) = sym (mul-assoc b 128 (128 ^ k)) ∙ ap (λ (z : ℕ). z * 128 ^ k) (mul-comm b 128)
+    ∙ mul-assoc 128 b (128 ^ k) in
     rw (pow-succ' 128 k) (omega arith)
 
 -- k groups say a number below 128 ^ k
@@ -122,7 +124,8 @@ canonical-inv v u = by (leb v largest && eqb (length (varint v)) u)
 -- ---- at a place of a list
 
 -- what the bytes from there on say, one group further
-pub value-on : (d : List ℕ) (at k v : ℕ) → at + k < length d → v ≡ value (take k (drop at d)) → v + getD d (at + k) 0 % 128 * 128 ^ k ≡ value (take (suc k) (drop at d))
+pub value-on : (d : List ℕ) (at k v : ℕ) → at + k < length d → v ≡ value (take k (drop at d))
+    → v + getD d (at + k) 0 % 128 * 128 ^ k ≡ value (take (suc k) (drop at d))
 value-on d at k v inside e =
     let t = value-top (drop at d) k (omega (arith, length-drop at d)) in
     let g : getD (drop at d) k 0 ≡ getD d (at + k) 0 = getD-drop at d k 0 in
@@ -145,7 +148,8 @@ module _ (d : List ℕ) (at k : ℕ) (p : Passed d at k) where
     pub passed-more : (j : ℕ) → j ≡ k + 1 → 128 ≤ getD d (at + k) 0 → Passed d at j
     passed-more j e h =
         let z : at + j ≡ suc (at + k) = omega arith in
-        let s : high (drop (at + k) d) ≡ suc (high (drop (at + j) d)) = rw (z, drop-cons d (at + k) 0 inside) (high-high (getD d (at + k) 0) (drop (suc (at + k)) d) h) in
+        let s : high (drop (at + k) d) ≡ suc (high (drop (at + j) d)) =
+        rw (z, drop-cons d (at + k) 0 inside) (high-high (getD d (at + k) 0) (drop (suc (at + k)) d) h) in
         omega arith
 
     module _ (low : getD d (at + k) 0 < 128) (ten : k < 10) where
@@ -158,7 +162,8 @@ module _ (d : List ℕ) (at k : ℕ) (p : Passed d at k) where
       -- more than five bytes are never minimal
       pub passed-long : 5 ≤ k → found (drop at d) ≡ notCanonical
       passed-long h =
-          passed-end ∙ canonical-longer (value (take (suc k) (drop at d))) (suc k) (λ f. omega (arith, length-five (value (take (suc k) (drop at d))) f))
+          passed-end ∙ canonical-longer (value (take (suc k) (drop at d))) (suc k)
+          (λ f. omega (arith, length-five (value (take (suc k) (drop at d))) f))
 
       -- where the last byte is 0, one byte less would do
       pub passed-zero : 1 ≤ k → getD d (at + k) 0 ≡ 0 → found (drop at d) ≡ notCanonical
@@ -258,7 +263,8 @@ long-never d at k (suc f) p five ten w =
 module _ (d : List ℕ) (at k : ℕ) (fifth : k ≡ 4) (p : Passed d at k) (inside : at + k < length d) where
   fifth-value : value (take k (drop at d)) + getD d (at + k) 0 % 128 * 268435456 ≡ value (take (suc k) (drop at d))
   fifth-value =
-      ap (λ (z : ℕ). value (take k (drop at d)) + getD d (at + k) 0 % 128 * z) (sym (ap (λ (j : ℕ). 128 ^ j) fifth)) ∙ value-on d at k (value (take k (drop at d))) inside refl
+      ap (λ (z : ℕ). value (take k (drop at d)) + getD d (at + k) 0 % 128 * z) (sym (ap (λ (j : ℕ). 128 ^ j) fifth))
+      ∙ value-on d at k (value (take k (drop at d))) inside refl
 
   pub fifth-fits : getD d (at + k) 0 < 16 → value (take (suc k) (drop at d)) ≤ largest
   fifth-fits h =

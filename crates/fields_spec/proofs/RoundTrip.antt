@@ -10,7 +10,8 @@ use lib.ListN.{length, getD, take, length-append}
 use lib.Seq.{take-at}
 use Rattle.fields_spec.specs.Varint.{largest, varint, high, value, whole, notCanonical, canonical, found}
 use Rattle.fields_spec.proofs.Varints.{varint-last, varint-more, length-last, length-more, length-five, by-groups}
-use Rattle.fields_spec.proofs.Places.{high-low, high-high, value-nil, value-cons, found-canonical, found-ten, found-cut, canonical-whole, canonical-large}
+use Rattle.fields_spec.proofs.Places.{high-low, high-high, value-nil, value-cons, found-canonical, found-ten, found-cut, canonical-whole}
+use Rattle.fields_spec.proofs.Places.{canonical-large}
 
 -- ---- what is written is found
 

@@ -40,7 +40,8 @@ read-strange at place incomplete e = cc
 read-strange at place notCanonical e = refl
 read-strange at place (whole v u) e = cc
 
-pub told-read : (at count next : ℕ) (f : Found) → Whole (record { count = count; next = next }) ≡ readAt at f → (used : ℕ) × (f ≡ whole count used) × (next ≡ at + used)
+pub told-read : (at count next : ℕ) (f : Found) → Whole (record { count = count; next = next }) ≡ readAt at f
+    → (used : ℕ) × (f ≡ whole count used) × (next ≡ at + used)
 told-read at count next incomplete e = (0, cc, cc)
 told-read at count next notCanonical e = (0, cc, cc)
 told-read at count next (whole v u) e =

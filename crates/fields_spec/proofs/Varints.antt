@@ -67,26 +67,62 @@ pub length-between : (lo hi n : ℕ) {l : ℕ} → lo ≤ n → n ≤ hi → len
 length-between lo hi n p q a b = omega (arith, length-mono lo n p, length-mono n hi q)
 
 -- one byte, and one more for each limit
-pub length-limits : (n : ℕ) {a b c d : ℕ} → n ≤ largest → Selected 127 n 1 0 a → Selected 16383 n 1 0 b → Selected 2097151 n 1 0 c → Selected 268435455 n 1 0 d
+pub length-limits : (n : ℕ) {a b c d : ℕ} → n ≤ largest → Selected 127 n 1 0 a → Selected 16383 n 1 0 b → Selected 2097151 n 1 0 c
+    → Selected 268435455 n 1 0 d
     → 1 + a + b + c + d ≡ length (varint n)
 unfolding varint groups
 length-limits n h sa sb sc sd =
     elim (decLt 127 n) [
       | no p ↦
-          omega (arith, sa .from (omega arith), sb .from (omega arith), sc .from (omega arith), sd .from (omega arith), length-between 0 127 n {l = 1} (omega arith) (omega arith) refl refl)
+          omega (
+            arith,
+            sa .from (omega arith),
+            sb .from (omega arith),
+            sc .from (omega arith),
+            sd .from (omega arith),
+            length-between 0 127 n {l = 1} (omega arith) (omega arith) refl refl,
+          )
       | yes p ↦
           elim (decLt 16383 n) [
             | no q ↦
-                omega (arith, sa .below p, sb .from (omega arith), sc .from (omega arith), sd .from (omega arith), length-between 128 16383 n {l = 2} p (omega arith) refl refl)
+                omega (
+                  arith,
+                  sa .below p,
+                  sb .from (omega arith),
+                  sc .from (omega arith),
+                  sd .from (omega arith),
+                  length-between 128 16383 n {l = 2} p (omega arith) refl refl,
+                )
             | yes q ↦
                 elim (decLt 2097151 n) [
                   | no r ↦
-                      omega (arith, sa .below p, sb .below q, sc .from (omega arith), sd .from (omega arith), length-between 16384 2097151 n {l = 3} q (omega arith) refl refl)
+                      omega (
+                        arith,
+                        sa .below p,
+                        sb .below q,
+                        sc .from (omega arith),
+                        sd .from (omega arith),
+                        length-between 16384 2097151 n {l = 3} q (omega arith) refl refl,
+                      )
                   | yes r ↦
                       elim (decLt 268435455 n) [
                         | no s ↦
-                            omega (arith, sa .below p, sb .below q, sc .below r, sd .from (omega arith), length-between 2097152 268435455 n {l = 4} r (omega arith) refl refl)
-                        | yes s ↦ omega (arith, sa .below p, sb .below q, sc .below r, sd .below s, length-between 268435456 largest n {l = 5} s h refl refl)
+                            omega (
+                              arith,
+                              sa .below p,
+                              sb .below q,
+                              sc .below r,
+                              sd .from (omega arith),
+                              length-between 2097152 268435455 n {l = 4} r (omega arith) refl refl,
+                            )
+                        | yes s ↦ omega (
+                          arith,
+                          sa .below p,
+                          sb .below q,
+                          sc .below r,
+                          sd .below s,
+                          length-between 268435456 largest n {l = 5} s h refl refl,
+                        )
                       ]
                 ]
           ]

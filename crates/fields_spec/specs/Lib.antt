@@ -1,3 +1,4 @@
+pub mod Lending
 pub mod Big
 pub mod Varint
 pub mod Writing

@@ -1,9 +1,10 @@
 // The adding merge, with the Rust's names where it has them.
 ghost use mathlib.Core.Path.{_≡_};
 ghost use mathlib.Core.Bool.{true};
-ghost use Rattle.records_spec.specs.Tables.{recordsOf, union, Table, Above};
-ghost use Rattle.records_spec.specs.Flags.{flags, ownerIf, flagsOf, proper};
-ghost use Rattle.records_spec.specs.Answers.{shown, placing};
+ghost use Rattle.records_spec.specs.Tables.{union, Table, Above};
+ghost use Rattle.records_spec.specs.Flags.{flags, ownerIf, flagsOf, proper, holding};
+ghost use Rattle.records_spec.specs.Answers.{shown, placing, flagsWere, tablesWere, tablesLeft, recordsWere};
+ghost use Rattle.records_spec.specs.Outcomes.{refused};
 ghost use Rattle.flags_spec.specs.Merging.{raised, raisedAbove, added};
 ghost use Rattle.flags_spec.specs.Calls.{handedOn, combinedAdded, optionalCombinedAdded};
 use crate::owners::combine_owners;
@@ -32,7 +33,12 @@ fn combine_with_higher_base_epoch(
 ) -> Answered
     requires { ⌜ Table (now «our_epochs») (now «our_counts») ⌝ }
     requires { ⌜ Above epoch (now «their_epochs») (now «their_counts») ⌝ }
-    ensures { λ r. ⌜ shown r (now (epochs .exit)) (now (counts .exit)) ≡ placing (raised epoch «added_bytes» (flags base (ownerIf (owner .owned) (owner .id)) (union (recordsOf (now («our_epochs» .entry)) (now («our_counts» .entry))) (recordsOf (now («their_epochs» .entry)) (now («their_counts» .entry)))))) (now (epochs .entry)) (now (counts .entry)) ⌝ }
+    ensures { λ r.
+        let our-records = recordsWere «our_epochs» «our_counts» in
+        let their-records = recordsWere «their_epochs» «their_counts» in
+        let tables-lent = tablesWere epochs counts in
+        let joined-flags = flags base (ownerIf (owner .owned) (owner .id)) (union our-records their-records) in
+        ⌜ shown r (tablesLeft epochs counts) ≡ placing (raised epoch «added_bytes» joined-flags) tables-lent ⌝ }
 {
     let spot = records::look_up(our_epochs, our_counts, epoch);
     let held = spot.count;
@@ -69,7 +75,12 @@ fn combine_tables(
 ) -> Answered
     requires { ⌜ Table (now «our_epochs») (now «our_counts») ⌝ }
     requires { ⌜ Above epoch (now «their_epochs») (now «their_counts») ⌝ }
-    ensures { λ r. ⌜ shown r (now (epochs .exit)) (now (counts .exit)) ≡ placing (raisedAbove base epoch «added_bytes» (flags base (ownerIf (owner .owned) (owner .id)) (union (recordsOf (now («our_epochs» .entry)) (now («our_counts» .entry))) (recordsOf (now («their_epochs» .entry)) (now («their_counts» .entry)))))) (now (epochs .entry)) (now (counts .entry)) ⌝ }
+    ensures { λ r.
+        let our-records = recordsWere «our_epochs» «our_counts» in
+        let their-records = recordsWere «their_epochs» «their_counts» in
+        let tables-lent = tablesWere epochs counts in
+        let joined-flags = flags base (ownerIf (owner .owned) (owner .id)) (union our-records their-records) in
+        ⌜ shown r (tablesLeft epochs counts) ≡ placing (raisedAbove base epoch «added_bytes» joined-flags) tables-lent ⌝ }
 {
     if base == epoch {
         return place_union(
@@ -110,9 +121,13 @@ fn combine_proper(
     epochs: &mut [u16],
     counts: &mut [u32],
 ) -> Answered
-    requires { ⌜ proper ours (now «our_epochs») (now «our_counts») ≡ true ⌝ }
-    requires { ⌜ proper theirs (now «their_epochs») (now «their_counts») ≡ true ⌝ }
-    ensures { λ r. ⌜ shown r (now (epochs .exit)) (now (counts .exit)) ≡ placing (added strategy «added_bytes» (flagsOf ours (now («our_epochs» .entry)) (now («our_counts» .entry))) (flagsOf theirs (now («their_epochs» .entry)) (now («their_counts» .entry)))) (now (epochs .entry)) (now (counts .entry)) ⌝ }
+    requires { ⌜ proper (holding ours (now «our_epochs») (now «our_counts»)) ≡ true ⌝ }
+    requires { ⌜ proper (holding theirs (now «their_epochs») (now «their_counts»)) ≡ true ⌝ }
+    ensures { λ r.
+        let our-flags = flagsWere ours «our_epochs» «our_counts» in
+        let their-flags = flagsWere theirs «their_epochs» «their_counts» in
+        let tables-lent = tablesWere epochs counts in
+        ⌜ shown r (tablesLeft epochs counts) ≡ placing (added strategy «added_bytes» (flagsOf our-flags) (flagsOf their-flags)) tables-lent ⌝ }
 {
     let our_base = ours.base;
     let their_base = theirs.base;
@@ -153,7 +168,11 @@ pub fn combine_added_bytes(
     epochs: &mut [u16],
     counts: &mut [u32],
 ) -> Answered
-    ensures { λ r. ⌜ shown r (now (epochs .exit)) (now (counts .exit)) ≡ combinedAdded ours (now («our_epochs» .entry)) (now («our_counts» .entry)) theirs (now («their_epochs» .entry)) (now («their_counts» .entry)) «added_bytes» strategy (now (epochs .entry)) (now (counts .entry)) ⌝ }
+    ensures { λ r.
+        let our-flags = flagsWere ours «our_epochs» «our_counts» in
+        let their-flags = flagsWere theirs «their_epochs» «their_counts» in
+        let tables-lent = tablesWere epochs counts in
+        ⌜ shown r (tablesLeft epochs counts) ≡ combinedAdded our-flags their-flags «added_bytes» strategy tables-lent ⌝ }
 {
     if records::is_proper(ours, our_epochs, our_counts) {
         if records::is_proper(theirs, their_epochs, their_counts) {
@@ -183,7 +202,7 @@ pub fn combine_absent(
     epochs: &mut [u16],
     counts: &mut [u32],
 ) -> Answered
-    ensures { λ r. ⌜ shown r (now (epochs .exit)) (now (counts .exit)) ≡ handedOn theirs (now («their_epochs» .entry)) (now («their_counts» .entry)) (now (epochs .entry)) (now (counts .entry)) ⌝ }
+    ensures { λ r. ⌜ shown r (tablesLeft epochs counts) ≡ handedOn (flagsWere theirs «their_epochs» «their_counts») (tablesWere epochs counts) ⌝ }
 {
     if records::is_proper(theirs, their_epochs, their_counts) {
         return hand_on(theirs, their_epochs, their_counts, epochs, counts);
@@ -205,7 +224,11 @@ pub fn optional_combine_added_bytes(
     epochs: &mut [u16],
     counts: &mut [u32],
 ) -> Answered
-    ensures { λ r. ⌜ shown r (now (epochs .exit)) (now (counts .exit)) ≡ optionalCombinedAdded present ours (now («our_epochs» .entry)) (now («our_counts» .entry)) theirs (now («their_epochs» .entry)) (now («their_counts» .entry)) «added_bytes» strategy (now (epochs .entry)) (now (counts .entry)) ⌝ }
+    ensures { λ r.
+        let our-flags = flagsWere ours «our_epochs» «our_counts» in
+        let their-flags = flagsWere theirs «their_epochs» «their_counts» in
+        let tables-lent = tablesWere epochs counts in
+        ⌜ shown r (tablesLeft epochs counts) ≡ optionalCombinedAdded present our-flags their-flags «added_bytes» strategy tables-lent ⌝ }
 {
     if present {
         return combine_added_bytes(

@@ -1,3 +1,4 @@
+ghost use Rattle.records_spec.specs.Answers.{placing};
 // Owners and the adding merge of flags.
 mod adding;
 mod owners;

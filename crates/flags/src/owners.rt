@@ -1,5 +1,6 @@
 // The owner rule, for heads and for encodings.
 ghost use mathlib.Core.Path.{_≡_};
+ghost use Rattle.fields_spec.specs.Lending.{was};
 ghost use Rattle.records_spec.specs.Flags.{ownerOf};
 ghost use Rattle.codec_spec.specs.Reading.{read};
 ghost use Rattle.flags_spec.specs.Owners.{disputed, choice, combinedOwner, chosenAs, ownerRead, unlessRefused};
@@ -75,7 +76,7 @@ pub fn combine_owners(ours: Head, theirs: Head, strategy: MergingOwnersStrategy)
 
 // The choice between our owner and an encoding's: its refusal first.
 fn choose_beside(ours: Head, theirs: &[u8], strategy: MergingOwnersStrategy) -> Choice
-    ensures { λ r. ⌜ r ≡ unlessRefused (read (now (theirs .entry))) (choice strategy (ownerOf ours) (ownerRead (read (now (theirs .entry))))) ⌝ }
+    ensures { λ r. ⌜ r ≡ unlessRefused (read (was theirs)) (choice strategy (ownerOf ours) (ownerRead (read (was theirs)))) ⌝ }
 {
     let judged = codec::judge(theirs);
     let verdict = judged.verdict;
@@ -89,7 +90,7 @@ fn choose_beside(ours: Head, theirs: &[u8], strategy: MergingOwnersStrategy) -> 
 
 // Whose owner stands in two encodings, or the refusal: ours read first, then theirs, then the owner rule.
 pub fn choose_owner_id(ours: &[u8], theirs: &[u8], strategy: MergingOwnersStrategy) -> Choice
-    ensures { λ r. ⌜ r ≡ ownerChoice strategy (now (ours .entry)) (now (theirs .entry)) ⌝ }
+    ensures { λ r. ⌜ r ≡ ownerChoice strategy (was ours) (was theirs) ⌝ }
 {
     let judged = codec::judge(ours);
     let verdict = judged.verdict;

@@ -1,14 +1,14 @@
 // Putting the records of an answer into the lent tables, where they have room.
 ghost use mathlib.Core.Path.{_≡_};
 ghost use mathlib.Core.Bool.{true};
-ghost use mathlib.Core.Option.{some};
 ghost use mathlib.Core.List.{_∷_};
 ghost use Prim.Native.Nat.{_+_, _≤_};
 ghost use lib.ListN.{length, drop};
-ghost use Rattle.records_spec.specs.Tables.{_⦂_, recordsOf, union, Table, Above};
+ghost use Rattle.records_spec.specs.Tables.{_⦂_, union, Table, Above};
 ghost use Rattle.records_spec.specs.Unions.{spotOf};
-ghost use Rattle.records_spec.specs.Flags.{flags, ownerIf, flagsOf, proper};
-ghost use Rattle.records_spec.specs.Answers.{ok, shown, roomFor, after};
+ghost use Rattle.records_spec.specs.Flags.{flags, ownerIf, flagsOf, proper, holding};
+ghost use Rattle.records_spec.specs.Answers.{shown, roomFor, placing, flagsWere, tablesWere, tablesLeft, recordsWere};
+ghost use Rattle.records_spec.specs.Outcomes.{refused, ok};
 use records::fit;
 use records_spec::Answered;
 use records_spec::Head;
@@ -31,7 +31,10 @@ fn union_fits(
     requires { ⌜ Table (now «our_epochs») (now «our_counts») ⌝ }
     requires { ⌜ Table (now «their_epochs») (now «their_counts») ⌝ }
     requires { ⌜ (before ≤ i + 1) × (i ≤ length (now «our_epochs»)) ⌝ }
-    ensures { λ r. ⌜ r ≡ roomFor (before + length (union (drop i (recordsOf (now («our_epochs» .entry)) (now («our_counts» .entry)))) (recordsOf (now («their_epochs» .entry)) (now («their_counts» .entry))))) «epochs_len» «counts_len» ⌝ }
+    ensures { λ r.
+        let our-records = recordsWere «our_epochs» «our_counts» in
+        let their-records = recordsWere «their_epochs» «their_counts» in
+        ⌜ r ≡ roomFor (before + length (union (drop i our-records) their-records)) «epochs_len» «counts_len» ⌝ }
 {
     let most = before + (our_epochs.len() - i) + their_epochs.len();
     if fit(most, epochs_len, counts_len) {
@@ -54,7 +57,12 @@ pub fn place_union(
 ) -> Answered
     requires { ⌜ Table (now «our_epochs») (now «our_counts») ⌝ }
     requires { ⌜ Table (now «their_epochs») (now «their_counts») ⌝ }
-    ensures { λ r. ⌜ shown r (now (epochs .exit)) (now (counts .exit)) ≡ after (ok (some (flags base (ownerIf (owner .owned) (owner .id)) (union (recordsOf (now («our_epochs» .entry)) (now («our_counts» .entry))) (recordsOf (now («their_epochs» .entry)) (now («their_counts» .entry))))))) (now (epochs .entry)) (now (counts .entry)) ⌝ }
+    ensures { λ r.
+        let our-records = recordsWere «our_epochs» «our_counts» in
+        let their-records = recordsWere «their_epochs» «their_counts» in
+        let tables-lent = tablesWere epochs counts in
+        let joined-flags = flags base (ownerIf (owner .owned) (owner .id)) (union our-records their-records) in
+        ⌜ shown r (tablesLeft epochs counts) ≡ placing (ok joined-flags) tables-lent ⌝ }
 {
     if union_fits(
         0,
@@ -100,7 +108,11 @@ pub fn place_around(
     requires { ⌜ Table (now «our_epochs») (now «our_counts») ⌝ }
     requires { ⌜ spot ≡ spotOf epoch (now «our_epochs») (now «our_counts») ⌝ }
     requires { ⌜ Above epoch (now «their_epochs») (now «their_counts») ⌝ }
-    ensures { λ r. ⌜ shown r (now (epochs .exit)) (now (counts .exit)) ≡ after (ok (some (flags base (ownerIf (owner .owned) (owner .id)) (union (recordsOf (now («our_epochs» .entry)) (now («our_counts» .entry))) (epoch ⦂ count ∷ recordsOf (now («their_epochs» .entry)) (now («their_counts» .entry))))))) (now (epochs .entry)) (now (counts .entry)) ⌝ }
+    ensures { λ r.
+        let our-records = recordsWere «our_epochs» «our_counts» in
+        let their-records = epoch ⦂ count ∷ recordsWere «their_epochs» «their_counts» in
+        let joined-flags = flags base (ownerIf (owner .owned) (owner .id)) (union our-records their-records) in
+        ⌜ shown r (tablesLeft epochs counts) ≡ placing (ok joined-flags) (tablesWere epochs counts) ⌝ }
 {
     let below = spot.below;
     let upto = spot.upto;
@@ -141,8 +153,11 @@ pub fn hand_on(
     epochs: &mut [u16],
     counts: &mut [u32],
 ) -> Answered
-    requires { ⌜ proper flags (now «from_epochs») (now «from_counts») ≡ true ⌝ }
-    ensures { λ r. ⌜ shown r (now (epochs .exit)) (now (counts .exit)) ≡ after (ok (some (flagsOf flags (now («from_epochs» .entry)) (now («from_counts» .entry))))) (now (epochs .entry)) (now (counts .entry)) ⌝ }
+    requires { ⌜ proper (holding flags (now «from_epochs») (now «from_counts»)) ≡ true ⌝ }
+    ensures { λ r.
+        let from-flags = flagsWere flags «from_epochs» «from_counts» in
+        let tables-lent = tablesWere epochs counts in
+        ⌜ shown r (tablesLeft epochs counts) ≡ placing (ok (flagsOf from-flags)) tables-lent ⌝ }
 {
     let n = flags.records;
     if fit(n, epochs.len(), counts.len()) {

@@ -9,8 +9,10 @@ use mathlib.Core.List.{List, []}
 use Prim.Native.Nat.{ℕ, _≤_}
 use native.Mathlib.Omega.{arith}
 use lib.ListN.{length, take, drop}
-use Rattle.records_spec.specs.Flags.{ownerLength, ownerIf, same, ownerOf}
-use Rattle.records_spec.specs.Answers.{Answer, ok, refused}
+use Rattle.records_spec.specs.Flags.{ownerIf, same, ownerOf, ownerLength}
+use Rattle.records_spec.specs.Outcomes.{refused, Answer, ok}
+use Rattle.records_spec.specs.Refusals.{number}
+use Rattle.records_spec.specs.declared.refusal.Refusal.the-variants.{DifferentOwners}
 use Rattle.records_spec.specs.declared.refusal.Refusal.{Refusal}
 use Rattle.records_spec.proofs.Proper.{owner-head}
 use Rattle.records_spec.proofs.Owners.{owner-back, same-self}
@@ -37,19 +39,23 @@ module _ (w : ChosenOwner) where
   answered-owner (refused n) e h = absurd (true≢false (sym (ap (λ (v : ChosenOwner). v .refused) e) ∙ h))
 
   -- what is refused is refused with 5
-  pub refused-owner : (s : MergingOwnersStrategy) (o t : Option (List ℕ)) → w ≡ chosenAs (combinedOwner s o t) → w .refused ≡ true → combinedOwner s o t ≡ refused 5
+  pub refused-owner : (s : MergingOwnersStrategy) (o t : Option (List ℕ)) → w ≡ chosenAs (combinedOwner s o t) → w .refused ≡ true
+      → combinedOwner s o t ≡ refused (number DifferentOwners)
   refused-owner s o t e h = five s o t (sym (ap (λ (v : ChosenOwner). v .refused) e) ∙ h)
     where
-      differ : (s : MergingOwnersStrategy) (o t : List ℕ) → chosenAs (chosen (disputed s) (some o) (some t)) .refused ≡ true → chosen (disputed s) (some o) (some t) ≡ refused 5
+      differ : (s : MergingOwnersStrategy) (o t : List ℕ) → chosenAs (chosen (disputed s) (some o) (some t)) .refused ≡ true
+          → chosen (disputed s) (some o) (some t) ≡ refused (number DifferentOwners)
       differ RaiseIssue o t h = refl
       differ UseOurs o t h = absurd (true≢false (sym h))
       differ UseTheirs o t h = absurd (true≢false (sym h))
 
-      both : (b : Bool) (s : MergingOwnersStrategy) (o t : List ℕ) → same o t ≡ b → chosenAs (combinedOwner s (some o) (some t)) .refused ≡ true → combinedOwner s (some o) (some t) ≡ refused 5
+      both : (b : Bool) (s : MergingOwnersStrategy) (o t : List ℕ) → same o t ≡ b → chosenAs (combinedOwner s (some o) (some t)) .refused ≡ true
+          → combinedOwner s (some o) (some t) ≡ refused (number DifferentOwners)
       both true s o t e h = absurd (true≢false (sym (rw e at h)))
       both false s o t e h = rw e (differ s o t (rw e at h))
 
-      five : (s : MergingOwnersStrategy) (o t : Option (List ℕ)) → chosenAs (combinedOwner s o t) .refused ≡ true → combinedOwner s o t ≡ refused 5
+      five : (s : MergingOwnersStrategy) (o t : Option (List ℕ)) → chosenAs (combinedOwner s o t) .refused ≡ true
+          → combinedOwner s o t ≡ refused (number DifferentOwners)
       five s none none h = absurd (true≢false (sym h))
       five s none (some t) h = absurd (true≢false (sym h))
       five s (some o) none h = absurd (true≢false (sym h))
@@ -76,7 +82,8 @@ judged-owner (refusedAt r p) = refl
 
 module _ (x : Read) (j : Judgement) (e : j ≡ judgement x) (go : Option (List ℕ) → Choice) where
   pub judged-out : (r : Refusal) (p : ℕ) → j .verdict ≡ IsRefused r p → Refused r ≡ unlessRefused x (go (ownerRead x))
-  judged-out r p v = sym (ap (λ (y : Read). unlessRefused y (go (ownerRead x))) (judged-refused x r p (sym (ap (λ (k : Judgement). k .verdict) e) ∙ v)))
+  judged-out r p v = sym (ap (λ (y : Read). unlessRefused y (go (ownerRead x)))
+      (judged-refused x r p (sym (ap (λ (k : Judgement). k .verdict) e) ∙ v)))
 
   judged-in : unlessRefused x (go (ownerRead x)) ≡ go (ownerRead x) → go (ownerOf (j .head)) ≡ unlessRefused x (go (ownerRead x))
   judged-in u = ap (λ (k : Judgement). go (ownerOf (k .head))) e ∙ ap go (judged-owner x) ∙ sym u
@@ -128,7 +135,8 @@ unless-rest (someFlags f) rest c d e = e
 unless-rest (refusedAt r p) rest c d e = absurd (d r e)
 
 module _ (s : MergingOwnersStrategy) (xs ys : List ℕ) where
-  choice-rest : (c : Choice) → ((r : Refusal) → Refused r ≡ c → ⊥) → choiceRead s (read xs) (read ys) ≡ c → choice s (ownerRead (read xs)) (ownerRead (read ys)) ≡ c
+  choice-rest : (c : Choice) → ((r : Refusal) → Refused r ≡ c → ⊥) → choiceRead s (read xs) (read ys) ≡ c
+      → choice s (ownerRead (read xs)) (ownerRead (read ys)) ≡ c
   choice-rest c d e = unless-rest (read ys) _ c d (unless-rest (read xs) _ c d e)
 
   pub ours-owned : choiceRead s (read xs) (read ys) ≡ Ours → (a : List ℕ) × Owned xs a
@@ -138,7 +146,8 @@ module _ (s : MergingOwnersStrategy) (xs ys : List ℕ) where
 
   pub theirs-owned : choiceRead s (read xs) (read ys) ≡ Theirs → (a : List ℕ) × Owned ys a
   theirs-owned e =
-      let o = choice-theirs s (ownerRead (read xs)) (ownerRead (read ys)) (choice-rest Theirs (λ r f. let z : _≡_ {A = ℕ} 0 1 = cc in omega arith) e) in
+      let o = choice-theirs s (ownerRead (read xs)) (ownerRead (read ys))
+      (choice-rest Theirs (λ r f. let z : _≡_ {A = ℕ} 0 1 = cc in omega arith) e) in
       (o .0, owner-place ys (o .0) (o .1))
 
 -- ---- the part that is handed back
@@ -157,7 +166,8 @@ module _ (s : MergingOwnersStrategy) (ours theirs : Part) where
   abbrev their-owner : Option (List ℕ)
   their-owner = ownerRead (read (theirs .bytes))
 
-  handed-as : (c : Choice) → ownerChoice s (ours .bytes) (theirs .bytes) ≡ c → handed c ours theirs .bytes ≡ chosenBytes (chosen c our-owner their-owner)
+  handed-as : (c : Choice) → ownerChoice s (ours .bytes) (theirs .bytes) ≡ c
+      → handed c ours theirs .bytes ≡ chosenBytes (chosen c our-owner their-owner)
   handed-as Ours e = let o = ours-owned s (ours .bytes) (theirs .bytes) e in rw (o .1 .was-read) (sym (o .1 .is-there))
   handed-as Theirs e = let o = theirs-owned s (ours .bytes) (theirs .bytes) e in rw (o .1 .was-read) (sym (o .1 .is-there))
   handed-as Neither e = refl

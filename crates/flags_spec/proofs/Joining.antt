@@ -17,7 +17,13 @@ use Rattle.records_spec.proofs.Merged.{union-long}
 pub union-most : {oe oc te tc : List ℕ} → Table oe oc → Table te tc → (i : ℕ) → i ≤ length oe
     → length (union (drop i (recordsOf oe oc)) (recordsOf te tc)) ≤ (length oe - i) + length te
 union-most {oe} {oc} {te} {tc} t u i p =
-    omega (arith, union-long (drop i (recordsOf oe oc)) (recordsOf te tc), length-drop i (recordsOf oe oc), length-recordsOf oe oc (t .even), length-recordsOf te tc (u .even))
+    omega (
+      arith,
+      union-long (drop i (recordsOf oe oc)) (recordsOf te tc),
+      length-drop i (recordsOf oe oc),
+      length-recordsOf oe oc (t .even),
+      length-recordsOf te tc (u .even),
+    )
 
 -- ours, and theirs above an epoch
 module _ {oe oc te tc : List ℕ} {e : ℕ} {spot : Spot} (t : Table oe oc) (u : Above e te tc) (s : spot ≡ spotOf e oe oc) where
@@ -30,7 +36,8 @@ module _ {oe oc te tc : List ℕ} {e : ℕ} {spot : Spot} (t : Table oe oc) (u :
     around =
         rw s
         (rw (epochs-records oe oc (t .even)) at
-        (union-around e n (recordsOf oe oc) (recordsOf te tc) (rw (epochs-records oe oc (t .even)) (t .rises)) (rw (epochs-records te tc (u .even)) (u .ascends))))
+        (union-around e n (recordsOf oe oc) (recordsOf te tc) (rw (epochs-records oe oc (t .even)) (t .rises))
+        (rw (epochs-records te tc (u .even)) (u .ascends))))
 
     pub around-long : length (union (recordsOf oe oc) (e ⦂ n ∷ recordsOf te tc))
         ≡ spot .below + 1 + length (union (drop (spot .upto) (recordsOf oe oc)) (recordsOf te tc))
@@ -40,6 +47,7 @@ module _ {oe oc te tc : List ℕ} {e : ℕ} {spot : Spot} (t : Table oe oc) (u :
         ap (length {A = At}) around ∙ length-append (take (spot .below) (recordsOf oe oc)) _ ∙ omega arith
 
     pub around-placed : {k : ℕ} {es cs es′ cs′ es″ cs″ : List ℕ} → Placed (take (spot .below) (recordsOf oe oc)) 0 (spot .below) es cs es′ cs′
-        → Placed (union (drop (spot .upto) (recordsOf oe oc)) (recordsOf te tc)) (spot .below + 1) k (set es′ (spot .below) e) (set cs′ (spot .below) n) es″ cs″
+        → Placed (union (drop (spot .upto) (recordsOf oe oc)) (recordsOf te tc)) (spot .below + 1) k (set es′ (spot .below) e)
+        (set cs′ (spot .below) n) es″ cs″
         → Placed (union (recordsOf oe oc) (e ⦂ n ∷ recordsOf te tc)) 0 k es cs es″ cs″
     around-placed p q = rw around (placed-then p (placed-then (placed-one e n (spot .below) _ _) q))

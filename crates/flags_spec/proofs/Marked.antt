@@ -6,8 +6,10 @@ use mathlib.Core.Path.{_≡_, refl}
 use mathlib.Core.Option.{none}
 use mathlib.Core.List.{List, [], _∷_, map}
 use Rattle.records_spec.specs.Tables.{_⦂_, recordsOf, epochsOf, countsOf, ascending, held, put, union}
-use Rattle.records_spec.specs.Flags.{flags, headFor, proper}
-use Rattle.records_spec.specs.Answers.{After, kept, placed, after}
+use Rattle.records_spec.specs.Flags.{flags, headFor, proper, lending, holding, Lent}
+use Rattle.records_spec.specs.Answers.{FlagsAfter}
+use Rattle.records_spec.proofs.Expected.{refuses, gives}
+use Rattle.records_spec.specs.Outcomes.{leaving}
 use Rattle.flags_spec.specs.Merging.{added}
 use Rattle.flags_spec.specs.Calls.{combinedAdded}
 use Rattle.flags_spec.specs.declared.owners.MergingOwnersStrategy.the-variants.{RaiseIssue}
@@ -16,32 +18,31 @@ use Rattle.flags_spec.specs.declared.owners.MergingOwnersStrategy.the-va
 pub record Example : Type 0 where
   pub base : ℕ
   pub amount : ℕ
-  pub epochs : List ℕ
-  pub counts : List ℕ
-  pub left : After
+  pub out : Lent
+  pub left : FlagsAfter
 
 -- what the call leaves
-abbrev combined : Example → After
+abbrev combined : Example → FlagsAfter
 combined e =
-    combinedAdded (headFor 5 none 1) (7 ∷ []) (300 ∷ []) (headFor (e .base) none 0) [] [] (e .amount) RaiseIssue (e .epochs) (e .counts)
+    combinedAdded (holding (headFor 5 none 1) (7 ∷ []) (300 ∷ [])) (holding (headFor (e .base) none 0) [] []) (e .amount) RaiseIssue (e .out)
 
 -- an example by its parts, with flags or a refusal as the answer
-abbrev example : ℕ → ℕ → List ℕ → List ℕ → (List ℕ → List ℕ → After) → Example
-example base amount es cs answer = record { base = base; amount = amount; epochs = es; counts = cs; left = answer es cs }
+abbrev example : ℕ → ℕ → List ℕ → List ℕ → (Lent → FlagsAfter) → Example
+example base amount es cs expected = record { base = base; amount = amount; out = lending es cs; left = expected (lending es cs) }
 
 pub examples : List Example
 examples =
-    example 7 50 (1 ∷ 2 ∷ []) (3 ∷ 4 ∷ []) (placed (flags 5 none (7 ⦂ 350 ∷ [])))
-    ∷ example 7 50 (1 ∷ []) (3 ∷ []) (placed (flags 5 none (7 ⦂ 350 ∷ [])))
-    ∷ example 7 50 (1 ∷ []) [] (kept 10)
-    ∷ example 8 0 (1 ∷ 2 ∷ 3 ∷ []) (4 ∷ 5 ∷ 6 ∷ []) (placed (flags 5 none (7 ⦂ 300 ∷ 8 ⦂ 0 ∷ [])))
-    ∷ example 8 0 (1 ∷ 2 ∷ []) (4 ∷ 5 ∷ []) (placed (flags 5 none (7 ⦂ 300 ∷ 8 ⦂ 0 ∷ [])))
-    ∷ example 8 0 (1 ∷ []) (4 ∷ 5 ∷ []) (kept 10)
-    ∷ example 7 4294966995 (1 ∷ []) (3 ∷ []) (placed (flags 5 none (7 ⦂ 4294967295 ∷ [])))
-    ∷ example 7 4294966996 (1 ∷ []) (3 ∷ []) (kept 6)
-    ∷ example 4 0 (1 ∷ []) (3 ∷ []) (kept 4)
+    example 7 50 (1 ∷ 2 ∷ []) (3 ∷ 4 ∷ []) (gives (flags 5 none (7 ⦂ 350 ∷ [])))
+    ∷ example 7 50 (1 ∷ []) (3 ∷ []) (gives (flags 5 none (7 ⦂ 350 ∷ [])))
+    ∷ example 7 50 (1 ∷ []) [] (refuses 10)
+    ∷ example 8 0 (1 ∷ 2 ∷ 3 ∷ []) (4 ∷ 5 ∷ 6 ∷ []) (gives (flags 5 none (7 ⦂ 300 ∷ 8 ⦂ 0 ∷ [])))
+    ∷ example 8 0 (1 ∷ 2 ∷ []) (4 ∷ 5 ∷ []) (gives (flags 5 none (7 ⦂ 300 ∷ 8 ⦂ 0 ∷ [])))
+    ∷ example 8 0 (1 ∷ []) (4 ∷ 5 ∷ []) (refuses 10)
+    ∷ example 7 4294966995 (1 ∷ []) (3 ∷ []) (gives (flags 5 none (7 ⦂ 4294967295 ∷ [])))
+    ∷ example 7 4294966996 (1 ∷ []) (3 ∷ []) (refuses 6)
+    ∷ example 4 0 (1 ∷ []) (3 ∷ []) (refuses 4)
     ∷ []
 
 pub marked : map combined examples ≡ map (λ (e : Example). e .left) examples
-unfolding examples combinedAdded added proper after recordsOf epochsOf countsOf ascending held put union
+unfolding examples combinedAdded added proper leaving recordsOf epochsOf countsOf ascending held put union
 marked = refl

@@ -6,7 +6,7 @@ use mathlib.Core.Option.{Option, none, some}
 use mathlib.Core.List.{List}
 use Rattle.records_spec.specs.Refusals.{number}
 use Rattle.records_spec.specs.Flags.{same, maybeOwner}
-use Rattle.records_spec.specs.Answers.{Answer, ok, refused}
+use Rattle.records_spec.specs.Outcomes.{Answer, ok, refused}
 use Rattle.records_spec.specs.declared.refusal.Refusal.the-variants.{DifferentOwners}
 use Rattle.codec_spec.specs.Reading.{Read, noFlags, someFlags, refusedAt}
 use Rattle.flags_spec.specs.declared.owners.MergingOwnersStrategy.{MergingOwnersStrategy}

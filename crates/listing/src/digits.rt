@@ -2,6 +2,7 @@
 ghost use mathlib.Core.Path.{_≡_};
 ghost use Prim.Native.Nat.{_+_, _≤_, _<_};
 ghost use lib.ListN.{length};
+ghost use Rattle.fields_spec.specs.Lending.{was, left};
 ghost use Rattle.fields_spec.specs.Writing.{Put};
 ghost use Rattle.listing_spec.specs.Sizes.{mostDigits, Sized};
 ghost use Rattle.listing_spec.specs.Text.{decimal, hexDigit, hex};
@@ -22,7 +23,7 @@ pub fn decimal_len(n: u64) -> usize
 // Writes `n` in decimal at `at`, from its last digit to its first; answers the place behind it.
 pub fn put_decimal(out: &mut [u8], at: usize, n: u64) -> usize
     requires { ⌜ at + length (decimal n) ≤ length (now out) ⌝ }
-    ensures { λ r. ⌜ Put (decimal n) at r (now (out .entry)) (now (out .exit)) ⌝ }
+    ensures { λ r. ⌜ Put (decimal n) at r (was out) (left out) ⌝ }
 {
     let end = at + decimal_len(n);
     let mut i = end;
@@ -50,7 +51,7 @@ fn hex_digit(d: u8) -> u8
 // Writes two digits for each byte at `at`; answers the place behind them.
 pub fn put_hex(out: &mut [u8], at: usize, bytes: &[u8]) -> usize
     requires { ⌜ at + length (hex (now bytes)) ≤ length (now out) ⌝ }
-    ensures { λ r. ⌜ Put (hex (now (bytes .entry))) at r (now (out .entry)) (now (out .exit)) ⌝ }
+    ensures { λ r. ⌜ Put (hex (was bytes)) at r (was out) (left out) ⌝ }
 {
     let mut i = at;
     let mut k: usize = 0;

@@ -2,8 +2,10 @@
 ghost use mathlib.Core.Path.{_≡_};
 ghost use Prim.Native.Nat.{_≤_};
 ghost use lib.ListN.{length};
+ghost use Rattle.fields_spec.specs.Lending.{was, left};
 ghost use Rattle.fields_spec.specs.Writing.{Put};
-ghost use Rattle.listing_spec.specs.Heads.{headText, outcomeText, Held};
+ghost use Rattle.records_spec.specs.Outcomes.{refused};
+ghost use Rattle.listing_spec.specs.Heads.{headText, outcomeText, Listable};
 ghost use Rattle.listing_spec.specs.Listed.{recordPlaces};
 use crate::lines::line_len;
 use crate::lines::owner_len;
@@ -19,7 +21,7 @@ use records_spec::Outcome;
 // The length of the text of flags whose records are all of the two tables.
 fn flags_len(head: Head, epochs: &[u16], counts: &[u32]) -> usize
     requires { ⌜ (length (now epochs) ≡ length (now counts)) × (length (now epochs) ≤ recordPlaces) ⌝ }
-    ensures { λ r. ⌜ r ≡ length (headText head (now (epochs .entry)) (now (counts .entry))) ⌝ }
+    ensures { λ r. ⌜ r ≡ length (headText head (was epochs) (was counts)) ⌝ }
 {
     let first = line_len(b"kind ", records::type_byte(head) as u64) + owner_len(head);
     let base = line_len(b"base ", head.base as u64);
@@ -31,7 +33,7 @@ fn flags_len(head: Head, epochs: &[u16], counts: &[u32]) -> usize
 fn put_flags(out: &mut [u8], head: Head, epochs: &[u16], counts: &[u32]) -> usize
     requires { ⌜ length (now epochs) ≡ length (now counts) ⌝ }
     requires { ⌜ length (headText head (now epochs) (now counts)) ≤ length (now out) ⌝ }
-    ensures { λ r. ⌜ Put (headText head (now (epochs .entry)) (now (counts .entry))) 0 r (now (out .entry)) (now (out .exit)) ⌝ }
+    ensures { λ r. ⌜ Put (headText head (was epochs) (was counts)) 0 r (was out) (left out) ⌝ }
 {
     let second = put_line(out, 0, b"kind ", records::type_byte(head) as u64);
     let third = put_owner(out, second, head);
@@ -42,8 +44,8 @@ fn put_flags(out: &mut [u8], head: Head, epochs: &[u16], counts: &[u32]) -> usiz
 
 // The length of the text of what a call answered; the records of flags are the first of the two tables.
 pub fn answer_len(answered: Answered, epochs: &[u16], counts: &[u32]) -> usize
-    requires { ⌜ Held (answered .head) (now epochs) (now counts) ⌝ }
-    ensures { λ r. ⌜ r ≡ length (outcomeText (answered .outcome) (answered .head) (now (epochs .entry)) (now (counts .entry))) ⌝ }
+    requires { ⌜ Listable (answered .head) (now epochs) (now counts) ⌝ }
+    ensures { λ r. ⌜ r ≡ length (outcomeText (answered .outcome) (answered .head) (was epochs) (was counts)) ⌝ }
 {
     let outcome = answered.outcome;
     match outcome {
@@ -59,9 +61,9 @@ pub fn answer_len(answered: Answered, epochs: &[u16], counts: &[u32]) -> usize
 
 // Writes that text at the start of `out`; answers the place behind it.
 pub fn put_answer(out: &mut [u8], answered: Answered, epochs: &[u16], counts: &[u32]) -> usize
-    requires { ⌜ Held (answered .head) (now epochs) (now counts) ⌝ }
+    requires { ⌜ Listable (answered .head) (now epochs) (now counts) ⌝ }
     requires { ⌜ length (outcomeText (answered .outcome) (answered .head) (now epochs) (now counts)) ≤ length (now out) ⌝ }
-    ensures { λ r. ⌜ Put (outcomeText (answered .outcome) (answered .head) (now (epochs .entry)) (now (counts .entry))) 0 r (now (out .entry)) (now (out .exit)) ⌝ }
+    ensures { λ r. ⌜ Put (outcomeText (answered .outcome) (answered .head) (was epochs) (was counts)) 0 r (was out) (left out) ⌝ }
 {
     let outcome = answered.outcome;
     match outcome {

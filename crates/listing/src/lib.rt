@@ -9,8 +9,10 @@ pub use lines::put_text;
 ghost use mathlib.Core.Path.{_≡_};
 ghost use Prim.Native.Nat.{_≤_};
 ghost use lib.ListN.{length};
-ghost use Rattle.records_spec.specs.Answers.{wrote, writing};
-ghost use Rattle.listing_spec.specs.Listed.{mostListed, recordPlaces, listed};
+ghost use Rattle.fields_spec.specs.Lending.{was, left};
+ghost use Rattle.records_spec.specs.Answers.{writing, counted};
+ghost use Rattle.records_spec.specs.Outcomes.{after};
+ghost use Rattle.listing_spec.specs.Listed.{listed, mostListed, recordPlaces};
 use crate::flags::answer_len;
 use crate::flags::put_answer;
 use listing_spec::MOST_LISTED;
@@ -22,7 +24,7 @@ use records_spec::Refusal;
 fn list_flags(src: &[u8], epochs: &mut [u16], counts: &mut [u32], out: &mut [u8]) -> Counted
     requires { ⌜ length (now src) ≤ mostListed ⌝ }
     requires { ⌜ (length (now epochs) ≡ recordPlaces) × (length (now counts) ≡ recordPlaces) ⌝ }
-    ensures { λ r. ⌜ wrote r (now (out .exit)) ≡ writing (listed (now (src .entry))) (now (out .entry)) ⌝ }
+    ensures { λ r. ⌜ after (counted r) (left out) ≡ writing (listed (was src)) (was out) ⌝ }
 {
     let answered = codec::deserialize(src, epochs, counts);
     if out.len() < answer_len(answered, epochs, counts) {
@@ -33,7 +35,7 @@ fn list_flags(src: &[u8], epochs: &mut [u16], counts: &mut [u32], out: &mut [u8]
 
 // Lists flag bytes at the start of `out`; answers the text's length.
 pub fn list(src: &[u8], out: &mut [u8]) -> Counted
-    ensures { λ r. ⌜ wrote r (now (out .exit)) ≡ writing (listed (now (src .entry))) (now (out .entry)) ⌝ }
+    ensures { λ r. ⌜ after (counted r) (left out) ≡ writing (listed (was src)) (was out) ⌝ }
 {
     if MOST_LISTED < src.len() {
         if out.len() < 9 {

@@ -3,11 +3,13 @@ ghost use mathlib.Core.Path.{_≡_};
 ghost use mathlib.Core.List.{_++_};
 ghost use Prim.Native.Nat.{_+_, _*_, _≤_};
 ghost use lib.ListN.{length};
+ghost use Rattle.records_spec.specs.Answers.{recordsWere};
+ghost use Rattle.fields_spec.specs.Lending.{was, left};
 ghost use Rattle.fields_spec.specs.Writing.{Put};
 ghost use Rattle.records_spec.specs.Tables.{recordsOf, _⦂_};
 ghost use Rattle.records_spec.specs.Flags.{ownerOf};
 ghost use Rattle.listing_spec.specs.Sizes.{mostDigits, longestOwnerLine, longestRecordLine, Sized};
-ghost use Rattle.listing_spec.specs.Text.{ascii, decimal, ownerLine, recordLine, recordLines};
+ghost use Rattle.listing_spec.specs.Text.{ascii, decimal, ownerLine, recordLine, recordTexts};
 ghost use Rattle.listing_spec.specs.Listed.{recordPlaces};
 use crate::digits::decimal_len;
 use crate::digits::put_decimal;
@@ -17,7 +19,7 @@ use records_spec::Head;
 // Writes a text at `at`; answers the place behind it.
 pub fn put_text(out: &mut [u8], at: usize, text: &[u8]) -> usize
     requires { ⌜ at + length (now text) ≤ length (now out) ⌝ }
-    ensures { λ r. ⌜ Put (now (text .entry)) at r (now (out .entry)) (now (out .exit)) ⌝ }
+    ensures { λ r. ⌜ Put (was text) at r (was out) (left out) ⌝ }
 {
     let mut i = at;
     let mut k: usize = 0;
@@ -31,7 +33,7 @@ pub fn put_text(out: &mut [u8], at: usize, text: &[u8]) -> usize
 
 // The length of a line of a word and a number.
 pub fn line_len(word: &[u8], n: u64) -> usize
-    ensures { λ r. ⌜ Sized (now (word .entry) ++ (decimal n ++ ascii "\n")) (length (now (word .entry)) + mostDigits + 1) r ⌝ }
+    ensures { λ r. ⌜ Sized (was word ++ (decimal n ++ ascii "\n")) (length (was word) + mostDigits + 1) r ⌝ }
 {
     word.len() + decimal_len(n) + 1
 }
@@ -39,7 +41,7 @@ pub fn line_len(word: &[u8], n: u64) -> usize
 // Writes a line of a word and a number at `at`; answers the place behind it.
 pub fn put_line(out: &mut [u8], at: usize, word: &[u8], n: u64) -> usize
     requires { ⌜ at + length (now word ++ (decimal n ++ ascii "\n")) ≤ length (now out) ⌝ }
-    ensures { λ r. ⌜ Put (now (word .entry) ++ (decimal n ++ ascii "\n")) at r (now (out .entry)) (now (out .exit)) ⌝ }
+    ensures { λ r. ⌜ Put (was word ++ (decimal n ++ ascii "\n")) at r (was out) (left out) ⌝ }
 {
     let number = put_text(out, at, word);
     let end = put_decimal(out, number, n);
@@ -62,7 +64,7 @@ pub fn owner_len(head: Head) -> usize
 // Writes the owner's line at `at`, if there is an owner; answers the place behind it.
 pub fn put_owner(out: &mut [u8], at: usize, head: Head) -> usize
     requires { ⌜ at + length (ownerLine (ownerOf head)) ≤ length (now out) ⌝ }
-    ensures { λ r. ⌜ Put (ownerLine (ownerOf head)) at r (now (out .entry)) (now (out .exit)) ⌝ }
+    ensures { λ r. ⌜ Put (ownerLine (ownerOf head)) at r (was out) (left out) ⌝ }
 {
     let kind = head.kind;
     if records::is_owned(kind) {
@@ -84,7 +86,7 @@ pub fn record_len(epoch: u16, count: u32) -> usize
 // Writes a record's line at `at`; answers the place behind it.
 pub fn put_record(out: &mut [u8], at: usize, epoch: u16, count: u32) -> usize
     requires { ⌜ at + length (recordLine (epoch ⦂ count)) ≤ length (now out) ⌝ }
-    ensures { λ r. ⌜ Put (recordLine (epoch ⦂ count)) at r (now (out .entry)) (now (out .exit)) ⌝ }
+    ensures { λ r. ⌜ Put (recordLine (epoch ⦂ count)) at r (was out) (left out) ⌝ }
 {
     let number = put_text(out, at, b"epoch ");
     let end = put_decimal(out, number, epoch as u64);
@@ -94,7 +96,7 @@ pub fn put_record(out: &mut [u8], at: usize, epoch: u16, count: u32) -> usize
 // The length of all records' lines.
 pub fn records_len(epochs: &[u16], counts: &[u32]) -> usize
     requires { ⌜ (length (now epochs) ≡ length (now counts)) × (length (now epochs) ≤ recordPlaces) ⌝ }
-    ensures { λ r. ⌜ Sized (recordLines (recordsOf (now (epochs .entry)) (now (counts .entry)))) (longestRecordLine * recordPlaces) r ⌝ }
+    ensures { λ r. ⌜ Sized (recordTexts (recordsWere epochs counts)) (longestRecordLine * recordPlaces) r ⌝ }
 {
     let mut size: usize = 0;
     let mut k: usize = 0;
@@ -108,8 +110,8 @@ pub fn records_len(epochs: &[u16], counts: &[u32]) -> usize
 // Writes all records' lines at `at`; answers the place behind them.
 pub fn put_records(out: &mut [u8], at: usize, epochs: &[u16], counts: &[u32]) -> usize
     requires { ⌜ length (now epochs) ≡ length (now counts) ⌝ }
-    requires { ⌜ at + length (recordLines (recordsOf (now epochs) (now counts))) ≤ length (now out) ⌝ }
-    ensures { λ r. ⌜ Put (recordLines (recordsOf (now (epochs .entry)) (now (counts .entry)))) at r (now (out .entry)) (now (out .exit)) ⌝ }
+    requires { ⌜ at + length (recordTexts (recordsOf (now epochs) (now counts))) ≤ length (now out) ⌝ }
+    ensures { λ r. ⌜ Put (recordTexts (recordsWere epochs counts)) at r (was out) (left out) ⌝ }
 {
     let mut i = at;
     let mut k: usize = 0;

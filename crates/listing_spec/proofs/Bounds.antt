@@ -16,8 +16,8 @@ use Rattle.fields_spec.proofs.RoundTrip.{Bytes, found-inv}
 use Rattle.records_spec.specs.Tables.{At}
 use Rattle.records_spec.specs.Flags.{Flags, owned, ownerLength, ownerIf, typeByte, kindOf}
 use Rattle.records_spec.specs.Refusals.{number}
-use Rattle.records_spec.specs.declared.refusal.Refusal.{Refusal}
-use Rattle.records_spec.specs.declared.refusal.Refusal.the-variants.{UnknownType, WrongSize, NonCanonical, DifferentBaseEpoch, DifferentOwners, Overflow, NoStorageAtEpoch, TotalTooLarge, NoRoom, BadTable}
+use Rattle.records_spec.specs.Outcomes.{refused}
+use Rattle.records_spec.proofs.Only.{number-below}
 use Rattle.records_spec.specs.declared.head.Kind.{Kind}
 use Rattle.records_spec.specs.declared.head.Kind.the-variants.{SingleEpoch, MultiEpoch, SingleEpochOwned, MultiEpochOwned}
 use Rattle.codec_spec.specs.Bytes.{behindKind, headSize, basePlace}
@@ -25,7 +25,7 @@ use Rattle.codec_spec.specs.Reading.{Next, bad, good, next, Read, noFlags, some
 use Rattle.codec_spec.specs.Calls.{answer}
 use Rattle.codec_spec.proofs.Parsing.{next-good, rest, rest-end, rest-bad, Turn, rest-good}
 use Rattle.codec_spec.proofs.Settling.{flags-whole}
-use Rattle.listing_spec.specs.Text.{ascii, decimal, line, ownerLine, recordLine, recordLines, flagsText, listing}
+use Rattle.listing_spec.specs.Text.{ascii, decimal, wordLine, ownerLine, recordLine, recordTexts, flagsText, listing}
 use Rattle.listing_spec.specs.Sizes.{longestOwnerLine}
 use Rattle.listing_spec.specs.Listed.{mostListed, recordPlaces, longestText, listed}
 use Rattle.listing_spec.proofs.Decimals.{length-below}
@@ -99,15 +99,15 @@ short-line r e n =
       length-below 9 (r .bytes) (omega arith),
     )
 
-short-lines : (d : List ℕ) → Bytes d → (at prev : ℕ) → length (recordLines (rest d at prev .records)) ≤ 29 * length (rest d at prev .records)
-unfolding recordLines
+short-lines : (d : List ℕ) → Bytes d → (at prev : ℕ) → length (recordTexts (rest d at prev .records)) ≤ 29 * length (rest d at prev .records)
+unfolding recordTexts
 short-lines d b at prev =
-    by-turns d (λ (at : ℕ) (rs : List At). length (recordLines rs) ≤ 29 * length rs) (λ at. omega arith)
+    by-turns d (λ (at : ℕ) (rs : List At). length (recordTexts rs) ≤ 29 * length rs) (λ at. omega arith)
     (λ at prev r u q t ih.
     let g = next-good prev (drop at d) r u q in
     let e : r .epoch < 65536 = rw (g .epoch-is) (two-bytes d b at (omega (arith, t .inside, t .some-bytes))) in
     let n : length (recordLine r) ≤ 29 = short-line r e (found-inv (drop 2 (drop at d)) (r .bytes) (g .used) (g .count-is) .fits) in
-    omega (arith, length-append (recordLine r) (recordLines (rest d (at + u) (r .epoch) .records))))
+    omega (arith, length-append (recordLine r) (recordTexts (rest d (at + u) (r .epoch) .records))))
     (length d)
     at
     prev
@@ -157,25 +157,13 @@ flags-fit src f b h e =
     rw (w .1 .in-bytes)
     (omega (
       arith,
-      length-five (line "kind " kind) (ownerLine (ownerIn k src)) (line "base " base) (recordLines rs) (line "records " (length rs)),
+      length-five (wordLine "kind " kind) (ownerLine (ownerIn k src)) (wordLine "base " base) (recordTexts rs) (wordLine "records " (length rs)),
       short-number (ascii "kind ") 0 kind (type-below (kindOf (ownerIn k src) (length rs))),
       short-owner (owned k) (drop behindKind src),
       short-number (ascii "base ") 4 base (omega arith),
       short-lines src b (headSize k) base,
       short-number (ascii "records ") 3 (length rs) (omega arith),
     ))
-
-pub number-below : (r : Refusal) → number r < 100
-number-below UnknownType = omega arith
-number-below WrongSize = omega arith
-number-below NonCanonical = omega arith
-number-below DifferentBaseEpoch = omega arith
-number-below DifferentOwners = omega arith
-number-below Overflow = omega arith
-number-below NoStorageAtEpoch = omega arith
-number-below TotalTooLarge = omega arith
-number-below NoRoom = omega arith
-number-below BadTable = omega arith
 
 answer-fits : (src : List ℕ) → Bytes src → length src ≤ mostListed → (x : Read) → read src ≡ x → length (listing (answer x)) ≤ longestText
 answer-fits src b h noFlags e = omega arith

@@ -10,7 +10,7 @@ use lib.Dec.{ltb}
 use lib.ListN.{length}
 use Rattle.records_spec.specs.Tables.{At}
 use Rattle.records_spec.specs.Flags.{Flags, typeByte, kindOf}
-use Rattle.records_spec.specs.Answers.{Answer, ok, refused}
+use Rattle.records_spec.specs.Outcomes.{refused, Answer, ok}
 
 -- k codes of a text from the place i on
 abbrev pub codes : ℕ → ℕ → String → List ℕ
@@ -41,8 +41,8 @@ hex [] = []
 hex (b ∷ bs) = hexDigit (b / 16) ∷ hexDigit (b % 16) ∷ hex bs
 
 -- a line of a word and a number
-abbrev pub line : String → ℕ → List ℕ
-line word n = ascii word ++ (decimal n ++ ascii "\n")
+abbrev pub wordLine : String → ℕ → List ℕ
+wordLine word n = ascii word ++ (decimal n ++ ascii "\n")
 
 -- the owner's line, if there is one
 abbrev pub ownerLine : Option (List ℕ) → List ℕ
@@ -54,18 +54,18 @@ abbrev pub recordLine : At → List ℕ
 recordLine r = ascii "epoch " ++ (decimal (r .epoch) ++ (ascii " bytes " ++ (decimal (r .bytes) ++ ascii "\n")))
 
 -- a line for each record
-unfoldable pub recordLines : List At → List ℕ
-recordLines [] = []
-recordLines (r ∷ rs) = recordLine r ++ recordLines rs
+unfoldable pub recordTexts : List At → List ℕ
+recordTexts [] = []
+recordTexts (r ∷ rs) = recordLine r ++ recordTexts rs
 
 -- flags, line by line
 abbrev pub flagsText : Flags → List ℕ
 flagsText f =
-    line "kind " (typeByte (kindOf (f .owner) (length (f .records))))
-    ++ (ownerLine (f .owner) ++ (line "base " (f .base) ++ (recordLines (f .records) ++ line "records " (length (f .records)))))
+    wordLine "kind " (typeByte (kindOf (f .owner) (length (f .records))))
+    ++ (ownerLine (f .owner) ++ (wordLine "base " (f .base) ++ (recordTexts (f .records) ++ wordLine "records " (length (f .records)))))
 
 -- what reading answers, as text
 abbrev pub listing : Answer (Option Flags) → List ℕ
-listing (refused n) = line "refused " n
+listing (refused n) = wordLine "refused " n
 listing (ok none) = ascii "none\n"
 listing (ok (some f)) = flagsText f

@@ -3,11 +3,13 @@ ghost use Prim.Native.Nat.{_≤_};
 ghost use mathlib.Core.Path.{_≡_};
 ghost use lib.ListN.{length, take};
 ghost use Rattle.io.specs.Counts.{Counts};
+ghost use Rattle.fields_spec.specs.Lending.{left};
 ghost use Rattle.records_spec.specs.Refusals.{number};
-ghost use Rattle.listing_spec.specs.Text.{line};
+ghost use Rattle.listing_spec.specs.Text.{wordLine};
+ghost use Rattle.records_spec.specs.Outcomes.{refused};
 use records_spec::Refusal;
+use repair_spec::AnsweredRepair;
 use repair_spec::LONGEST_FLAGS;
-use repair_spec::Outcome;
 use streams::Input;
 use streams::say;
 
@@ -20,8 +22,8 @@ const MOST_LINES: usize = (MOST_REPAIRED + 1) / 2;
 // Puts what is said of a refusal at the start of `out`; answers the text's length.
 fn refusal_text(refusal: Refusal, out: &mut [u8]) -> usize
     requires { ⌜ 11 ≤ length (now out) ⌝ }
-    ensures { λ r. ⌜ Counts r (now (out .exit)) ⌝ }
-    ensures { λ r. ⌜ take r (now (out .exit)) ≡ line "refused " (number refusal) ⌝ }
+    ensures { λ r. ⌜ Counts r (left out) ⌝ }
+    ensures { λ r. ⌜ take r (left out) ≡ wordLine "refused " (number refusal) ⌝ }
 {
     listing::put_line(out, 0, b"refused ", records::number(refusal) as u64)
 }
@@ -62,10 +64,10 @@ fn write_repaired(bytes: &[u8], offsets: &[usize], changes: &[u8])
 // Repairs bytes with what is lent for the answer and the list.
 fn migrate(src: &[u8], out: &mut [u8], offsets: &mut [usize], changes: &mut [u8]) {
     match repair::repair(src, out, offsets, changes) {
-        Outcome::Done { bytes, lines } => {
+        AnsweredRepair::Done { bytes, lines } => {
             write_repaired(&out[..bytes], &offsets[..lines], &changes[..lines]);
         }
-        Outcome::Refused(refusal) => say_refused(refusal),
+        AnsweredRepair::Refused(refusal) => say_refused(refusal),
     }
 }
 

@@ -1,5 +1,6 @@
 // The answers of calls that answer flags, and room.
 ghost use mathlib.Core.Path.{_≡_};
+ghost use Rattle.records_spec.specs.Outcomes.{refused};
 ghost use Rattle.records_spec.specs.Flags.{noHead};
 ghost use Rattle.records_spec.specs.Answers.{roomFor};
 use records_spec::Answered;

@@ -3,9 +3,11 @@ ghost use mathlib.Core.Path.{_≡_};
 ghost use mathlib.Core.Bool.{true};
 ghost use Prim.Native.Nat.{_+_, _≤_, _<_};
 ghost use lib.ListN.{length, drop};
+ghost use Rattle.records_spec.specs.Answers.{recordsWere};
+ghost use Rattle.fields_spec.specs.Lending.{was, left};
 ghost use Rattle.fields_spec.specs.Selects.{Selected};
 ghost use Rattle.records_spec.specs.Tables.{recordsOf, rising, Placed};
-ghost use Rattle.records_spec.specs.Runs.{run, lead, Room};
+ghost use Rattle.records_spec.specs.Runs.{stretch, lead, RoomFrom};
 use crate::table::find;
 
 // The lesser of two epochs. Which one it is cannot be foreseen, so no branch shall depend on it: an early return in a function as
@@ -52,8 +54,8 @@ pub fn copy_run(
     at: usize,
 ) -> usize
     requires { ⌜ (end ≤ length (now «from_epochs»)) × (end ≤ length (now «from_counts»)) ⌝ }
-    requires { ⌜ Room (run i end (recordsOf (now «from_epochs») (now «from_counts»))) at (now epochs) (now counts) ⌝ }
-    ensures { λ r. ⌜ Placed (run i end (recordsOf (now («from_epochs» .entry)) (now («from_counts» .entry)))) at r (now (epochs .entry)) (now (counts .entry)) (now (epochs .exit)) (now (counts .exit)) ⌝ }
+    requires { ⌜ RoomFrom (stretch i end (recordsOf (now «from_epochs») (now «from_counts»))) at (now epochs) (now counts) ⌝ }
+    ensures { λ r. ⌜ Placed (stretch i end (recordsWere «from_epochs» «from_counts»)) at r (was epochs) (was counts) (left epochs) (left counts) ⌝ }
 {
     let mut a = i;
     let mut k = at;
@@ -70,7 +72,7 @@ pub fn copy_run(
 pub fn lead_end(our_epochs: &[u16], i: usize, their_epochs: &[u16], j: usize) -> usize
     requires { ⌜ rising (now «our_epochs») ≡ true ⌝ }
     requires { ⌜ i ≤ length (now «our_epochs») ⌝ }
-    ensures { λ r. ⌜ r ≡ i + lead (drop i (now («our_epochs» .entry))) (drop j (now («their_epochs» .entry))) ⌝ }
+    ensures { λ r. ⌜ r ≡ i + lead (drop i (was «our_epochs»)) (drop j (was «their_epochs»)) ⌝ }
 {
     if j < their_epochs.len() {
         return i + find(&our_epochs[i..], their_epochs[j]);

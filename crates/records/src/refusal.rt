@@ -3,7 +3,7 @@ ghost use mathlib.Core.Path.{_≡_};
 ghost use Rattle.records_spec.specs.Refusals.{number};
 use records_spec::Refusal;
 
-// The refusal's number, 1 to 11 without 8.
+// The refusal's number.
 pub fn number(refusal: Refusal) -> u32
     ensures { λ r. ⌜ r ≡ number refusal ⌝ }
 {
@@ -18,5 +18,6 @@ pub fn number(refusal: Refusal) -> u32
         Refusal::TotalTooLarge => 9,
         Refusal::NoRoom => 10,
         Refusal::BadTable => 11,
+        Refusal::IndexMismatch => 14,
     }
 }

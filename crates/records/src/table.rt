@@ -3,8 +3,10 @@ ghost use mathlib.Core.Path.{_≡_};
 ghost use mathlib.Core.Bool.{true};
 ghost use Prim.Native.Nat.{_+_, _≤_, _<_};
 ghost use lib.ListN.{length, take, drop};
+ghost use Rattle.records_spec.specs.Answers.{flagsWere, recordsWere};
+ghost use Rattle.fields_spec.specs.Lending.{was, left};
 ghost use Rattle.records_spec.specs.Tables.{recordsOf, ascending, rising, placeOf, union, without, over, Table, Placed};
-ghost use Rattle.records_spec.specs.Unions.{Within, Stepped, spotOf};
+ghost use Rattle.records_spec.specs.Unions.{InBoth, Stepped, spotOf};
 ghost use Rattle.records_spec.specs.Flags.{agrees, proper};
 use crate::head::is_multi;
 use crate::joining::copy_run;
@@ -19,7 +21,7 @@ use records_spec::Spot;
 
 // Whether the epochs ascend strictly and are all above the base. No early exit: a loop of this shape can become vector code.
 pub fn ascend(base: u16, epochs: &[u16]) -> bool
-    ensures { λ r. ⌜ r ≡ ascending base (now (epochs .entry)) ⌝ }
+    ensures { λ r. ⌜ r ≡ ascending base (was epochs) ⌝ }
 {
     let mut good = true;
     let mut prev = base;
@@ -45,7 +47,7 @@ fn agree(kind: Kind, records: usize) -> bool
 
 // Whether a head and its tables are proper flags.
 pub fn is_proper(head: Head, epochs: &[u16], counts: &[u32]) -> bool
-    ensures { λ r. ⌜ r ≡ proper head (now (epochs .entry)) (now (counts .entry)) ⌝ }
+    ensures { λ r. ⌜ r ≡ proper (flagsWere head epochs counts) ⌝ }
 {
     let kind = head.kind;
     let n = head.records;
@@ -65,7 +67,7 @@ pub fn is_proper(head: Head, epochs: &[u16], counts: &[u32]) -> bool
 // behind them, and each look at the middle leaves half of them.
 pub fn find(epochs: &[u16], epoch: u16) -> usize
     requires { ⌜ rising (now epochs) ≡ true ⌝ }
-    ensures { λ r. ⌜ r ≡ placeOf epoch (now (epochs .entry)) ⌝ }
+    ensures { λ r. ⌜ r ≡ placeOf epoch (was epochs) ⌝ }
 {
     let mut at: usize = 0;
     let mut left = epochs.len();
@@ -87,7 +89,7 @@ pub fn find(epochs: &[u16], epoch: u16) -> usize
 // Looks up an epoch.
 pub fn look_up(epochs: &[u16], counts: &[u32], epoch: u16) -> Spot
     requires { ⌜ Table (now epochs) (now counts) ⌝ }
-    ensures { λ r. ⌜ r ≡ spotOf epoch (now (epochs .entry)) (now (counts .entry)) ⌝ }
+    ensures { λ r. ⌜ r ≡ spotOf epoch (was epochs) (was counts) ⌝ }
 {
     let below = find(epochs, epoch);
     if below < epochs.len() {
@@ -116,7 +118,7 @@ pub fn copy_records(
 )
     requires { ⌜ (n ≤ length (now «from_epochs»)) × (n ≤ length (now «from_counts»)) ⌝ }
     requires { ⌜ (n ≤ length (now epochs)) × (n ≤ length (now counts)) ⌝ }
-    ensures { λ _. ⌜ Placed (take n (recordsOf (now («from_epochs» .entry)) (now («from_counts» .entry)))) 0 n (now (epochs .entry)) (now (counts .entry)) (now (epochs .exit)) (now (counts .exit)) ⌝ }
+    ensures { λ _. ⌜ Placed (take n (recordsWere «from_epochs» «from_counts»)) 0 n (was epochs) (was counts) (left epochs) (left counts) ⌝ }
 {
     copy_run(from_epochs, from_counts, 0, n, epochs, counts, 0);
 }
@@ -133,8 +135,8 @@ pub fn next_record(
 ) -> Next
     requires { ⌜ Table (now «our_epochs») (now «our_counts») ⌝ }
     requires { ⌜ Table (now «their_epochs») (now «their_counts») ⌝ }
-    requires { ⌜ Within (recordsOf (now «our_epochs») (now «our_counts»)) (recordsOf (now «their_epochs») (now «their_counts»)) i j ⌝ }
-    ensures { λ r. ⌜ Stepped (recordsOf (now («our_epochs» .entry)) (now («our_counts» .entry))) (recordsOf (now («their_epochs» .entry)) (now («their_counts» .entry))) i j r ⌝ }
+    requires { ⌜ InBoth (recordsOf (now «our_epochs») (now «our_counts»)) (recordsOf (now «their_epochs») (now «their_counts»)) i j ⌝ }
+    ensures { λ r. ⌜ Stepped (recordsWere «our_epochs» «our_counts») (recordsWere «their_epochs» «their_counts») i j r ⌝ }
 {
     if their_epochs.len() <= j {
         return Next {
@@ -174,7 +176,7 @@ pub fn union_len(
     requires { ⌜ Table (now «our_epochs») (now «our_counts») ⌝ }
     requires { ⌜ Table (now «their_epochs») (now «their_counts») ⌝ }
     requires { ⌜ (i ≤ length (now «our_epochs»)) × (j ≤ length (now «their_epochs»)) ⌝ }
-    ensures { λ r. ⌜ r ≡ length (union (drop i (recordsOf (now («our_epochs» .entry)) (now («our_counts» .entry)))) (drop j (recordsOf (now («their_epochs» .entry)) (now («their_counts» .entry))))) ⌝ }
+    ensures { λ r. ⌜ r ≡ length (union (drop i (recordsWere «our_epochs» «our_counts»)) (drop j (recordsWere «their_epochs» «their_counts»))) ⌝ }
 {
     let end = our_epochs.len() + their_epochs.len();
     let mut a = i;
@@ -205,9 +207,16 @@ pub fn union_into(
     requires { ⌜ Table (now «our_epochs») (now «our_counts») ⌝ }
     requires { ⌜ Table (now «their_epochs») (now «their_counts») ⌝ }
     requires { ⌜ (i ≤ length (now «our_epochs»)) × (j ≤ length (now «their_epochs»)) ⌝ }
-    requires { ⌜ at + length (union (drop i (recordsOf (now «our_epochs») (now «our_counts»))) (drop j (recordsOf (now «their_epochs») (now «their_counts»)))) ≤ length (now epochs) ⌝ }
-    requires { ⌜ at + length (union (drop i (recordsOf (now «our_epochs») (now «our_counts»))) (drop j (recordsOf (now «their_epochs») (now «their_counts»)))) ≤ length (now counts) ⌝ }
-    ensures { λ r. ⌜ Placed (union (drop i (recordsOf (now («our_epochs» .entry)) (now («our_counts» .entry)))) (drop j (recordsOf (now («their_epochs» .entry)) (now («their_counts» .entry))))) at r (now (epochs .entry)) (now (counts .entry)) (now (epochs .exit)) (now (counts .exit)) ⌝ }
+    requires { let our-records = recordsOf (now «our_epochs») (now «our_counts») in
+        let their-records = recordsOf (now «their_epochs») (now «their_counts») in
+        ⌜ at + length (union (drop i our-records) (drop j their-records)) ≤ length (now epochs) ⌝ }
+    requires { let our-records = recordsOf (now «our_epochs») (now «our_counts») in
+        let their-records = recordsOf (now «their_epochs») (now «their_counts») in
+        ⌜ at + length (union (drop i our-records) (drop j their-records)) ≤ length (now counts) ⌝ }
+    ensures { λ r.
+        let our-records = recordsWere «our_epochs» «our_counts» in
+        let their-records = recordsWere «their_epochs» «their_counts» in
+        ⌜ Placed (union (drop i our-records) (drop j their-records)) at r (was epochs) (was counts) (left epochs) (left counts) ⌝ }
 {
     let our_end = our_epochs.len();
     let their_end = their_epochs.len();
@@ -231,7 +240,9 @@ pub fn union_into(
 // Drops the record at a place of the first n: those behind it move down, and from the last place on all stays as it was.
 pub fn drop_record(epochs: &mut [u16], counts: &mut [u32], n: usize, at: usize)
     requires { ⌜ (at < n) × ((n ≤ length (now epochs)) × (n ≤ length (now counts))) ⌝ }
-    ensures { λ _. ⌜ (now (epochs .exit) ≡ over (without at (take n (now (epochs .entry)))) (now (epochs .entry))) × (now (counts .exit) ≡ over (without at (take n (now (counts .entry)))) (now (counts .entry))) ⌝ }
+    ensures { λ _.
+        ⌜ (left epochs ≡ over (without at (take n (was epochs))) (was epochs))
+        × (left counts ≡ over (without at (take n (was counts))) (was counts)) ⌝ }
 {
     let mut i = at + 1;
     while i < n {

@@ -65,7 +65,8 @@ union-around e n (o ∷ os) ts ho ht = by (side (o .epoch) e) (union-around e n 
   where
     by : Side (o .epoch) e
         → union os (e ⦂ n ∷ ts) ≡ take (placeOf e (epochsOf os)) os ++ e ⦂ n ∷ union (drop (placeOf (suc e) (epochsOf os)) os) ts
-        → union (o ∷ os) (e ⦂ n ∷ ts) ≡ take (placeOf e (epochsOf (o ∷ os))) (o ∷ os) ++ e ⦂ n ∷ union (drop (placeOf (suc e) (epochsOf (o ∷ os))) (o ∷ os)) ts
+        → union (o ∷ os) (e ⦂ n ∷ ts) ≡ take (placeOf e (epochsOf (o ∷ os))) (o ∷ os) ++ e ⦂ n ∷ union
+        (drop (placeOf (suc e) (epochsOf (o ∷ os))) (o ∷ os)) ts
     by (lower p) ih =
         rw (lt-ltb (o .epoch) e p, lt-ltb (o .epoch) (suc e) (omega arith))
         (next-ours o os (e ⦂ n ∷ ts) (asc-cons (o .epoch) e (epochsOf ts) p ht) ∙ ap (λ l. o ∷ l) ih)
@@ -149,7 +150,8 @@ has-place e [] cs h r = refl
 has-place e (x ∷ xs) [] h r = absurd (omega arith)
 has-place e (x ∷ xs) (c ∷ cs) h r = by (side x e) (has-place e xs cs (omega arith) (asc-rises x xs r))
   where
-    by : Side x e → has e (recordsOf xs cs) ≡ ltb (placeOf e xs) (placeOf (suc e) xs) → has e (recordsOf (x ∷ xs) (c ∷ cs)) ≡ ltb (placeOf e (x ∷ xs)) (placeOf (suc e) (x ∷ xs))
+    by : Side x e → has e (recordsOf xs cs) ≡ ltb (placeOf e xs) (placeOf (suc e) xs)
+        → has e (recordsOf (x ∷ xs) (c ∷ cs)) ≡ ltb (placeOf e (x ∷ xs)) (placeOf (suc e) (x ∷ xs))
     by (lower l) ih = rw (ne-eqb e x (λ d. omega arith), lt-ltb x e l, lt-ltb x (suc e) (omega arith), compare·suc-suc) ih
     by (equal l) ih =
         rw (eq-eqb e x (sym l), le-ltb x e (omega arith), lt-ltb x (suc e) (omega arith)) (sym (lt-ltb 0 (suc (placeOf (suc e) xs)) (omega arith)))

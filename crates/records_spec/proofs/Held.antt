@@ -66,7 +66,8 @@ module _ (e : ℕ) (os : List At) where
   held-union [] = refl
   held-union (t ∷ ts) = held-put e t (union os ts) ∙ rw (held-union ts) (by (eqb e (t .epoch)))
     where
-      by : (a : Bool) → cond a (t .bytes) (cond (has e ts) (held e ts) (held e os)) ≡ cond (cond a true (has e ts)) (cond a (t .bytes) (held e ts)) (held e os)
+      by : (a : Bool) → cond a (t .bytes) (cond (has e ts) (held e ts) (held e os))
+          ≡ cond (cond a true (has e ts)) (cond a (t .bytes) (held e ts)) (held e os)
       by true = refl
       by false = refl
 
@@ -90,7 +91,8 @@ module _ (e : ℕ) where
   held-passes r rs p = rw (ne-eqb e (r .epoch) p)
 
   -- nothing is read of records above an epoch
-  pub read-above : {A : Type 0} (read : List At → A) → Passes e read → (b : ℕ) (rs : List At) → e ≤ b → ascending b (epochsOf rs) ≡ true → read rs ≡ read []
+  pub read-above : {A : Type 0} (read : List At → A) → Passes e read → (b : ℕ) (rs : List At) → e ≤ b → ascending b (epochsOf rs) ≡ true
+      → read rs ≡ read []
   unfolding epochsOf
   read-above read passes b [] p h = refl
   read-above read passes b (r ∷ rs) p h =

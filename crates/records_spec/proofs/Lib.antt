@@ -13,3 +13,5 @@ pub mod Alike
 pub mod Around
 pub mod Merged
 pub mod Runs
+pub mod Expected
+pub mod Guarded

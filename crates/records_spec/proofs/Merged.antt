@@ -44,7 +44,8 @@ union-merged (o ∷ os) (t ∷ ts) ho ht =
 put-long : (r : At) (rs : List At) → length (put r rs) ≤ suc (length rs)
 unfolding put
 put-long r [] = omega arith
-put-long r (s ∷ ss) = let i = put-long r ss in put-cases (λ l. length l ≤ suc (suc (length ss))) r s ss (λ p. omega arith) (λ p. omega arith) (λ p. omega arith)
+put-long r (s ∷ ss) = let i = put-long r ss in
+    put-cases (λ l. length l ≤ suc (suc (length ss))) r s ss (λ p. omega arith) (λ p. omega arith) (λ p. omega arith)
 
 pub union-long : (os ts : List At) → length (union os ts) ≤ length os + length ts
 unfolding union

@@ -1,16 +1,18 @@
 -- The statements leave no choice: any two outcomes that one allows are equal, since what is shown of an outcome tells it.
 -- Assumes nothing.
 use mathlib.Core.Path.{_≡_, refl, sym, ap, _∙_}
-use mathlib.Core.Bool.{Bool, true, false, cond}
-use mathlib.Core.List.{List}
-use Prim.Native.Nat.{ℕ}
+use mathlib.Core.Bool.{Bool, cond}
+use Prim.Native.Nat.{ℕ, _<_}
 use native.Mathlib.Omega.{arith}
 use lib.Dec.{eqb}
-use borrow.Author.Tests.{ne-eqb}
 use Rattle.records_spec.specs.Refusals.{number}
-use Rattle.records_spec.specs.Answers.{Answer, ok, refused, After, refusalOf, presentIn, shown, counted, Written, wrote}
+use Rattle.records_spec.specs.Outcomes.{Answer, ok, refused, numberIn, After, after, kept, leaving}
+use Rattle.records_spec.specs.Flags.{Lent, lending}
+use Rattle.records_spec.specs.Answers.{FlagsAfter, presentIn, shown, counted}
 use Rattle.records_spec.specs.declared.refusal.Refusal.{Refusal}
-use Rattle.records_spec.specs.declared.refusal.Refusal.the-variants.{UnknownType, WrongSize, NonCanonical, DifferentBaseEpoch, DifferentOwners, Overflow, NoStorageAtEpoch, TotalTooLarge, NoRoom, BadTable}
+use Rattle.records_spec.proofs.Answers.{refused-not-ok}
+use Rattle.records_spec.specs.declared.refusal.Refusal.the-variants.{UnknownType, WrongSize, NonCanonical, DifferentBaseEpoch, DifferentOwners}
+use Rattle.records_spec.specs.declared.refusal.Refusal.the-variants.{Overflow, NoStorageAtEpoch, TotalTooLarge, NoRoom, BadTable, IndexMismatch}
 use Rattle.records_spec.specs.declared.answer.Outcome.{Outcome}
 use Rattle.records_spec.specs.declared.answer.Outcome.the-variants.{Absent, Present, Refused}
 use Rattle.records_spec.specs.declared.answer.Answered.{Answered}
@@ -24,6 +26,26 @@ same-only x y d p q = p ∙ sym q
 pub back-only : {T A : Type 0} (told : T → A) (back : A → T) → ((t : T) → back (told t) ≡ t) → (a b : T) (x : A) → told a ≡ x → told b ≡ x → a ≡ b
 back-only told back same a b x p q = sym (same a) ∙ ap back (same-only (told a) (told b) x p q) ∙ same b
 
+-- ONE LAW FOR ALL CALLS: and so is what they leave
+pub left-only : {T A M : Type 0} (told : T → A) (back : A → T) → ((t : T) → back (told t) ≡ t)
+    → (a b : T) (m n : M) (x : After A M) → after (told a) m ≡ x → after (told b) n ≡ x → (a ≡ b) × (m ≡ n)
+left-only told back same a b m n x p q =
+    let e = p ∙ sym q in
+    (back-only told back same a b (told b) (ap (λ (w : After _ _). w .answer) e) refl, ap (λ (w : After _ _). w .lent) e)
+
+-- ONE LAW FOR ALL CALLS: A REFUSAL LEAVES WHAT WAS LENT
+pub refusal-keeps : {A M : Type 0} (m : M) (x : Answer (A × M)) → (numberIn (leaving m x .answer) ≡ 0 → ⊥)
+    → leaving m x ≡ kept (numberIn (leaving m x .answer)) m
+unfolding leaving
+refusal-keeps m (ok a) h = absurd (h refl)
+refusal-keeps m (refused n) h = refl
+
+-- the same of an answer that is known to be refused
+pub refused-keeps : {A M : Type 0} (m : M) (x : Answer (A × M)) (n : ℕ) → leaving m x .answer ≡ refused n → leaving m x .lent ≡ m
+unfolding leaving
+refused-keeps m (ok a) n e = absurd (refused-not-ok n (a .0) (sym e))
+refused-keeps m (refused k) n e = refl
+
 -- ---- refusals
 
 -- the refusal that a number names
@@ -36,7 +58,7 @@ named n =
     (cond (eqb n 5) DifferentOwners
     (cond (eqb n 6) Overflow
     (cond (eqb n 7) NoStorageAtEpoch
-    (cond (eqb n 9) TotalTooLarge (cond (eqb n 10) NoRoom BadTable))))))))
+    (cond (eqb n 9) TotalTooLarge (cond (eqb n 10) NoRoom (cond (eqb n 11) BadTable IndexMismatch)))))))))
 
 pub named-back : (r : Refusal) → named (number r) ≡ r
 named-back UnknownType = refl
@@ -49,6 +71,21 @@ named-back NoStorageAtEpoch = refl
 named-back TotalTooLarge = refl
 named-back NoRoom = refl
 named-back BadTable = refl
+named-back IndexMismatch = refl
+
+-- every number has at most two digits
+pub number-below : (r : Refusal) → number r < 100
+number-below UnknownType = omega arith
+number-below WrongSize = omega arith
+number-below NonCanonical = omega arith
+number-below DifferentBaseEpoch = omega arith
+number-below DifferentOwners = omega arith
+number-below Overflow = omega arith
+number-below NoStorageAtEpoch = omega arith
+number-below TotalTooLarge = omega arith
+number-below NoRoom = omega arith
+number-below BadTable = omega arith
+number-below IndexMismatch = omega arith
 
 -- a number that is not the one of what it names is no refusal's
 unused : (n : ℕ) → (number (named n) ≡ n → ⊥) → (r : Refusal) → number r ≡ n → ⊥
@@ -61,41 +98,28 @@ never-8 = unused 8 (λ e. omega arith)
 -- ---- answers
 
 -- the number that a call answered, or its refusal
-abbrev countedAs : Answer ℕ → Counted
+abbrev pub countedAs : Answer ℕ → Counted
 countedAs (ok n) = Count n
 countedAs (refused n) = NotCounted (named n)
 
-counted-back : (c : Counted) → countedAs (counted c) ≡ c
+pub counted-back : (c : Counted) → countedAs (counted c) ≡ c
 counted-back (Count n) = refl
 counted-back (NotCounted r) = ap NotCounted (named-back r)
 
 pub counted-only : (c d : Counted) (x : Answer ℕ) → counted c ≡ x → counted d ≡ x → c ≡ d
 counted-only = back-only counted countedAs counted-back
 
-pub wrote-only : (c d : Counted) (o o′ : List ℕ) (x : Written) → wrote c o ≡ x → wrote d o′ ≡ x → (c ≡ d) × (o ≡ o′)
-wrote-only c d o o′ x p q = (
-  counted-only c d (x .answer) (ap (λ (w : Written). w .answer) p) (ap (λ (w : Written). w .answer) q),
-  ap (λ (w : Written). w .out) (same-only _ _ x p q),
-)
+-- the outcome that a truth or a refusal's number tells
+abbrev outcomeAs : Answer Bool → Outcome
+outcomeAs (ok b) = cond b Present Absent
+outcomeAs (refused n) = Refused (named n)
 
--- the outcome that a refusal's number, or 0, and whether there are flags tell
-abbrev outcomeAs : Bool → ℕ → Outcome
-outcomeAs true n = Present
-outcomeAs false n = cond (eqb n 0) Absent (Refused (named n))
-
-numbered : (r : Refusal) → eqb (number r) 0 ≡ false
-numbered r = ne-eqb (number r) 0 (unused 0 (λ e. omega arith) r)
-
-outcome-back : (o : Outcome) → outcomeAs (presentIn o) (refusalOf o) ≡ o
+outcome-back : (o : Outcome) → outcomeAs (presentIn o) ≡ o
 outcome-back Absent = refl
 outcome-back Present = refl
-outcome-back (Refused r) = rw (numbered r) (ap Refused (named-back r))
+outcome-back (Refused r) = ap Refused (named-back r)
 
-pub shown-only : (a b : Answered) (es cs es′ cs′ : List ℕ) (x : After) → shown a es cs ≡ x → shown b es′ cs′ ≡ x
-    → (a ≡ b) × (es ≡ es′) × (cs ≡ cs′)
-shown-only a b es cs es′ cs′ x p q =
-    let e = same-only _ _ x p q in
-    let o : a .outcome ≡ b .outcome =
-    sym (outcome-back (a .outcome)) ∙ ap (λ (w : After). outcomeAs (w .present) (w .refusal)) e ∙ outcome-back (b .outcome) in
-    let h : a .head ≡ b .head = ap (λ (w : After). w .head) e in
-    ((λ i. record { outcome = o i; head = h i }), ap (λ (w : After). w .epochs) e, ap (λ (w : After). w .counts) e)
+pub shown-only : (a b : Answered) (t u : Lent) (x : FlagsAfter) → shown a t ≡ x → shown b u ≡ x → (a ≡ b) × (t ≡ u)
+shown-only a b t u x p q =
+    let e = left-only presentIn outcomeAs outcome-back (a .outcome) (b .outcome) _ _ x p q in
+    ((λ i. record { outcome = e .0 i; head = e .1 i .head }), (λ i. lending (e .1 i .epochs) (e .1 i .counts)))

@@ -38,7 +38,8 @@ same-equal (x ∷ xs) (y ∷ ys) h =
     rw (eqb-true x y (p .0), same-equal xs ys (p .1))
 
 module _ (xs ys : List ℕ) (i : ℕ) where
-  pub same-on : i < length xs → i < length ys → same (drop i xs) (drop i ys) ≡ (eqb (getD xs i 0) (getD ys i 0) && same (drop (i + 1) xs) (drop (i + 1) ys))
+  pub same-on : i < length xs → i < length ys
+      → same (drop i xs) (drop i ys) ≡ (eqb (getD xs i 0) (getD ys i 0) && same (drop (i + 1) xs) (drop (i + 1) ys))
   unfolding same
   same-on p q = rw (drop-next xs i p, drop-next ys i q)
 

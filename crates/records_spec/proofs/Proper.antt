@@ -12,7 +12,7 @@ use lib.ListN.{length, take}
 use lib.Seq.{length-take-le}
 use borrow.Author.Tests.{le-leb, leb-true, ne-eqb, eqb-false}
 use Rattle.records_spec.specs.Tables.{recordsOf, epochsOf, countsOf, ascending, Table, Above}
-use Rattle.records_spec.specs.Flags.{Flags, flags, owned, ownerIf, idOf, ownerOf, kindOf, headOf, flagsOf, agrees, proper}
+use Rattle.records_spec.specs.Flags.{Flags, flags, owned, ownerIf, idOf, ownerOf, kindOf, headOf, flagsOf, agrees, proper, holding}
 use Rattle.records_spec.specs.declared.head.Head.{Head}
 use Rattle.records_spec.specs.declared.head.Kind.{Kind}
 use Rattle.records_spec.specs.declared.head.Kind.the-variants.{SingleEpoch, MultiEpoch, SingleEpochOwned, MultiEpochOwned}
@@ -25,7 +25,7 @@ pub record IsProper (h : Head) (es cs : List ℕ) : Type 0 where
   pub counts-long : h .records ≤ length cs
   pub ascends : ascending (h .base) (take (h .records) es) ≡ true
 
-pub proper-inv : (h : Head) (es cs : List ℕ) → proper h es cs ≡ true → IsProper h es cs
+pub proper-inv : (h : Head) (es cs : List ℕ) → proper (holding h es cs) ≡ true → IsProper h es cs
 unfolding proper
 proper-inv h es cs p =
     let n = h .records in
@@ -97,10 +97,12 @@ owner-head f = by (f .owner) (eqb (length (f .records)) 0) refl
 -- ---- flags whose records stand at the start of two tables
 
 module _ (f : Flags) (es cs : List ℕ) (epochs-first : take (length (f .records)) es ≡ epochsOf (f .records)) where
-  pub stand-proper : length (f .records) ≤ length es → length (f .records) ≤ length cs → ascending (f .base) (epochsOf (f .records)) ≡ true → proper (headOf f) es cs ≡ true
+  pub stand-proper : length (f .records) ≤ length es → length (f .records) ≤ length cs → ascending (f .base) (epochsOf (f .records)) ≡ true
+      → proper (holding (headOf f) es cs) ≡ true
   unfolding proper
   stand-proper le lc a = simp (agrees-told (f .owner) (length (f .records)), le-leb _ _ le, le-leb _ _ lc) (ap (ascending (f .base)) epochs-first ∙ a)
 
-  pub stand-flags : take (length (f .records)) cs ≡ countsOf (f .records) → flagsOf (headOf f) es cs ≡ f
+  pub stand-flags : take (length (f .records)) cs ≡ countsOf (f .records) → flagsOf (holding (headOf f) es cs) ≡ f
   stand-flags counts-first =
-      (λ i. flags (f .base) (owner-head f i) (recordsOf (epochs-first i) (counts-first i))) ∙ ap (flags (f .base) (f .owner)) (records-back (f .records))
+      (λ i. flags (f .base) (owner-head f i) (recordsOf (epochs-first i) (counts-first i)))
+      ∙ ap (flags (f .base) (f .owner)) (records-back (f .records))

@@ -11,7 +11,7 @@ use lib.ListN.{length, take, drop, getD, length-drop, drop-of-length-le}
 use lib.Seq.{length-take-le, take-all, take-length, drop-length, drop-at, drop-drop, take-add}
 use borrow.Author.Tests.{lt-ltb, le-ltb}
 use Rattle.records_spec.specs.Tables.{At, recordsOf, epochsOf, rising, placeOf, union, Table}
-use Rattle.records_spec.specs.Runs.{run, lead}
+use Rattle.records_spec.specs.Runs.{stretch, lead}
 use Rattle.records_spec.proofs.Tables.{length-recordsOf, length-epochsOf}
 use Rattle.records_spec.proofs.Rising.{asc-cons, rising-drop, drop-next, place-within}
 use Rattle.records_spec.proofs.Unions.{union-none, next-ours, epochs-from, table-end, table-all}
@@ -72,7 +72,7 @@ module _ {oe oc te tc : List ℕ} (ours : Table oe oc) (theirs : Table te tc) wh
   -- the lead of ours, from places i and j on, goes up to the place n
   pub union-lead : (i j : ℕ) {n : ℕ} → i ≤ length oe → n ≡ i + lead (drop i oe) (drop j te)
       → union (drop i (recordsOf oe oc)) (drop j (recordsOf te tc))
-      ≡ run i n (recordsOf oe oc) ++ union (drop n (recordsOf oe oc)) (drop j (recordsOf te tc))
+      ≡ stretch i n (recordsOf oe oc) ++ union (drop n (recordsOf oe oc)) (drop j (recordsOf te tc))
   union-lead i j {n} p h =
       let m = lead (drop i oe) (drop j te) in
       let os = recordsOf oe oc in
@@ -81,11 +81,13 @@ module _ {oe oc te tc : List ℕ} (ours : Table oe oc) (theirs : Table te tc) wh
       (rw (epochs-from ours i, epochs-from theirs j) at (union-first (drop i os) (drop j (recordsOf te tc)) (theirs-rise j)))
 
   -- theirs are passed: what is left is a run of ours, and none behind it
-  pub left-ours : (a b : ℕ) → length te ≤ b → union (drop a (recordsOf oe oc)) (drop b (recordsOf te tc)) ≡ run a (length oe) (recordsOf oe oc) ++ []
+  pub left-ours : (a b : ℕ) → length te ≤ b → union (drop a (recordsOf oe oc)) (drop b (recordsOf te tc))
+      ≡ stretch a (length oe) (recordsOf oe oc) ++ []
   left-ours a b p =
       rw (table-end theirs b p, table-all ours (length oe) (omega arith), append-nil) (union-none (drop a (recordsOf oe oc)))
 
   -- ours are passed: a run of theirs
-  pub left-theirs : (a b : ℕ) → length oe ≤ a → union (drop a (recordsOf oe oc)) (drop b (recordsOf te tc)) ≡ run b (length te) (recordsOf te tc) ++ []
+  pub left-theirs : (a b : ℕ) → length oe ≤ a
+      → union (drop a (recordsOf oe oc)) (drop b (recordsOf te tc)) ≡ stretch b (length te) (recordsOf te tc) ++ []
   left-theirs a b p =
       rw (table-end ours a p, table-all theirs (length te) (omega arith), append-nil) (union-theirs (drop b (recordsOf te tc)) (theirs-rise b))

@@ -27,7 +27,8 @@ module _ {A : Type 0} where
   first-of-drop l i d = getD-drop i l 0 d ∙ rw (add-zero i)
 
   module _ {from upto to i k : ℕ} {old now : List A} (s : MovedDown from upto to i k old now) where
-    pub down-step : {k′ : ℕ} (d : A) → upto ≤ length old → k ≤ i → i < upto → k′ ≡ k + 1 → MovedDown from upto to (i + 1) k′ old (set now k (getD now i d))
+    pub down-step : {k′ : ℕ} (d : A) → upto ≤ length old → k ≤ i → i < upto → k′ ≡ k + 1
+        → MovedDown from upto to (i + 1) k′ old (set now k (getD now i d))
     down-step d l z p e =
         let next : k + 1 ≡ suc k = add-one k in
         let v : getD now i d ≡ getD old i d = sym (first-of-drop now i d) ∙ rw (s .behind) (first-of-drop old i d) in
@@ -77,7 +78,8 @@ module _ {A : Type 0} where
   -- a place before all that is set
   set-first : (l : List A) (i j : ℕ) (vs : List A) (x : A) → j < i → set (sets l i vs) j x ≡ sets (set l j x) i vs
   set-first l i j [] x h = refl
-  set-first l i j (v ∷ vs) x h = set-first (set l i v) (suc i) j vs x (omega arith) ∙ ap (λ (m : List A). sets m (suc i) vs) (set-comm l i j v x (λ e. omega arith))
+  set-first l i j (v ∷ vs) x h = set-first (set l i v) (suc i) j vs x (omega arith)
+      ∙ ap (λ (m : List A). sets m (suc i) vs) (set-comm l i j v x (λ e. omega arith))
 
   get-first : (l : List A) (i j : ℕ) (vs : List A) (d : A) → j < i → getD (sets l i vs) j d ≡ getD l j d
   get-first l i j [] d h = refl
@@ -96,7 +98,8 @@ module _ {A : Type 0} where
         let x = getD old (i - 1) d in
         let rest = drop i (take upto old) in
         let run : drop (i - 1) (take upto old) ≡ x ∷ rest =
-        drop-cons (take upto old) (i - 1) d b ∙ ap (λ (y : A). y ∷ drop (suc (i - 1)) (take upto old)) (getD-take upto old (i - 1) d (omega arith)) ∙ ap (λ (j : ℕ). x ∷ drop j (take upto old)) f in
+        drop-cons (take upto old) (i - 1) d b ∙ ap (λ (y : A). y ∷ drop (suc (i - 1)) (take upto old)) (getD-take upto old (i - 1) d (omega arith))
+        ∙ ap (λ (j : ℕ). x ∷ drop j (take upto old)) f in
         record {
           set-so-far =
               ap (set now (k - 1)) v

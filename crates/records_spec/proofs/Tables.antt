@@ -11,7 +11,7 @@ use lib.Seq.{length-take-le, take-at, drop-cons, getD-take, take-add, sets, sets
 use Rattle.fields_spec.specs.Writing.{Put}
 use Rattle.fields_spec.proofs.Parts.{Parts, parts-start, parts-byte, parts-put, parts-then, parts-done, put-long}
 use Rattle.records_spec.specs.Tables.{At, _⦂_, recordsOf, epochsOf, countsOf, over, Placed}
-use Rattle.records_spec.specs.Runs.{Room}
+use Rattle.records_spec.specs.Runs.{RoomFrom}
 
 -- ---- records, and their epochs and counts
 
@@ -22,7 +22,8 @@ length-recordsOf (e ∷ es) [] h = absurd (omega arith)
 length-recordsOf (e ∷ es) (c ∷ cs) h = ap suc (length-recordsOf es cs (omega arith))
 
 -- a column has what each element gives
-module _ {A B : Type 0} (column : List A → List B) (give : A → B) (none : column [] ≡ []) (each : (x : A) (xs : List A) → column (x ∷ xs) ≡ give x ∷ column xs) where
+module _ {A B : Type 0} (column : List A → List B) (give : A → B) (none : column [] ≡ [])
+    (each : (x : A) (xs : List A) → column (x ∷ xs) ≡ give x ∷ column xs) where
   pub length-column : (xs : List A) → length (column xs) ≡ length xs
   length-column [] = ap (length {A = B}) none
   length-column (x ∷ xs) = ap (length {A = B}) (each x xs) ∙ ap suc (length-column xs)
@@ -189,7 +190,8 @@ module _ {rs : List At} {at next : ℕ} {es cs es′ cs′ : List ℕ} (p : Plac
 
 module _ {all left : List At} {at k : ℕ} {es₀ cs₀ es cs : List ℕ} (f : Filling all left at k es₀ cs₀ es cs) where
   -- a run more is written
-  pub filling-run : {rs rest : List At} {n : ℕ} {es′ cs′ : List ℕ} → left ≡ rs ++ rest → Placed rs k n es cs es′ cs′ → Filling all rest at n es₀ cs₀ es′ cs′
+  pub filling-run : {rs rest : List At} {n : ℕ} {es′ cs′ : List ℕ} → left ≡ rs ++ rest → Placed rs k n es cs es′ cs′
+      → Filling all rest at n es₀ cs₀ es′ cs′
   filling-run {rs} {rest} h p =
       record {
         epochs = parts-put (f .epochs) (ap epochsOf h ∙ epochs-append rs rest) (epochs-put p);
@@ -201,7 +203,7 @@ module _ {all left : List At} {at k : ℕ} {es₀ cs₀ es cs : List ℕ} (f : F
   filling-then g = record { epochs = parts-then (f .epochs) (g .epochs); counts = parts-then (f .counts) (g .counts) }
 
   -- a run that is left has room where all have
-  pub filling-fits : (rs rest : List At) → left ≡ rs ++ rest → Room all at es₀ cs₀ → Room rs k es cs
+  pub filling-fits : (rs rest : List At) → left ≡ rs ++ rest → RoomFrom all at es₀ cs₀ → RoomFrom rs k es cs
   filling-fits rs rest h r =
       let l : length left ≡ length rs + length rest = ap (length {A = At}) h ∙ length-append rs rest in
       record {

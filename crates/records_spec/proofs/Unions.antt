@@ -12,10 +12,11 @@ use lib.Seq.{take-all}
 use borrow.Author.Tests.{ltb-true, ltb-false, lt-ltb, le-ltb, eqb-true, eqb-false, eq-eqb, ne-eqb}
 use Rattle.fields_spec.specs.Selects.{Selected}
 use Rattle.records_spec.specs.Tables.{At, _⦂_, recordsOf, epochsOf, ascending, put, union, Table, Above}
-use Rattle.records_spec.specs.Unions.{Within, Stepped}
+use Rattle.records_spec.specs.Unions.{InBoth, Stepped}
 use Rattle.records_spec.specs.declared.table.Next.{Next}
 use Rattle.records_spec.proofs.Tables.{length-recordsOf, epochs-records, drop-records, records-on}
-use Rattle.records_spec.proofs.Rising.{Side, side, lower, equal, higher, asc-none, asc-head, asc-tail, asc-cons, asc-lower, asc-rises, asc-behind, asc-from}
+use Rattle.records_spec.proofs.Rising.{Side, side, lower, equal, higher, asc-none, asc-head, asc-tail, asc-cons, asc-lower, asc-rises}
+use Rattle.records_spec.proofs.Rising.{asc-behind, asc-from}
 
 -- the records' epochs ascend strictly and are above b
 abbrev above : ℕ → List At → Type 0
@@ -123,7 +124,7 @@ above-table {e} {es} {cs} a = record { even = a .even; rises = asc-rises e es (a
 -- ---- one step
 
 module _ {oe oc te tc : List ℕ} {i j : ℕ} (ours : Table oe oc) (theirs : Table te tc)
-    (w : Within (recordsOf oe oc) (recordsOf te tc) i j) where
+    (w : InBoth (recordsOf oe oc) (recordsOf te tc) i j) where
   -- where theirs is at its end, ours is not
   pub some-ours : length te ≤ j → i < length oe
   some-ours p = omega (arith, w .some-left, length-recordsOf oe oc (ours .even), length-recordsOf te tc (theirs .even))
@@ -156,7 +157,8 @@ module _ {oe oc te tc : List ℕ} {i j : ℕ} (ours : Table oe oc) (theirs : Tab
         → Stepped (recordsOf oe oc) (recordsOf te tc) i j (record { epoch = getD te j 0; count = getD tc j 0; i = i + 1; j = j + 1 })
     step-both p h =
         record {
-          step = rw (record-on ours i p, record-on theirs j q) (next-both (getD oe i 0 ⦂ getD oc i 0) (getD te j 0 ⦂ getD tc j 0) _ _ h theirs-behind);
+          step = rw (record-on ours i p, record-on theirs j q)
+              (next-both (getD oe i 0 ⦂ getD oc i 0) (getD te j 0 ⦂ getD tc j 0) _ _ h theirs-behind);
           ours-next = omega (arith, length-recordsOf oe oc (ours .even));
           theirs-next = omega (arith, length-recordsOf te tc (theirs .even));
           falls = omega arith;
@@ -165,7 +167,8 @@ module _ {oe oc te tc : List ℕ} {i j : ℕ} (ours : Table oe oc) (theirs : Tab
     -- both have a record: the selects give the next
     pub step-selected : {e n a b : ℕ} → i < length oe → Selected (getD oe i 0) (getD te j 0) (getD oe i 0) (getD te j 0) e
         → Selected (getD oe i 0) (getD te j 0) (getD oc i 0) (getD tc j 0) n → Selected (getD te j 0) (getD oe i 0) i (i + 1) a
-        → Selected (getD oe i 0) (getD te j 0) j (j + 1) b → Stepped (recordsOf oe oc) (recordsOf te tc) i j (record { epoch = e; count = n; i = a; j = b })
+        → Selected (getD oe i 0) (getD te j 0) j (j + 1) b
+        → Stepped (recordsOf oe oc) (recordsOf te tc) i j (record { epoch = e; count = n; i = a; j = b })
     step-selected {e} {n} {a} {b} p se sn sa sb = by (side (getD oe i 0) (getD te j 0))
       where
         by : Side (getD oe i 0) (getD te j 0) → Stepped (recordsOf oe oc) (recordsOf te tc) i j (record { epoch = e; count = n; i = a; j = b })
@@ -193,7 +196,7 @@ walking-start {oe} {oc} {te} {tc} ours theirs p =
     record { stop = omega arith; ours-left = omega arith; theirs-left = omega arith }
 
 module _ {os ts : List At} {end a b : ℕ} (w : Walking os ts end a b) where
-  pub walking-within : a + b < end → Within os ts a b
+  pub walking-within : a + b < end → InBoth os ts a b
   walking-within p =
       record { ours-left = w .ours-left; theirs-left = w .theirs-left; some-left = omega (arith, w .stop) }
 

@@ -1,15 +1,16 @@
--- What calls answer and leave behind: document 01, "Refusal numbers". A refusal is its number alone, and nothing lent has changed;
--- an answer stands at the start of what was lent.
+-- What calls leave that answer flags, or a number: an answer stands at the start of what was lent, and the places behind it are untouched.
 -- Assumes nothing.
 use Prim.Native.Nat.{ℕ}
-use mathlib.Core.Bool.{Bool, true, false, cond, _&&_}
+use mathlib.Core.Bool.{Bool, true, false, _&&_}
 use mathlib.Core.Option.{Option, none, some}
 use mathlib.Core.List.{List}
 use lib.Dec.{leb}
 use lib.ListN.{length}
+use Rattle.fields_spec.specs.Lending.{Slice, was, left}
 use Rattle.records_spec.specs.Refusals.{number}
-use Rattle.records_spec.specs.Tables.{epochsOf, countsOf, over}
-use Rattle.records_spec.specs.Flags.{Flags, headOf, noHead}
+use Rattle.records_spec.specs.Outcomes.{Answer, ok, refused, _>>=_, After, after, leaving, placed}
+use Rattle.records_spec.specs.Tables.{At, recordsOf, epochsOf, countsOf, over}
+use Rattle.records_spec.specs.Flags.{Flags, headOf, Lent, lending, Held, holding, blank}
 use Rattle.records_spec.specs.declared.head.Head.{Head}
 use Rattle.records_spec.specs.declared.answer.Outcome.{Outcome}
 use Rattle.records_spec.specs.declared.answer.Outcome.the-variants.{Absent, Present, Refused}
@@ -17,60 +18,50 @@ use Rattle.records_spec.specs.declared.answer.Answered.{Answered}
 use Rattle.records_spec.specs.declared.answer.Counted.{Counted}
 use Rattle.records_spec.specs.declared.answer.Counted.the-variants.{Count, Refused as NotCounted}
 
--- what a call gives back: its answer, or the number of a refusal
-pub data Answer (A : Type 0) : Type 0 where
-  ok : A → Answer A
-  refused : ℕ → Answer A
-
 -- ---- calls that answer flags
 
--- all that such a call leaves: a refusal's number or 0, whether there are flags, their head, and the lent tables
-pub record After : Type 0 where
-  pub refusal : ℕ
-  pub present : Bool
-  pub head : Head
-  pub epochs : List ℕ
-  pub counts : List ℕ
+-- all that such a call leaves: whether there are flags, or a refusal; their head, which is all zeros where there are none; and the lent tables
+abbrev pub FlagsAfter : Type 0
+FlagsAfter = After (Answer Bool) Held
 
--- a refusal's number, or 0
-abbrev pub refusalOf : Outcome → ℕ
-refusalOf Absent = 0
-refusalOf Present = 0
-refusalOf (Refused r) = number r
-
--- whether there are flags
-abbrev pub presentIn : Outcome → Bool
-presentIn Absent = false
-presentIn Present = true
-presentIn (Refused r) = false
+-- whether there are flags, or a refusal, as the code told it
+abbrev pub presentIn : Outcome → Answer Bool
+presentIn Absent = ok false
+presentIn Present = ok true
+presentIn (Refused r) = refused (number r)
 
 -- what the code answered and left
-abbrev pub shown : Answered → List ℕ → List ℕ → After
-shown a es cs = record { refusal = refusalOf (a .outcome); present = presentIn (a .outcome); head = a .head; epochs = es; counts = cs }
-
--- no flags: a refusal's number or 0, and nothing lent has changed
-abbrev pub kept : ℕ → List ℕ → List ℕ → After
-kept n es cs = record { refusal = n; present = false; head = noHead; epochs = es; counts = cs }
-
--- flags at the start of the lent tables
-abbrev pub placed : Flags → List ℕ → List ℕ → After
-placed f es cs = record { refusal = 0; present = true; head = headOf f; epochs = over (epochsOf (f .records)) es; counts = over (countsOf (f .records)) cs }
+abbrev pub shown : Answered → Lent → FlagsAfter
+shown a t = after (presentIn (a .outcome)) (holding (a .head) (t .epochs) (t .counts))
 
 -- whether n records have room in tables of these lengths
 abbrev pub roomFor : ℕ → ℕ → ℕ → Bool
 roomFor n epochs-long counts-long = leb n epochs-long && leb n counts-long
 
--- no flags; flags, or 10 where a table lacks room for them; or a refusal
-unfoldable pub after : Answer (Option Flags) → List ℕ → List ℕ → After
-after (refused n) es cs = kept n es cs
-after (ok none) es cs = kept 0 es cs
-after (ok (some f)) es cs =
-    cond (roomFor (length (f .records)) (length es) (length cs)) (placed f es cs) (kept 10 es cs)
+-- flags, with their records at the start of two tables
+abbrev pub inTables : Flags → Lent → Held
+inTables f t = holding (headOf f) (over (epochsOf (f .records)) (t .epochs)) (over (countsOf (f .records)) (t .counts))
 
--- the same where the answer is flags or a refusal
-abbrev pub placing : Answer Flags → List ℕ → List ℕ → After
-placing (refused n) es cs = after (refused n) es cs
-placing (ok f) es cs = after (ok (some f)) es cs
+-- flags in two lent tables, where these have room
+abbrev pub placedFlags : Flags → Lent → Answer (Bool × Held)
+placedFlags f t = placed (roomFor (length (f .records)) (length (t .epochs)) (length (t .counts))) true (inTables f t)
+
+-- the same, or no flags, which leave the tables as they came
+abbrev pub placedIf : Option Flags → Lent → Answer (Bool × Held)
+placedIf none t = ok (false, blank t)
+placedIf (some f) t = placedFlags f t
+
+-- what is left of two tables where the answer is flags or a refusal
+unfoldable pub placing : Answer Flags → Lent → FlagsAfter
+placing x t = leaving (blank t) do
+  f ← x
+  placedFlags f t
+
+-- the same where there may be no flags
+unfoldable pub placingIf : Answer (Option Flags) → Lent → FlagsAfter
+placingIf x t = leaving (blank t) do
+  f ← x
+  placedIf f t
 
 -- ---- calls that answer a number
 
@@ -80,15 +71,31 @@ counted (Count n) = ok n
 counted (NotCounted r) = refused (number r)
 
 -- all that a writer of bytes leaves: their number or a refusal, and the lent output
-pub record Written : Type 0 where
-  pub answer : Answer ℕ
-  pub out : List ℕ
+abbrev pub BytesAfter : Type 0
+BytesAfter = After (Answer ℕ) (List ℕ)
 
--- what the code answered and left
-abbrev pub wrote : Counted → List ℕ → Written
-wrote c out = record { answer = counted c; out = out }
+-- bytes at the start of the lent output, where they have room
+abbrev pub placedBytes : List ℕ → List ℕ → Answer (ℕ × List ℕ)
+placedBytes xs out = placed (leb (length xs) (length out)) (length xs) (over xs out)
 
--- bytes at the start of the lent output, or 10 where they have no room
-unfoldable pub writing : List ℕ → List ℕ → Written
-writing xs out =
-    cond (leb (length xs) (length out)) (record { answer = ok (length xs); out = over xs out }) (record { answer = refused 10; out = out })
+-- what is left of the lent output
+unfoldable pub writing : List ℕ → List ℕ → BytesAfter
+writing xs out = leaving out (placedBytes xs out)
+
+-- ---- as contracts name them
+
+-- flags that a call is given: a head beside two slices
+abbrev pub flagsWere : Head → Slice ℕ → Slice ℕ → Held
+flagsWere h es cs = holding h (was es) (was cs)
+
+-- the records that two slices held
+abbrev pub recordsWere : Slice ℕ → Slice ℕ → List At
+recordsWere es cs = recordsOf (was es) (was cs)
+
+-- two lent tables as they came
+abbrev pub tablesWere : Slice ℕ → Slice ℕ → Lent
+tablesWere es cs = lending (was es) (was cs)
+
+-- and as they are left
+abbrev pub tablesLeft : Slice ℕ → Slice ℕ → Lent
+tablesLeft es cs = lending (left es) (left cs)

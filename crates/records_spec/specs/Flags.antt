@@ -108,20 +108,46 @@ headOf f = headFor (f .base) (f .owner) (length (f .records))
 abbrev pub noHead : Head
 noHead = headFor 0 none 0
 
--- the flags that a head and its tables stand for
-abbrev pub flagsOf : Head → List ℕ → List ℕ → Flags
-flagsOf h es cs = flags (h .base) (ownerOf h) (recordsOf (take (h .records) es) (take (h .records) cs))
-
 -- owned flags change their owner; others stay
 abbrev pub withOwner : Head → List ℕ → Head
 withOwner h o = cond (owned (h .kind)) (record { kind = h .kind; base = h .base; owner = o; records = h .records }) h
+
+-- ---- a head with its tables
+
+-- two tables that are lent for records
+pub record Lent : Type 0 where
+  pub epochs : List ℕ
+  pub counts : List ℕ
+
+-- of these two
+abbrev pub lending : List ℕ → List ℕ → Lent
+lending es cs = record { epochs = es; counts = cs }
+
+-- flags as a call is given them, and leaves them: a head, and the two tables beside it
+pub record Held : Type 0 where
+  pub head : Head
+  pub epochs : List ℕ
+  pub counts : List ℕ
+
+-- of these three
+abbrev pub holding : Head → List ℕ → List ℕ → Held
+holding h es cs = record { head = h; epochs = es; counts = cs }
+
+-- two tables beside no flags
+abbrev pub blank : Lent → Held
+blank t = holding noHead (t .epochs) (t .counts)
+
+-- the flags that a head and its tables stand for
+abbrev pub flagsOf : Held → Flags
+flagsOf f =
+    flags (f .head .base) (ownerOf (f .head)) (recordsOf (take (f .head .records) (f .epochs)) (take (f .head .records) (f .counts)))
 
 -- kinds 1 and 3 have at least one record, kinds 0 and 2 none
 abbrev pub agrees : Kind → ℕ → Bool
 agrees k n = cond (multi k) (leb 1 n) (eqb n 0)
 
 -- proper flags: the kind agrees with having records, both tables hold them, epochs strictly ascending and all above the base
-unfoldable pub proper : Head → List ℕ → List ℕ → Bool
-proper h es cs =
-    agrees (h .kind) (h .records)
-    && (leb (h .records) (length es) && (leb (h .records) (length cs) && ascending (h .base) (take (h .records) es)))
+unfoldable pub proper : Held → Bool
+proper f =
+    let n = f .head .records in
+    agrees (f .head .kind) n && (leb n (length (f .epochs)) && (leb n (length (f .counts)) && ascending (f .head .base) (take n (f .epochs))))

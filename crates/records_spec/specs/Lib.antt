@@ -1,4 +1,5 @@
 pub mod Refusals
+pub mod Outcomes
 pub mod Tables
 pub mod Unions
 pub mod Runs

@@ -6,8 +6,8 @@ use lib.ListN.{length, take, drop}
 use Rattle.records_spec.specs.Tables.{At, placeOf}
 
 -- the records from the place i up to the place end
-abbrev pub run : ℕ → ℕ → List At → List At
-run i end rs = drop i (take end rs)
+abbrev pub stretch : ℕ → ℕ → List At → List At
+stretch i end rs = drop i (take end rs)
 
 -- how many of our epochs are below the first of theirs; all, where theirs are none
 unfoldable pub lead : List ℕ → List ℕ → ℕ
@@ -15,6 +15,6 @@ lead ours [] = length ours
 lead ours (t ∷ theirs) = placeOf t ours
 
 -- two tables have room for records from the place at on
-pub record Room (rs : List At) (at : ℕ) (es cs : List ℕ) : Type 0 where
+pub record RoomFrom (rs : List At) (at : ℕ) (es cs : List ℕ) : Type 0 where
   pub in-epochs : at + length rs ≤ length es
   pub in-counts : at + length rs ≤ length cs

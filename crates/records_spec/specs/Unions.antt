@@ -22,7 +22,7 @@ abbrev pub spotOf : ℕ → List ℕ → List ℕ → Spot
 spotOf e es cs = record { below = placeOf e es; upto = placeOf (suc e) es; count = held e (recordsOf es cs) }
 
 -- at places i and j of ours and theirs, which are not both at their ends
-pub record Within (ours theirs : List At) (i j : ℕ) : Type 0 where
+pub record InBoth (ours theirs : List At) (i j : ℕ) : Type 0 where
   pub ours-left : i ≤ length ours
   pub theirs-left : j ≤ length theirs
   pub some-left : i + j < length ours + length theirs

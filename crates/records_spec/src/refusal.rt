@@ -1,6 +1,6 @@
 // Why a call is refused.
 
-// Document 01's refusals, in the order of their numbers.
+// The refusals of documents 01 and 02, in the order of their numbers.
 pub enum Refusal {
     UnknownType,
     WrongSize,
@@ -13,4 +13,6 @@ pub enum Refusal {
     TotalTooLarge,
     NoRoom,
     BadTable,
+    // 12 and 13 are not given yet.
+    IndexMismatch,
 }

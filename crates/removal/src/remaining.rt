@@ -1,11 +1,12 @@
 // Putting what remains of a union after the sections into the lent tables, where they have room.
 ghost use mathlib.Core.Path.{_≡_};
-ghost use mathlib.Core.Option.{some};
 ghost use Prim.Native.Nat.{_≤_};
 ghost use lib.ListN.{length};
+ghost use Rattle.fields_spec.specs.Lending.{was, left};
 ghost use Rattle.records_spec.specs.Tables.{recordsOf, union, Table, Placed};
 ghost use Rattle.records_spec.specs.Flags.{flags, ownerIf};
-ghost use Rattle.records_spec.specs.Answers.{ok, shown, roomFor, after};
+ghost use Rattle.records_spec.specs.Answers.{shown, roomFor, placing, tablesWere, tablesLeft, recordsWere};
+ghost use Rattle.records_spec.specs.Outcomes.{refused, ok};
 ghost use Rattle.removal_spec.specs.Removing.{minus};
 use crate::sections::remove_from;
 use records_spec::Answered;
@@ -25,7 +26,11 @@ fn remaining_len(
     requires { ⌜ Table (now «our_epochs») (now «our_counts») ⌝ }
     requires { ⌜ Table (now «their_epochs») (now «their_counts») ⌝ }
     requires { ⌜ Table (now «removed_epochs») (now «removed_bytes») ⌝ }
-    ensures { λ r. ⌜ r ≡ length (minus (union (recordsOf (now («our_epochs» .entry)) (now («our_counts» .entry))) (recordsOf (now («their_epochs» .entry)) (now («their_counts» .entry)))) (recordsOf (now («removed_epochs» .entry)) (now («removed_bytes» .entry)))) ⌝ }
+    ensures { λ r.
+        let our-records = recordsWere «our_epochs» «our_counts» in
+        let their-records = recordsWere «their_epochs» «their_counts» in
+        let sections-removed = recordsWere «removed_epochs» «removed_bytes» in
+        ⌜ r ≡ length (minus (union our-records their-records) sections-removed) ⌝ }
 {
     let end = our_epochs.len() + their_epochs.len();
     let mut a: usize = 0;
@@ -57,7 +62,11 @@ fn remaining_fits(
     requires { ⌜ Table (now «our_epochs») (now «our_counts») ⌝ }
     requires { ⌜ Table (now «their_epochs») (now «their_counts») ⌝ }
     requires { ⌜ Table (now «removed_epochs») (now «removed_bytes») ⌝ }
-    ensures { λ r. ⌜ r ≡ roomFor (length (minus (union (recordsOf (now («our_epochs» .entry)) (now («our_counts» .entry))) (recordsOf (now («their_epochs» .entry)) (now («their_counts» .entry)))) (recordsOf (now («removed_epochs» .entry)) (now («removed_bytes» .entry))))) «epochs_len» «counts_len» ⌝ }
+    ensures { λ r.
+        let our-records = recordsWere «our_epochs» «our_counts» in
+        let their-records = recordsWere «their_epochs» «their_counts» in
+        let sections-removed = recordsWere «removed_epochs» «removed_bytes» in
+        ⌜ r ≡ roomFor (length (minus (union our-records their-records) sections-removed)) «epochs_len» «counts_len» ⌝ }
 {
     let most = our_epochs.len() + their_epochs.len();
     if records::fit(most, epochs_len, counts_len) {
@@ -88,9 +97,19 @@ fn remaining_into(
     requires { ⌜ Table (now «our_epochs») (now «our_counts») ⌝ }
     requires { ⌜ Table (now «their_epochs») (now «their_counts») ⌝ }
     requires { ⌜ Table (now «removed_epochs») (now «removed_bytes») ⌝ }
-    requires { ⌜ length (minus (union (recordsOf (now «our_epochs») (now «our_counts»)) (recordsOf (now «their_epochs») (now «their_counts»))) (recordsOf (now «removed_epochs») (now «removed_bytes»))) ≤ length (now epochs) ⌝ }
-    requires { ⌜ length (minus (union (recordsOf (now «our_epochs») (now «our_counts»)) (recordsOf (now «their_epochs») (now «their_counts»))) (recordsOf (now «removed_epochs») (now «removed_bytes»))) ≤ length (now counts) ⌝ }
-    ensures { λ r. ⌜ Placed (minus (union (recordsOf (now («our_epochs» .entry)) (now («our_counts» .entry))) (recordsOf (now («their_epochs» .entry)) (now («their_counts» .entry)))) (recordsOf (now («removed_epochs» .entry)) (now («removed_bytes» .entry)))) 0 r (now (epochs .entry)) (now (counts .entry)) (now (epochs .exit)) (now (counts .exit)) ⌝ }
+    requires { let our-records = recordsOf (now «our_epochs») (now «our_counts») in
+        let their-records = recordsOf (now «their_epochs») (now «their_counts») in
+        let sections-removed = recordsOf (now «removed_epochs») (now «removed_bytes») in
+        ⌜ length (minus (union our-records their-records) sections-removed) ≤ length (now epochs) ⌝ }
+    requires { let our-records = recordsOf (now «our_epochs») (now «our_counts») in
+        let their-records = recordsOf (now «their_epochs») (now «their_counts») in
+        let sections-removed = recordsOf (now «removed_epochs») (now «removed_bytes») in
+        ⌜ length (minus (union our-records their-records) sections-removed) ≤ length (now counts) ⌝ }
+    ensures { λ r.
+        let our-records = recordsWere «our_epochs» «our_counts» in
+        let their-records = recordsWere «their_epochs» «their_counts» in
+        let sections-removed = recordsWere «removed_epochs» «removed_bytes» in
+        ⌜ Placed (minus (union our-records their-records) sections-removed) 0 r (was epochs) (was counts) (left epochs) (left counts) ⌝ }
 {
     let end = our_epochs.len() + their_epochs.len();
     let mut a: usize = 0;
@@ -126,7 +145,13 @@ pub fn place_remaining(
     requires { ⌜ Table (now «our_epochs») (now «our_counts») ⌝ }
     requires { ⌜ Table (now «their_epochs») (now «their_counts») ⌝ }
     requires { ⌜ Table (now «removed_epochs») (now «removed_bytes») ⌝ }
-    ensures { λ r. ⌜ shown r (now (epochs .exit)) (now (counts .exit)) ≡ after (ok (some (flags base (ownerIf (owner .owned) (owner .id)) (minus (union (recordsOf (now («our_epochs» .entry)) (now («our_counts» .entry))) (recordsOf (now («their_epochs» .entry)) (now («their_counts» .entry)))) (recordsOf (now («removed_epochs» .entry)) (now («removed_bytes» .entry))))))) (now (epochs .entry)) (now (counts .entry)) ⌝ }
+    ensures { λ r.
+        let our-records = recordsWere «our_epochs» «our_counts» in
+        let their-records = recordsWere «their_epochs» «their_counts» in
+        let sections-removed = recordsWere «removed_epochs» «removed_bytes» in
+        let tables-lent = tablesWere epochs counts in
+        ⌜ shown r (tablesLeft epochs counts)
+        ≡ placing (ok (flags base (ownerIf (owner .owned) (owner .id)) (minus (union our-records their-records) sections-removed))) tables-lent ⌝ }
 {
     if remaining_fits(
         our_epochs,

@@ -1,11 +1,12 @@
 // The removing merge, with the Rust's names where it has them.
 ghost use mathlib.Core.Path.{_≡_};
 ghost use mathlib.Core.Bool.{true};
-ghost use Rattle.records_spec.specs.Tables.{recordsOf, union, Table};
-ghost use Rattle.records_spec.specs.Flags.{flags, ownerIf, flagsOf, proper};
-ghost use Rattle.records_spec.specs.Answers.{shown, placing};
-ghost use Rattle.rows_spec.specs.Rows.{tables, rowsIn, Proper};
-ghost use Rattle.rows_spec.specs.Removals.{sectioned, removalOf, proper as properRemoval};
+ghost use Rattle.records_spec.specs.Tables.{union, Table};
+ghost use Rattle.records_spec.specs.Flags.{flags, ownerIf, flagsOf, proper, holding};
+ghost use Rattle.records_spec.specs.Answers.{shown, placing, flagsWere, tablesWere, tablesLeft, recordsWere};
+ghost use Rattle.rows_spec.specs.Rows.{tables, rowsIn, Proper, rowsWere};
+ghost use Rattle.rows_spec.specs.Removals.{sectioned, removalIn, holdingRows, properIn};
+ghost use Rattle.records_spec.specs.Outcomes.{refused};
 ghost use Rattle.removal_spec.specs.Removing.{lessSections, taken, removedAbove, removedBeside, removed as merged};
 ghost use Rattle.removal_spec.specs.Calls.{combinedRemoved, optionalCombinedRemoved};
 use crate::remaining::place_remaining;
@@ -37,7 +38,13 @@ fn remove_sections(
     requires { ⌜ Table (now «our_epochs») (now «our_counts») ⌝ }
     requires { ⌜ Table (now «their_epochs») (now «their_counts») ⌝ }
     requires { ⌜ Table (now «removed_epochs») (now «removed_bytes») ⌝ }
-    ensures { λ r. ⌜ shown r (now (epochs .exit)) (now (counts .exit)) ≡ placing (lessSections (recordsOf (now («removed_epochs» .entry)) (now («removed_bytes» .entry))) (flags base (ownerIf (owner .owned) (owner .id)) (union (recordsOf (now («our_epochs» .entry)) (now («our_counts» .entry))) (recordsOf (now («their_epochs» .entry)) (now («their_counts» .entry)))))) (now (epochs .entry)) (now (counts .entry)) ⌝ }
+    ensures { λ r.
+        let sections-removed = recordsWere «removed_epochs» «removed_bytes» in
+        let our-records = recordsWere «our_epochs» «our_counts» in
+        let their-records = recordsWere «their_epochs» «their_counts» in
+        let tables-lent = tablesWere epochs counts in
+        let joined-flags = flags base (ownerIf (owner .owned) (owner .id)) (union our-records their-records) in
+        ⌜ shown r (tablesLeft epochs counts) ≡ placing (lessSections sections-removed joined-flags) tables-lent ⌝ }
 {
     match judge(
         base,
@@ -83,7 +90,13 @@ fn remove_rows(
     requires { ⌜ Table (now «our_epochs») (now «our_counts») ⌝ }
     requires { ⌜ Table (now «their_epochs») (now «their_counts») ⌝ }
     requires { ⌜ Proper n (tables (now ids) (now «removed_epochs») (now «removed_bytes»)) ⌝ }
-    ensures { λ r. ⌜ shown r (now (epochs .exit)) (now (counts .exit)) ≡ placing (taken id (sectioned (rowsIn n (tables (now (ids .entry)) (now («removed_epochs» .entry)) (now («removed_bytes» .entry))))) (flags base (ownerIf (owner .owned) (owner .id)) (union (recordsOf (now («our_epochs» .entry)) (now («our_counts» .entry))) (recordsOf (now («their_epochs» .entry)) (now («their_counts» .entry)))))) (now (epochs .entry)) (now (counts .entry)) ⌝ }
+    ensures { λ r.
+        let removed-rows = rowsWere ids «removed_epochs» «removed_bytes» in
+        let our-records = recordsWere «our_epochs» «our_counts» in
+        let their-records = recordsWere «their_epochs» «their_counts» in
+        let tables-lent = tablesWere epochs counts in
+        let joined-flags = flags base (ownerIf (owner .owned) (owner .id)) (union our-records their-records) in
+        ⌜ shown r (tablesLeft epochs counts) ≡ placing (taken id (sectioned (rowsIn n removed-rows)) joined-flags) tables-lent ⌝ }
 {
     if only_under(id, n, ids, removed_epochs, removed_bytes) {
         return remove_sections(
@@ -120,8 +133,14 @@ fn remove_bytes(
 ) -> Answered
     requires { ⌜ Table (now «our_epochs») (now «our_counts») ⌝ }
     requires { ⌜ Table (now «their_epochs») (now «their_counts») ⌝ }
-    requires { ⌜ properRemoval removed (tables (now ids) (now «removed_epochs») (now «removed_bytes»)) ≡ true ⌝ }
-    ensures { λ r. ⌜ shown r (now (epochs .exit)) (now (counts .exit)) ≡ placing (taken id (removalOf removed (tables (now (ids .entry)) (now («removed_epochs» .entry)) (now («removed_bytes» .entry)))) (flags base (ownerIf (owner .owned) (owner .id)) (union (recordsOf (now («our_epochs» .entry)) (now («our_counts» .entry))) (recordsOf (now («their_epochs» .entry)) (now («their_counts» .entry)))))) (now (epochs .entry)) (now (counts .entry)) ⌝ }
+    requires { ⌜ properIn removed (tables (now ids) (now «removed_epochs») (now «removed_bytes»)) ≡ true ⌝ }
+    ensures { λ r.
+        let removed-rows = rowsWere ids «removed_epochs» «removed_bytes» in
+        let our-records = recordsWere «our_epochs» «our_counts» in
+        let their-records = recordsWere «their_epochs» «their_counts» in
+        let tables-lent = tablesWere epochs counts in
+        let joined-flags = flags base (ownerIf (owner .owned) (owner .id)) (union our-records their-records) in
+        ⌜ shown r (tablesLeft epochs counts) ≡ placing (taken id (removalIn removed removed-rows) joined-flags) tables-lent ⌝ }
 {
     match removed {
         Removed::None => flags::place_union(
@@ -174,9 +193,13 @@ fn combine_same_base_epoch(
     epochs: &mut [u16],
     counts: &mut [u32],
 ) -> Answered
-    requires { ⌜ proper ours (now «our_epochs») (now «our_counts») ≡ true ⌝ }
-    requires { ⌜ proper theirs (now «their_epochs») (now «their_counts») ≡ true ⌝ }
-    ensures { λ r. ⌜ shown r (now (epochs .exit)) (now (counts .exit)) ≡ placing (removedBeside strategy (flagsOf ours (now («our_epochs» .entry)) (now («our_counts» .entry))) (flagsOf theirs (now («their_epochs» .entry)) (now («their_counts» .entry)))) (now (epochs .entry)) (now (counts .entry)) ⌝ }
+    requires { ⌜ proper (holding ours (now «our_epochs») (now «our_counts»)) ≡ true ⌝ }
+    requires { ⌜ proper (holding theirs (now «their_epochs») (now «their_counts»)) ≡ true ⌝ }
+    ensures { λ r.
+        let our-flags = flagsWere ours «our_epochs» «our_counts» in
+        let their-flags = flagsWere theirs «their_epochs» «their_counts» in
+        let tables-lent = tablesWere epochs counts in
+        ⌜ shown r (tablesLeft epochs counts) ≡ placing (removedBeside strategy (flagsOf our-flags) (flagsOf their-flags)) tables-lent ⌝ }
 {
     let chosen = flags::combine_owners(ours, theirs, strategy);
     if chosen.refused {
@@ -214,10 +237,17 @@ fn combine_with_higher_base_epoch_remove_bytes(
     epochs: &mut [u16],
     counts: &mut [u32],
 ) -> Answered
-    requires { ⌜ proper ours (now «our_epochs») (now «our_counts») ≡ true ⌝ }
-    requires { ⌜ proper theirs (now «their_epochs») (now «their_counts») ≡ true ⌝ }
-    requires { ⌜ properRemoval removed (tables (now ids) (now «removed_epochs») (now «removed_bytes»)) ≡ true ⌝ }
-    ensures { λ r. ⌜ shown r (now (epochs .exit)) (now (counts .exit)) ≡ placing (removedAbove strategy (removalOf removed (tables (now (ids .entry)) (now («removed_epochs» .entry)) (now («removed_bytes» .entry)))) (flagsOf ours (now («our_epochs» .entry)) (now («our_counts» .entry))) (flagsOf theirs (now («their_epochs» .entry)) (now («their_counts» .entry))) (flagsOf ours (now («our_epochs» .entry)) (now («our_counts» .entry)) .records)) (now (epochs .entry)) (now (counts .entry)) ⌝ }
+    requires { ⌜ proper (holding ours (now «our_epochs») (now «our_counts»)) ≡ true ⌝ }
+    requires { ⌜ proper (holding theirs (now «their_epochs») (now «their_counts»)) ≡ true ⌝ }
+    requires { ⌜ properIn removed (tables (now ids) (now «removed_epochs») (now «removed_bytes»)) ≡ true ⌝ }
+    ensures { λ r.
+        let our-flags = flagsWere ours «our_epochs» «our_counts» in
+        let their-flags = flagsWere theirs «their_epochs» «their_counts» in
+        let removed-rows = rowsWere ids «removed_epochs» «removed_bytes» in
+        let tables-lent = tablesWere epochs counts in
+        ⌜ shown r (tablesLeft epochs counts)
+        ≡ placing (removedAbove strategy (removalIn removed removed-rows) (flagsOf our-flags) (flagsOf their-flags) (flagsOf our-flags .records))
+        tables-lent ⌝ }
 {
     let n = ours.records;
     if n == 0 {
@@ -264,10 +294,16 @@ fn combine_proper(
     epochs: &mut [u16],
     counts: &mut [u32],
 ) -> Answered
-    requires { ⌜ proper ours (now «our_epochs») (now «our_counts») ≡ true ⌝ }
-    requires { ⌜ proper theirs (now «their_epochs») (now «their_counts») ≡ true ⌝ }
-    requires { ⌜ properRemoval removed (tables (now ids) (now «removed_epochs») (now «removed_bytes»)) ≡ true ⌝ }
-    ensures { λ r. ⌜ shown r (now (epochs .exit)) (now (counts .exit)) ≡ placing (merged strategy (removalOf removed (tables (now (ids .entry)) (now («removed_epochs» .entry)) (now («removed_bytes» .entry)))) (flagsOf ours (now («our_epochs» .entry)) (now («our_counts» .entry))) (flagsOf theirs (now («their_epochs» .entry)) (now («their_counts» .entry)))) (now (epochs .entry)) (now (counts .entry)) ⌝ }
+    requires { ⌜ proper (holding ours (now «our_epochs») (now «our_counts»)) ≡ true ⌝ }
+    requires { ⌜ proper (holding theirs (now «their_epochs») (now «their_counts»)) ≡ true ⌝ }
+    requires { ⌜ properIn removed (tables (now ids) (now «removed_epochs») (now «removed_bytes»)) ≡ true ⌝ }
+    ensures { λ r.
+        let our-flags = flagsWere ours «our_epochs» «our_counts» in
+        let their-flags = flagsWere theirs «their_epochs» «their_counts» in
+        let removed-rows = rowsWere ids «removed_epochs» «removed_bytes» in
+        let tables-lent = tablesWere epochs counts in
+        ⌜ shown r (tablesLeft epochs counts)
+        ≡ placing (merged strategy (removalIn removed removed-rows) (flagsOf our-flags) (flagsOf their-flags)) tables-lent ⌝ }
 {
     let our_base = ours.base;
     let their_base = theirs.base;
@@ -320,7 +356,13 @@ pub fn combine_removed_bytes(
     epochs: &mut [u16],
     counts: &mut [u32],
 ) -> Answered
-    ensures { λ r. ⌜ shown r (now (epochs .exit)) (now (counts .exit)) ≡ combinedRemoved ours (now («our_epochs» .entry)) (now («our_counts» .entry)) theirs (now («their_epochs» .entry)) (now («their_counts» .entry)) (removal .removed) (tables (now (ids .entry)) (now («removed_epochs» .entry)) (now («removed_bytes» .entry))) strategy (now (epochs .entry)) (now (counts .entry)) ⌝ }
+    ensures { λ r.
+        let our-flags = flagsWere ours «our_epochs» «our_counts» in
+        let their-flags = flagsWere theirs «their_epochs» «their_counts» in
+        let removed-rows = rowsWere ids «removed_epochs» «removed_bytes» in
+        let tables-lent = tablesWere epochs counts in
+        let removed-removal = holdingRows (removal .removed) removed-rows in
+        ⌜ shown r (tablesLeft epochs counts) ≡ combinedRemoved our-flags their-flags removed-removal strategy tables-lent ⌝ }
 {
     let removed = removal.removed;
     if records::is_proper(ours, our_epochs, our_counts) {
@@ -367,7 +409,13 @@ pub fn optional_combine_removed_bytes(
     epochs: &mut [u16],
     counts: &mut [u32],
 ) -> Answered
-    ensures { λ r. ⌜ shown r (now (epochs .exit)) (now (counts .exit)) ≡ optionalCombinedRemoved present ours (now («our_epochs» .entry)) (now («our_counts» .entry)) theirs (now («their_epochs» .entry)) (now («their_counts» .entry)) (removal .removed) (tables (now (ids .entry)) (now («removed_epochs» .entry)) (now («removed_bytes» .entry))) strategy (now (epochs .entry)) (now (counts .entry)) ⌝ }
+    ensures { λ r.
+        let our-flags = flagsWere ours «our_epochs» «our_counts» in
+        let their-flags = flagsWere theirs «their_epochs» «their_counts» in
+        let removed-rows = rowsWere ids «removed_epochs» «removed_bytes» in
+        let tables-lent = tablesWere epochs counts in
+        let removed-removal = holdingRows (removal .removed) removed-rows in
+        ⌜ shown r (tablesLeft epochs counts) ≡ optionalCombinedRemoved present our-flags their-flags removed-removal strategy tables-lent ⌝ }
 {
     if present {
         return combine_removed_bytes(

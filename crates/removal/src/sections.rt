@@ -1,9 +1,10 @@
 // The sections of a removal beside the records: whose they are, which is at fault, and what stays of a record.
 ghost use mathlib.Core.Path.{_≡_};
-ghost use Rattle.records_spec.specs.Tables.{_⦂_, recordsOf, union, Table};
-ghost use Rattle.rows_spec.specs.Rows.{tables, rowsIn, Room};
-ghost use Rattle.removal_spec.specs.Removing.{onlyUnder, fault, lessened};
-ghost use Rattle.removal_spec.specs.Findings.{found, faulted, faultOf, rested};
+ghost use Rattle.records_spec.specs.Answers.{recordsWere};
+ghost use Rattle.records_spec.specs.Tables.{_⦂_, union, Table};
+ghost use Rattle.rows_spec.specs.Rows.{tables, rowsIn, Room, rowsWere};
+ghost use Rattle.removal_spec.specs.Removing.{onlyUnder, allFine, lessened, fine};
+ghost use Rattle.removal_spec.specs.Findings.{standingAt, faulted, rested};
 use records_spec::OwnerId;
 use records_spec::Refusal;
 use removal_spec::Fault;
@@ -14,7 +15,7 @@ use splitting::MINIMUM_NON_BASE_FLAGS_SIZE;
 // Whether the first n rows have one identifier, and it is this.
 pub fn only_under(id: OwnerId, n: usize, ids: &[[u8; 32]], epochs: &[u16], bytes: &[u32]) -> bool
     requires { ⌜ Room n (tables (now ids) (now epochs) (now bytes)) ⌝ }
-    ensures { λ r. ⌜ r ≡ onlyUnder id (rowsIn n (tables (now (ids .entry)) (now (epochs .entry)) (now (bytes .entry)))) ⌝ }
+    ensures { λ r. ⌜ r ≡ onlyUnder id (rowsIn n (rowsWere ids epochs bytes)) ⌝ }
 {
     if n == 0 {
         return false;
@@ -33,7 +34,7 @@ pub fn only_under(id: OwnerId, n: usize, ids: &[[u8; 32]], epochs: &[u16], bytes
 // What stands at an epoch.
 pub fn find_at(epochs: &[u16], counts: &[u32], epoch: u16) -> Found
     requires { ⌜ Table (now epochs) (now counts) ⌝ }
-    ensures { λ r. ⌜ r ≡ found epoch (recordsOf (now (epochs .entry)) (now (counts .entry))) ⌝ }
+    ensures { λ r. ⌜ r ≡ standingAt epoch (recordsWere epochs counts) ⌝ }
 {
     let spot = records::look_up(epochs, counts, epoch);
     Found {
@@ -52,7 +53,7 @@ fn find_in_union(
 ) -> Found
     requires { ⌜ Table (now «our_epochs») (now «our_counts») ⌝ }
     requires { ⌜ Table (now «their_epochs») (now «their_counts») ⌝ }
-    ensures { λ r. ⌜ r ≡ found epoch (union (recordsOf (now («our_epochs» .entry)) (now («our_counts» .entry))) (recordsOf (now («their_epochs» .entry)) (now («their_counts» .entry)))) ⌝ }
+    ensures { λ r. ⌜ r ≡ standingAt epoch (union (recordsWere «our_epochs» «our_counts») (recordsWere «their_epochs» «their_counts»)) ⌝ }
 {
     let theirs = find_at(their_epochs, their_counts, epoch);
     if theirs.stands {
@@ -73,14 +74,17 @@ fn judge_section(
 ) -> Fault
     requires { ⌜ Table (now «our_epochs») (now «our_counts») ⌝ }
     requires { ⌜ Table (now «their_epochs») (now «their_counts») ⌝ }
-    ensures { λ r. ⌜ faulted r ≡ faultOf base (union (recordsOf (now («our_epochs» .entry)) (now («our_counts» .entry))) (recordsOf (now («their_epochs» .entry)) (now («their_counts» .entry)))) (epoch ⦂ bytes) ⌝ }
+    ensures { λ r.
+        let our-records = recordsWere «our_epochs» «our_counts» in
+        let their-records = recordsWere «their_epochs» «their_counts» in
+        ⌜ faulted r ≡ fine base (union our-records their-records) (epoch ⦂ bytes) ⌝ }
 {
     if epoch == base {
         return Fault::Nowhere;
     }
-    let found = find_in_union(our_epochs, our_counts, their_epochs, their_counts, epoch);
-    if found.stands {
-        if bytes <= found.count {
+    let standingAt = find_in_union(our_epochs, our_counts, their_epochs, their_counts, epoch);
+    if standingAt.stands {
+        if bytes <= standingAt.count {
             return Fault::Nowhere;
         }
         return Fault::At(Refusal::Overflow);
@@ -101,7 +105,11 @@ pub fn judge(
     requires { ⌜ Table (now «our_epochs») (now «our_counts») ⌝ }
     requires { ⌜ Table (now «their_epochs») (now «their_counts») ⌝ }
     requires { ⌜ Table (now epochs) (now bytes) ⌝ }
-    ensures { λ r. ⌜ faulted r ≡ fault base (union (recordsOf (now («our_epochs» .entry)) (now («our_counts» .entry))) (recordsOf (now («their_epochs» .entry)) (now («their_counts» .entry)))) (recordsOf (now (epochs .entry)) (now (bytes .entry))) ⌝ }
+    ensures { λ r.
+        let our-records = recordsWere «our_epochs» «our_counts» in
+        let their-records = recordsWere «their_epochs» «their_counts» in
+        let records-given = recordsWere epochs bytes in
+        ⌜ faulted r ≡ allFine base (union our-records their-records) records-given ⌝ }
 {
     let mut i: usize = 0;
     while i < epochs.len() {
@@ -128,7 +136,7 @@ pub fn judge(
 // What stays of a record after its section, if it has one, also one of 0: with 3 or less left it is dropped.
 pub fn remove_from(epochs: &[u16], bytes: &[u32], epoch: u16, count: u32) -> Rest
     requires { ⌜ Table (now epochs) (now bytes) ⌝ }
-    ensures { λ r. ⌜ rested epoch r ≡ lessened (recordsOf (now (epochs .entry)) (now (bytes .entry))) (epoch ⦂ count) ⌝ }
+    ensures { λ r. ⌜ rested epoch r ≡ lessened (recordsWere epochs bytes) (epoch ⦂ count) ⌝ }
 {
     let section = find_at(epochs, bytes, epoch);
     if section.stands {

@@ -92,7 +92,8 @@ module _ {os ts : List At} {a b : ℕ} {r : Next} (s : Stepped os ts a b r) (ss 
       ap (λ (l : List At). minus l ss) (s .step) ∙ minus-cons (r .epoch ⦂ r .count) (union (drop (r .i) os) (drop (r .j) ts)) ss
       ∙ ap (λ (l : List At). l ++ minus (union (drop (r .i) os) (drop (r .j) ts)) ss) (sym h)
 
-  pub next-stays : x .stays ≡ true → minus (union (drop a os) (drop b ts)) ss ≡ r .epoch ⦂ x .count ∷ minus (union (drop (r .i) os) (drop (r .j) ts)) ss
+  pub next-stays : x .stays ≡ true → minus (union (drop a os) (drop b ts)) ss
+      ≡ r .epoch ⦂ x .count ∷ minus (union (drop (r .i) os) (drop (r .j) ts)) ss
   next-stays e = next-minus ∙ rw e
 
   pub next-gone : x .stays ≡ false → minus (union (drop a os) (drop b ts)) ss ≡ minus (union (drop (r .i) os) (drop (r .j) ts)) ss

@@ -65,7 +65,8 @@ module _ {n : ℕ} {t : Tables} (r : Room n t) (i : List ℕ) where
 
 under-rises : (i : List ℕ) (rs : List Row) → ascends rs ≡ true → allUnder i rs ≡ true → rising (epochsOf (partsOf rs)) ≡ true
 under-rises i [] a u = rw (parts-none, epochs-none) rises-none
-under-rises i (x ∷ []) a u = rw (parts-cons x [], epochs-cons (x .part) (partsOf []), parts-none, epochs-none) (rises-cons (x .part .epoch) [] (asc-none (x .part .epoch)))
+under-rises i (x ∷ []) a u = rw (parts-cons x [], epochs-cons (x .part) (partsOf []), parts-none, epochs-none)
+    (rises-cons (x .part .epoch) [] (asc-none (x .part .epoch)))
 under-rises i (x ∷ y ∷ rs) a u =
     let p = and-eq-true-iff (same (x .identifier) i) (allUnder i (y ∷ rs)) .0 (sym (all-cons i x (y ∷ rs)) ∙ u) in
     let q = and-eq-true-iff (same (y .identifier) i) (allUnder i rs) .0 (sym (all-cons i y rs) ∙ p .1) in
@@ -84,7 +85,8 @@ under-table {n} {t} p i h =
     length-take-le n (t .epochs) (p .room .epochs-long) ∙ sym (length-take-le n (t .bytes) (p .room .bytes-long)) in
     record {
       even = e;
-      rises = rw (parts-in (p .room), epochs-records (take n (t .epochs)) (take n (t .bytes)) e) at (under-rises i (rowsIn n t) (p .rises) (only-true i (rowsIn n t) h));
+      rises = rw (parts-in (p .room), epochs-records (take n (t .epochs)) (take n (t .bytes)) e) at
+          (under-rises i (rowsIn n t) (p .rises) (only-true i (rowsIn n t) h));
     }
 
 -- sections under an identifier are its alone, if there is one

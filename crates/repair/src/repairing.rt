@@ -4,12 +4,13 @@ ghost use mathlib.Core.Bool.{true, false};
 ghost use mathlib.Core.List.{List, []};
 ghost use Prim.Native.Nat.{ℕ, _≤_, _<_};
 ghost use lib.ListN.{length};
+ghost use Rattle.fields_spec.specs.Lending.{was, left};
 ghost use Rattle.records_spec.specs.Flags.{multi};
-ghost use Rattle.records_spec.specs.Answers.{ok};
 ghost use Rattle.codec_spec.specs.Bytes.{headSize};
+ghost use Rattle.records_spec.specs.Outcomes.{ok, after};
 ghost use Rattle.repair_spec.specs.Repairing.{repairedAs};
-ghost use Rattle.repair_spec.specs.Calls.{shown, after, repairedInto};
-ghost use Rattle.repair_spec.specs.Steps.{allEpochs, kindLeft, Blank, Standing, Ready};
+ghost use Rattle.repair_spec.specs.Calls.{repairedInto, placingRepair, repairLent, toldRepair, repairWas, repairLeft};
+ghost use Rattle.repair_spec.specs.Steps.{allEpochs, kindLeft, Blank, Settled, Ready};
 use crate::marking::gather;
 use crate::marking::mark;
 use codec_spec::Verdict;
@@ -20,7 +21,7 @@ use records_spec::KindByte;
 use records_spec::Refusal;
 use repair_listing::list_changes;
 use repair_spec::ALL_EPOCHS;
-use repair_spec::Outcome;
+use repair_spec::AnsweredRepair;
 
 // Writes the flags that are left and lists the changes, where both have room. The lines are counted first.
 fn settle(
@@ -33,10 +34,12 @@ fn settle(
     out: &mut [u8],
     offsets: &mut [usize],
     changes: &mut [u8],
-) -> Outcome
-    requires { ⌜ Standing kind (now src) (now places) (head .records) ⌝ }
+) -> AnsweredRepair
+    requires { ⌜ Settled kind (now src) (now places) (head .records) ⌝ }
     requires { ⌜ Ready kind (now src) head (now epochs) (now counts) ⌝ }
-    ensures { λ r. ⌜ shown r (now (out .exit)) (now (offsets .exit)) (now (changes .exit)) ≡ after (repairedAs kind (now (src .entry))) (now (out .entry)) (now (offsets .entry)) (now (changes .entry)) ⌝ }
+    ensures { λ r.
+        let repair-lent = repairWas out offsets changes in
+        ⌜ after (toldRepair r) (repairLeft out offsets changes) ≡ placingRepair (repairedAs kind (was src)) repair-lent ⌝ }
 {
     let records = head.records;
     let mut no_offsets = [0usize; 1];
@@ -45,15 +48,15 @@ fn settle(
     if records::fit(lines, offsets.len(), changes.len()) {
         match codec::serialize(head, epochs, counts, out) {
             Counted::Refused(refusal) => {
-                return Outcome::Refused(refusal);
+                return AnsweredRepair::Refused(refusal);
             }
             Counted::Count(bytes) => {
                 list_changes(kind, src, places, records, offsets, changes);
-                return Outcome::Done { bytes, lines };
+                return AnsweredRepair::Done { bytes, lines };
             }
         }
     }
-    Outcome::Refused(Refusal::NoRoom)
+    AnsweredRepair::Refused(Refusal::NoRoom)
 }
 
 // Repairs bytes of kind 0 or 2.
@@ -63,9 +66,11 @@ fn repair_single(
     out: &mut [u8],
     offsets: &mut [usize],
     changes: &mut [u8],
-) -> Outcome
+) -> AnsweredRepair
     requires { ⌜ (multi kind ≡ false) × (headSize kind ≤ length (now src)) ⌝ }
-    ensures { λ r. ⌜ shown r (now (out .exit)) (now (offsets .exit)) (now (changes .exit)) ≡ after (repairedAs kind (now (src .entry))) (now (out .entry)) (now (offsets .entry)) (now (changes .entry)) ⌝ }
+    ensures { λ r.
+        let repair-lent = repairWas out offsets changes in
+        ⌜ after (toldRepair r) (repairLeft out offsets changes) ≡ placingRepair (repairedAs kind (was src)) repair-lent ⌝ }
 {
     let head = codec::head_in(kind, src, 0);
     let places = [0usize; 1];
@@ -108,10 +113,12 @@ fn repair_by(
     out: &mut [u8],
     offsets: &mut [usize],
     changes: &mut [u8],
-) -> Outcome
+) -> AnsweredRepair
     requires { ⌜ (multi kind ≡ true) × (headSize kind ≤ length (now src)) ⌝ }
     requires { ⌜ Blank (now places) × Blank (now counts) × (allEpochs ≤ length (now epochs)) ⌝ }
-    ensures { λ r. ⌜ shown r (now (out .exit)) (now (offsets .exit)) (now (changes .exit)) ≡ after (repairedAs kind (now (src .entry))) (now (out .entry)) (now (offsets .entry)) (now (changes .entry)) ⌝ }
+    ensures { λ r.
+        let repair-lent = repairWas out offsets changes in
+        ⌜ after (toldRepair r) (repairLeft out offsets changes) ≡ placingRepair (repairedAs kind (was src)) repair-lent ⌝ }
 {
     let start = codec::head_size(kind);
     let base = codec::base_in(kind, src);
@@ -138,9 +145,11 @@ fn repair_multi(
     out: &mut [u8],
     offsets: &mut [usize],
     changes: &mut [u8],
-) -> Outcome
+) -> AnsweredRepair
     requires { ⌜ (multi kind ≡ true) × (headSize kind ≤ length (now src)) ⌝ }
-    ensures { λ r. ⌜ shown r (now (out .exit)) (now (offsets .exit)) (now (changes .exit)) ≡ after (repairedAs kind (now (src .entry))) (now (out .entry)) (now (offsets .entry)) (now (changes .entry)) ⌝ }
+    ensures { λ r.
+        let repair-lent = repairWas out offsets changes in
+        ⌜ after (toldRepair r) (repairLeft out offsets changes) ≡ placingRepair (repairedAs kind (was src)) repair-lent ⌝ }
 {
     let mut places = [0usize; ALL_EPOCHS];
     let mut epochs = [0u16; ALL_EPOCHS];
@@ -164,11 +173,13 @@ fn repair_as(
     out: &mut [u8],
     offsets: &mut [usize],
     changes: &mut [u8],
-) -> Outcome
-    ensures { λ r. ⌜ shown r (now (out .exit)) (now (offsets .exit)) (now (changes .exit)) ≡ after (repairedAs kind (now (src .entry))) (now (out .entry)) (now (offsets .entry)) (now (changes .entry)) ⌝ }
+) -> AnsweredRepair
+    ensures { λ r.
+        let repair-lent = repairWas out offsets changes in
+        ⌜ after (toldRepair r) (repairLeft out offsets changes) ≡ placingRepair (repairedAs kind (was src)) repair-lent ⌝ }
 {
     if src.len() < codec::head_size(kind) {
-        return Outcome::Refused(Refusal::WrongSize);
+        return AnsweredRepair::Refused(Refusal::WrongSize);
     }
     if records::is_multi(kind) {
         return repair_multi(kind, src, out, offsets, changes);
@@ -177,40 +188,52 @@ fn repair_as(
 }
 
 // Repairs bytes that reading refuses, by the kind that byte 0 names.
-fn repair_faulty(src: &[u8], out: &mut [u8], offsets: &mut [usize], changes: &mut [u8]) -> Outcome
+fn repair_faulty(
+    src: &[u8],
+    out: &mut [u8],
+    offsets: &mut [usize],
+    changes: &mut [u8],
+) -> AnsweredRepair
     requires { ⌜ 0 < length (now src) ⌝ }
-    ensures { λ r. ⌜ shown r (now (out .exit)) (now (offsets .exit)) (now (changes .exit)) ≡ repairedInto (now (src .entry)) (now (out .entry)) (now (offsets .entry)) (now (changes .entry)) ⌝ }
+    ensures { λ r. ⌜ after (toldRepair r) (repairLeft out offsets changes) ≡ repairedInto (was src) (repairWas out offsets changes) ⌝ }
 {
     match records::kind_of_byte(src[0]) {
         KindByte::Known(kind) => repair_as(kind, src, out, offsets, changes),
-        KindByte::Unknown => Outcome::Refused(Refusal::UnknownType),
+        KindByte::Unknown => AnsweredRepair::Refused(Refusal::UnknownType),
     }
 }
 
 // Writes canonical bytes as they are; there is no change to list.
-fn keep(src: &[u8], out: &mut [u8]) -> Outcome
-    ensures { λ r. ⌜ ((os cs : List ℕ) → shown r (now (out .exit)) os cs ≡ after (ok (record { bytes = now (src .entry); lines = [] })) (now (out .entry)) os cs) ⌝ }
+fn keep(src: &[u8], out: &mut [u8]) -> AnsweredRepair
+    ensures { λ r.
+        ⌜ ((os cs : List ℕ) → after (toldRepair r) (repairLent (left out) os cs)
+        ≡ placingRepair (ok (record { bytes = was src; lines = [] })) (repairLent (was out) os cs)) ⌝ }
 {
     if out.len() < src.len() {
-        return Outcome::Refused(Refusal::NoRoom);
+        return AnsweredRepair::Refused(Refusal::NoRoom);
     }
     let mut k: usize = 0;
     while k < src.len() {
         out[k] = src[k];
         k += 1;
     }
-    Outcome::Done { bytes: k, lines: 0 }
+    AnsweredRepair::Done { bytes: k, lines: 0 }
 }
 
 // Repairs old flag bytes: canonical ones go to the start of `out`, and the changes, each with its input offset, to the start of
 // `offsets` and `changes`. Most bytes are canonical already, so reading is tried first; the tables by epoch are only made for others.
-pub fn repair(src: &[u8], out: &mut [u8], offsets: &mut [usize], changes: &mut [u8]) -> Outcome
-    ensures { λ r. ⌜ shown r (now (out .exit)) (now (offsets .exit)) (now (changes .exit)) ≡ repairedInto (now (src .entry)) (now (out .entry)) (now (offsets .entry)) (now (changes .entry)) ⌝ }
+pub fn repair(
+    src: &[u8],
+    out: &mut [u8],
+    offsets: &mut [usize],
+    changes: &mut [u8],
+) -> AnsweredRepair
+    ensures { λ r. ⌜ after (toldRepair r) (repairLeft out offsets changes) ≡ repairedInto (was src) (repairWas out offsets changes) ⌝ }
 {
     let judged = codec::judge(src);
     let verdict = judged.verdict;
     match verdict {
-        Verdict::Absent => Outcome::Done { bytes: 0, lines: 0 },
+        Verdict::Absent => AnsweredRepair::Done { bytes: 0, lines: 0 },
         Verdict::Present => keep(src, out),
         Verdict::Refused(_, _) => repair_faulty(src, out, offsets, changes),
     }

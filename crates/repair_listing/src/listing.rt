@@ -6,9 +6,10 @@ ghost use mathlib.Core.List.{[], _∷_};
 ghost use Prim.Native.Nat.{_+_, _≤_, _<_};
 ghost use lib.Dec.{ltb, eqb};
 ghost use lib.ListN.{length, set};
+ghost use Rattle.fields_spec.specs.Lending.{was, left};
 ghost use Rattle.repair_spec.specs.Changes.{changeNumber, line, lineIf, keptLines, recordLines, dropped};
 ghost use Rattle.repair_spec.specs.Repairing.{linesOf};
-ghost use Rattle.repair_spec.specs.Steps.{allEpochs, oldOf, higher, linesFrom, Listed, Standing};
+ghost use Rattle.repair_spec.specs.Steps.{allEpochs, oldOf, higher, linesFrom, Listed, Settled};
 use crate::change::number;
 use records_spec::Kind;
 use repair_reading::read_old;
@@ -18,7 +19,7 @@ use repair_spec::Got;
 
 // Puts an offset at the place k, if there is room.
 fn put_offset(offsets: &mut [usize], k: usize, at: usize)
-    ensures { λ _. ⌜ now (offsets .exit) ≡ set (now (offsets .entry)) k at ⌝ }
+    ensures { λ _. ⌜ left offsets ≡ set (was offsets) k at ⌝ }
 {
     if offsets.len() <= k {
         return;
@@ -28,7 +29,7 @@ fn put_offset(offsets: &mut [usize], k: usize, at: usize)
 
 // Puts a change's number at the place k, if there is room.
 fn put_change(changes: &mut [u8], k: usize, change: Change)
-    ensures { λ _. ⌜ now (changes .exit) ≡ set (now (changes .entry)) k (changeNumber change) ⌝ }
+    ensures { λ _. ⌜ left changes ≡ set (was changes) k (changeNumber change) ⌝ }
 {
     if changes.len() <= k {
         return;
@@ -39,7 +40,7 @@ fn put_change(changes: &mut [u8], k: usize, change: Change)
 // Lists a line at the place k; answers the place behind it.
 fn put_line(at: usize, change: Change, offsets: &mut [usize], changes: &mut [u8], k: usize) -> usize
     requires { ⌜ k + 1 < 18446744073709551616 ⌝ }
-    ensures { λ r. ⌜ Listed (line at change ∷ []) k r (now (offsets .entry)) (now (changes .entry)) (now (offsets .exit)) (now (changes .exit)) ⌝ }
+    ensures { λ r. ⌜ Listed (line at change ∷ []) k r (was offsets) (was changes) (left offsets) (left changes) ⌝ }
 {
     put_offset(offsets, k, at);
     put_change(changes, k, change);
@@ -56,7 +57,7 @@ fn put_line_if(
     k: usize,
 ) -> usize
     requires { ⌜ k + 1 < 18446744073709551616 ⌝ }
-    ensures { λ r. ⌜ Listed (lineIf there at change) k r (now (offsets .entry)) (now (changes .entry)) (now (offsets .exit)) (now (changes .exit)) ⌝ }
+    ensures { λ r. ⌜ Listed (lineIf there at change) k r (was offsets) (was changes) (left offsets) (left changes) ⌝ }
 {
     if there {
         return put_line(at, change, offsets, changes, k);
@@ -76,7 +77,9 @@ fn list_kept(
     k: usize,
 ) -> usize
     requires { ⌜ (at ≤ next) × (k + 2 < 18446744073709551616) ⌝ }
-    ensures { λ r. ⌜ Listed (keptLines (ltb epoch highest) (oldOf at epoch count next)) k r (now (offsets .entry)) (now (changes .entry)) (now (offsets .exit)) (now (changes .exit)) ⌝ }
+    ensures { λ r.
+        let old-record = oldOf at epoch count next in
+        ⌜ Listed (keptLines (ltb epoch highest) old-record) k r (was offsets) (was changes) (left offsets) (left changes) ⌝ }
 {
     let is_longer = 2 + fields::varint_len(count) < next - at;
     let is_moved = epoch < highest;
@@ -108,7 +111,10 @@ fn list_fitting(
     k: usize,
 ) -> Behind
     requires { ⌜ (at ≤ next) × (k + 2 < 18446744073709551616) ⌝ }
-    ensures { λ r. ⌜ Listed (recordLines (dropped base (not (eqb standing at)) (oldOf at epoch count next)) (ltb epoch highest) (oldOf at epoch count next)) k (r .k) (now (offsets .entry)) (now (changes .entry)) (now (offsets .exit)) (now (changes .exit)) ⌝ }
+    ensures { λ r.
+        let old-record = oldOf at epoch count next in
+        ⌜ Listed (recordLines (dropped base (not (eqb standing at)) old-record) (ltb epoch highest) old-record) k (r .k) (was offsets)
+        (was changes) (left offsets) (left changes) ⌝ }
     ensures { λ r. ⌜ r .highest ≡ higher (dropped base (not (eqb standing at)) (oldOf at epoch count next)) (oldOf at epoch count next) highest ⌝ }
 {
     if epoch <= base {
@@ -137,7 +143,7 @@ fn list_records(
     from: usize,
 ) -> usize
     requires { ⌜ (from ≤ start) × (start ≤ length (now src)) × (allEpochs ≤ length (now places)) ⌝ }
-    ensures { λ r. ⌜ Listed (linesFrom base (now (places .entry)) 0 start (now (src .entry))) from r (now (offsets .entry)) (now (changes .entry)) (now (offsets .exit)) (now (changes .exit)) ⌝ }
+    ensures { λ r. ⌜ Listed (linesFrom base (was places) 0 start (was src)) from r (was offsets) (was changes) (left offsets) (left changes) ⌝ }
 {
     let mut at = start;
     let mut highest: u16 = 0;
@@ -183,8 +189,8 @@ pub fn list_changes(
     offsets: &mut [usize],
     changes: &mut [u8],
 ) -> usize
-    requires { ⌜ Standing kind (now src) (now places) records ⌝ }
-    ensures { λ r. ⌜ Listed (linesOf kind (now (src .entry))) 0 r (now (offsets .entry)) (now (changes .entry)) (now (offsets .exit)) (now (changes .exit)) ⌝ }
+    requires { ⌜ Settled kind (now src) (now places) records ⌝ }
+    ensures { λ r. ⌜ Listed (linesOf kind (was src)) 0 r (was offsets) (was changes) (left offsets) (left changes) ⌝ }
 {
     let start = codec::head_size(kind);
     if records::is_multi(kind) {

@@ -2,10 +2,11 @@
 ghost use mathlib.Core.Path.{_≡_};
 ghost use Prim.Native.Nat.{_+_, _≤_};
 ghost use lib.ListN.{length, take, drop};
+ghost use Rattle.fields_spec.specs.Lending.{was};
 ghost use Rattle.fields_spec.specs.Big.{said};
 ghost use Rattle.fields_spec.specs.Varint.{found, notCanonical};
 ghost use Rattle.repair_spec.specs.Olds.{oldAt};
-ghost use Rattle.repair_spec.specs.Steps.{gotOf};
+ghost use Rattle.repair_spec.specs.Steps.{gotOldOf};
 use crate::padded::TOO_LARGE;
 use crate::padded::capped_value;
 use crate::padded::end_of;
@@ -17,7 +18,7 @@ fn read_padded(src: &[u8], at: usize, epoch: u16) -> Got
     requires { ⌜ at + 2 ≤ length (now src) ⌝ }
     requires { ⌜ epoch ≡ said (take 2 (drop at (now src))) ⌝ }
     requires { ⌜ found (drop (at + 2) (now src)) ≡ notCanonical ⌝ }
-    ensures { λ r. ⌜ r ≡ gotOf (oldAt at (drop at (now (src .entry)))) ⌝ }
+    ensures { λ r. ⌜ r ≡ gotOldOf (oldAt at (drop at (was src))) ⌝ }
 {
     let next = end_of(src, at + 2);
     let count = capped_value(src, at + 2, next);
@@ -35,7 +36,7 @@ fn read_padded(src: &[u8], at: usize, epoch: u16) -> Got
 // reading of flags, which takes up to twice the time then.
 pub fn read_old(src: &[u8], at: usize) -> Got
     requires { ⌜ at ≤ length (now src) ⌝ }
-    ensures { λ r. ⌜ r ≡ gotOf (oldAt at (drop at (now (src .entry)))) ⌝ }
+    ensures { λ r. ⌜ r ≡ gotOldOf (oldAt at (drop at (was src))) ⌝ }
 {
     if src.len() - at < 2 {
         return Got::Cut;

@@ -2,8 +2,9 @@
 ghost use mathlib.Core.Path.{_≡_};
 ghost use Prim.Native.Nat.{suc, _+_, _-_, _≤_, _<_};
 ghost use lib.ListN.{length, take, drop};
+ghost use Rattle.fields_spec.specs.Lending.{was};
 ghost use Rattle.fields_spec.specs.Varint.{high, value};
-ghost use Rattle.repair_spec.specs.Steps.{capped};
+ghost use Rattle.repair_spec.specs.Steps.{countCapped};
 
 // The first count that is too large.
 pub const TOO_LARGE: u64 = 4294967296;
@@ -11,7 +12,7 @@ pub const TOO_LARGE: u64 = 4294967296;
 // The place behind the varint at `at`, which ends inside the bytes.
 pub fn end_of(src: &[u8], at: usize) -> usize
     requires { ⌜ high (drop at (now src)) < length (drop at (now src)) ⌝ }
-    ensures { λ r. ⌜ r ≡ at + suc (high (drop at (now (src .entry)))) ⌝ }
+    ensures { λ r. ⌜ r ≡ at + suc (high (drop at (was src))) ⌝ }
 {
     let mut k = at;
     while k < src.len() {
@@ -25,7 +26,7 @@ pub fn end_of(src: &[u8], at: usize) -> usize
 
 // The same number, or the first too large where it is larger.
 fn cap(n: u64) -> u64
-    ensures { λ r. ⌜ r ≡ capped n ⌝ }
+    ensures { λ r. ⌜ r ≡ countCapped n ⌝ }
 {
     if n < TOO_LARGE {
         return n;
@@ -37,7 +38,7 @@ fn cap(n: u64) -> u64
 // no group can push another out.
 pub fn capped_value(src: &[u8], at: usize, end: usize) -> u64
     requires { ⌜ (at ≤ end) × (end ≤ length (now src)) ⌝ }
-    ensures { λ r. ⌜ r ≡ capped (value (take (end - at) (drop at (now (src .entry))))) ⌝ }
+    ensures { λ r. ⌜ r ≡ countCapped (value (take (end - at) (drop at (was src)))) ⌝ }
 {
     let mut says: u64 = 0;
     let mut i = end;

@@ -17,8 +17,8 @@ use Rattle.codec_spec.specs.Reading.{baseIn}
 use Rattle.repair_spec.specs.Olds.{Olds}
 use Rattle.repair_spec.specs.Standing.{mapOf, mapOnto}
 use Rattle.repair_spec.specs.Changes.{Line, lineIf, linesAfter, cutLine}
-use Rattle.repair_spec.specs.Repairing.{oldsIn, extra, left, kindLine, linesOf}
-use Rattle.repair_spec.specs.Steps.{linesBy, linesFrom, Listed, Standing}
+use Rattle.repair_spec.specs.Repairing.{oldsIn, extra, recordsLeft, kindLine, linesOf}
+use Rattle.repair_spec.specs.Steps.{linesBy, linesFrom, Listed, Settled}
 use Rattle.repair_spec.specs.declared.change.Change.the-variants.{TailCut, KindChanged}
 use Rattle.repair_spec.proofs.Reading.{rest}
 use Rattle.repair_spec.proofs.Columns.{listed-then}
@@ -28,7 +28,7 @@ kind-line : (k : Kind) (rs : List At) → multi k ≡ true → kindLine k rs ≡
 kind-line k [] m = rw m
 kind-line k (r ∷ rs) m = rw (ne-eqb (length (r ∷ rs)) 0 (λ e. omega arith))
 
-module _ (k : Kind) (xs ps : List ℕ) (n : ℕ) (s : Standing k xs ps n) where
+module _ (k : Kind) (xs ps : List ℕ) (n : ℕ) (s : Settled k xs ps n) where
   module _ (m : multi k ≡ true) where
     -- what is read behind the head
     olds-multi : oldsIn k xs ≡ rest xs (headSize k)
@@ -37,11 +37,12 @@ module _ (k : Kind) (xs ps : List ℕ) (n : ℕ) (s : Standing k xs ps n) where
     lines-multi : linesOf k xs ≡ lineIf (eqb n 0) 0 KindChanged ++ linesFrom (baseIn k xs) ps 0 (headSize k) xs
     lines-multi =
         ap₂ (λ (ks ls : List Line). ks ++ (ls ++ cutLine (oldsIn k xs .cut)))
-        (kind-line k (left k xs) m ∙ ap (λ (i : ℕ). lineIf (eqb i 0) 0 KindChanged) (sym (s .counted)))
+        (kind-line k (recordsLeft k xs) m ∙ ap (λ (i : ℕ). lineIf (eqb i 0) 0 KindChanged) (sym (s .counted)))
         (sym (s .told m))
         ∙ ap (λ (p : Olds). lineIf (eqb n 0) 0 KindChanged ++ (linesBy (baseIn k xs) ps 0 (p .records) ++ cutLine (p .cut))) olds-multi
 
-    pub multi-listed : (base start from next : ℕ) {os cs os′ cs′ os″ cs″ : List ℕ} → base ≡ baseIn k xs → start ≡ headSize k → Listed (lineIf (eqb n 0) 0 KindChanged) 0 from os cs os′ cs′
+    pub multi-listed : (base start from next : ℕ) {os cs os′ cs′ os″ cs″ : List ℕ} → base ≡ baseIn k xs → start ≡ headSize k
+        → Listed (lineIf (eqb n 0) 0 KindChanged) 0 from os cs os′ cs′
         → Listed (linesFrom base ps 0 start xs) from next os′ cs′ os″ cs″ → Listed (linesOf k xs) 0 next os cs os″ cs″
     multi-listed base start from next eb es p q = rw lines-multi (listed-then p (rw (eb, es) at q))
 
@@ -59,6 +60,7 @@ module _ (k : Kind) (xs ps : List ℕ) (n : ℕ) (s : Standing k xs ps n) where
         by true = refl
         by false = refl
 
-    pub single-listed : (start next : ℕ) {os cs os′ cs′ : List ℕ} → start ≡ headSize k → Listed (lineIf (ltb start (length xs)) start TailCut) 0 next os cs os′ cs′
+    pub single-listed : (start next : ℕ) {os cs os′ cs′ : List ℕ} → start ≡ headSize k
+        → Listed (lineIf (ltb start (length xs)) start TailCut) 0 next os cs os′ cs′
         → Listed (linesOf k xs) 0 next os cs os′ cs′
     single-listed start next e p = rw lines-single (rw e at p)

@@ -16,4 +16,10 @@ module _ (P : Old → List Old → Type 0) (o : Old) (os : List Old) where
   among-first h = record { earlier = []; one = o; later = os; split = refl; holds = h }
 
   pub among-behind : Among P os → Among P (o ∷ os)
-  among-behind a = record { earlier = o ∷ a .earlier; one = a .one; later = a .later; split = ap (λ (x : List Old). o ∷ x) (a .split); holds = a .holds }
+  among-behind a = record {
+    earlier = o ∷ a .earlier;
+    one = a .one;
+    later = a .later;
+    split = ap (λ (x : List Old). o ∷ x) (a .split);
+    holds = a .holds;
+  }

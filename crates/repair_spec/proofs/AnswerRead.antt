@@ -9,8 +9,10 @@ use lib.Dec.{leb}
 use lib.ListN.{length, getD, drop}
 use Rattle.fields_spec.proofs.RoundTrip.{Bytes}
 use Rattle.records_spec.specs.Flags.{owned, kindOfByte}
-use Rattle.records_spec.specs.Answers.{ok, refused}
 use Rattle.records_spec.proofs.Answers.{refused-not-ok}
+use Rattle.records_spec.specs.Outcomes.{refused, ok}
+use Rattle.records_spec.specs.Refusals.{number}
+use Rattle.records_spec.specs.declared.refusal.Refusal.the-variants.{UnknownType, WrongSize}
 use Rattle.records_spec.specs.declared.head.Kind.{Kind}
 use Rattle.records_spec.specs.declared.head.KindByte.{KindByte}
 use Rattle.records_spec.specs.declared.head.KindByte.the-variants.{Known, Unknown}
@@ -19,7 +21,7 @@ use Rattle.codec_spec.specs.Reading.{someFlags, baseIn, read}
 use Rattle.codec_spec.proofs.RoundTrip.{Canonical, bytes-drop, field-below}
 use Rattle.codec_spec.proofs.Canonical.{base-written, owner-written, Proper, read-back}
 use Rattle.repair_spec.specs.Olds.{Old}
-use Rattle.repair_spec.specs.Repairing.{Repaired, oldsIn, left, flagsLeft, linesOf, repairedAs, repairedByte, repaired}
+use Rattle.repair_spec.specs.Repairing.{Repaired, oldsIn, recordsLeft, flagsLeft, linesOf, repairedAs, repairedByte, repaired}
 use Rattle.repair_spec.proofs.Reading.{old-inv}
 use Rattle.repair_spec.proofs.Chains.{Chain, read-chain}
 use Rattle.repair_spec.proofs.Holding.{Short, map-canonical}
@@ -30,12 +32,15 @@ use Rattle.repair_spec.proofs.Holding.{Short, map-canonical}
 pub chain-short : (k : Kind) (d : List ℕ) → Bytes d → (at : ℕ) (os : List Old) (c : Option ℕ) → Chain k d at os c → Short os
 chain-short k d bs at [] c p = tt
 chain-short k d bs at (o ∷ os) c p =
-    let t = old-inv at (drop at d) o (p .0 .there) in
-    (rw (ap (λ (x : Old). x .epoch) (t .is)) (field-below 2 (drop at d) (bytes-drop at d bs) (t .long)), chain-short k d bs (at + o .size) os c (p .1))
+    let t = old-inv at (drop at d) o (p .0 .there) in (
+      rw (ap (λ (x : Old). x .epoch) (t .is)) (field-below 2 (drop at d) (bytes-drop at d bs) (t .long)),
+      chain-short k d bs (at + o .size) os c (p .1),
+    )
 
 -- WHAT IS LEFT IS CANONICAL
-pub left-canonical : (k : Kind) (xs : List ℕ) → Bytes xs → Canonical (baseIn k xs) (left k xs)
-left-canonical k xs bs = map-canonical (baseIn k xs) (oldsIn k xs .records) (chain-short k xs bs (headSize k) (oldsIn k xs .records) (oldsIn k xs .cut) (read-chain k xs))
+pub left-canonical : (k : Kind) (xs : List ℕ) → Bytes xs → Canonical (baseIn k xs) (recordsLeft k xs)
+left-canonical k xs bs = map-canonical (baseIn k xs) (oldsIn k xs .records)
+    (chain-short k xs bs (headSize k) (oldsIn k xs .records) (oldsIn k xs .cut) (read-chain k xs))
 
 -- THE FLAGS THAT ARE LEFT ARE PROPER
 pub left-proper : (k : Kind) (xs : List ℕ) → Bytes xs → headSize k ≤ length xs → Proper (flagsLeft k xs)
@@ -64,11 +69,17 @@ as-answered : (k : Kind) (xs : List ℕ) (r : Repaired) → kindOfByte (getD xs 
 unfolding repairedAs
 as-answered k xs r q = by (leb (headSize k) (length xs)) refl
   where
-    by : (t : Bool) → leb (headSize k) (length xs) ≡ t → cond t (ok (record { bytes = bytesOf (flagsLeft k xs); lines = linesOf k xs })) (refused 2) ≡ ok r → Answers xs r k
+    by : (t : Bool) → leb (headSize k) (length xs) ≡ t
+        → cond t (ok (record { bytes = bytesOf (flagsLeft k xs); lines = linesOf k xs })) (refused (number WrongSize)) ≡ ok r → Answers xs r k
     by true h e =
         let is : r ≡ record { bytes = bytesOf (flagsLeft k xs); lines = linesOf k xs } = cc in
-        record { kind-is = q; head-inside = leb-true (headSize k) (length xs) h; bytes-are = ap (λ (x : Repaired). x .bytes) is; lines-are = ap (λ (x : Repaired). x .lines) is }
-    by false h e = absurd (refused-not-ok 2 r e)
+        record {
+          kind-is = q;
+          head-inside = leb-true (headSize k) (length xs) h;
+          bytes-are = ap (λ (x : Repaired). x .bytes) is;
+          lines-are = ap (λ (x : Repaired). x .lines) is;
+        }
+    by false h e = absurd (refused-not-ok (number WrongSize) r e)
 
 -- an answer is one of the two
 pub answered : (xs : List ℕ) (r : Repaired) → repaired xs ≡ ok r → Answered xs r
@@ -77,7 +88,7 @@ answered [] r e = no-bytes refl (cc)
 answered (b ∷ xs) r e = by (kindOfByte b) refl
   where
     by : (x : KindByte) → kindOfByte b ≡ x → Answered (b ∷ xs) r
-    by Unknown q = absurd (refused-not-ok 1 r (sym (ap (λ (x : KindByte). repairedByte x (b ∷ xs)) q) ∙ e))
+    by Unknown q = absurd (refused-not-ok (number UnknownType) r (sym (ap (λ (x : KindByte). repairedByte x (b ∷ xs)) q) ∙ e))
     by (Known k) q = some-bytes k (as-answered k (b ∷ xs) r q (sym (ap (λ (x : KindByte). repairedByte x (b ∷ xs)) q) ∙ e))
 
 -- what reading finds in the answer: no bytes, or the flags that are left

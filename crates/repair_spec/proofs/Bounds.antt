@@ -11,8 +11,8 @@ use Rattle.fields_spec.proofs.Varints.{length-five}
 use Rattle.fields_spec.proofs.RoundTrip.{Bytes}
 use Rattle.fields_spec.proofs.Places.{value-below, length-below}
 use Rattle.records_spec.specs.Tables.{At, _⦂_, put}
-use Rattle.records_spec.specs.Flags.{owned, multi, ownerLength, ownerIf}
-use Rattle.records_spec.specs.Answers.{ok}
+use Rattle.records_spec.specs.Flags.{owned, multi, ownerIf, ownerLength}
+use Rattle.records_spec.specs.Outcomes.{ok}
 use Rattle.records_spec.specs.declared.head.Kind.{Kind}
 use Rattle.records_spec.proofs.Unions.{put-cases}
 use Rattle.codec_spec.specs.Bytes.{recordBytes, recordsBytes, ownerBytes, behindKind, unownedHead, ownedHead, headSize, bytesOf}
@@ -21,9 +21,9 @@ use Rattle.codec_spec.specs.Sizes.{longestRecord}
 use Rattle.codec_spec.proofs.RoundTrip.{Canonical}
 use Rattle.codec_spec.proofs.Sizing.{length-record, length-records, length-bytes}
 use Rattle.repair_spec.specs.Olds.{Old}
-use Rattle.repair_spec.specs.Standing.{fits, mapOnto}
+use Rattle.repair_spec.specs.Standing.{oldFits, mapOnto}
 use Rattle.repair_spec.specs.Changes.{recordLines, linesAfter, cutLine, again, someAbove, dropped, keeping}
-use Rattle.repair_spec.specs.Repairing.{Repaired, oldsIn, left, flagsLeft, kindLine, linesOf, repaired}
+use Rattle.repair_spec.specs.Repairing.{Repaired, oldsIn, recordsLeft, flagsLeft, kindLine, linesOf, repaired}
 use Rattle.repair_spec.specs.Steps.{lastEpoch, longestFlags}
 use Rattle.repair_spec.specs.declared.change.Change.the-variants.{KindChanged}
 use Rattle.repair_spec.proofs.Reading.{old-inv}
@@ -47,13 +47,25 @@ chain-few k d base before at (o ∷ os) c p h =
     let ls = recordLines x (someAbove (o .epoch) before) o in
     let ms = linesAfter base (keeping x o before) os in
     let i = chain-few k d base (keeping x o before) (at + o .size) os c (p .1) (p .0 .inside) in
-    omega (arith, record-few x (someAbove (o .epoch) before) o (p .0 .some-bytes), length-append (ls ++ ms) (cutLine c), length-append ls ms, length-append ms (cutLine c))
+    omega (
+      arith,
+      record-few x (someAbove (o .epoch) before) o (p .0 .some-bytes),
+      length-append (ls ++ ms) (cutLine c),
+      length-append ls ms,
+      length-append ms (cutLine c),
+    )
 
 -- TWICE THE LINES ARE AT MOST THE BYTES AND ONE
 few-lines : (k : Kind) (xs : List ℕ) → headSize k ≤ length xs → 2 * length (linesOf k xs) ≤ length xs + 1
 few-lines k xs h =
     let rest = linesAfter (baseIn k xs) [] (oldsIn k xs .records) ++ cutLine (oldsIn k xs .cut) in
-    omega (arith, chain-few k xs (baseIn k xs) [] (headSize k) (oldsIn k xs .records) (oldsIn k xs .cut) (read-chain k xs) h, length-append (kindLine k (left k xs)) rest, kind-short (left k xs), head-three k)
+    omega (
+      arith,
+      chain-few k xs (baseIn k xs) [] (headSize k) (oldsIn k xs .records) (oldsIn k xs .cut) (read-chain k xs) h,
+      length-append (kindLine k (recordsLeft k xs)) rest,
+      kind-short (recordsLeft k xs),
+      head-three k,
+    )
   where
     kind-short : (rs : List At) → length (kindLine k rs) ≤ 1
     kind-short [] = line-if-short (multi k) 0 KindChanged
@@ -79,14 +91,17 @@ old-written d at o l =
     let ys : List ℕ = drop 2 (drop at d) in
     let v : o .count ≡ value (take (suc (high ys)) ys) = ap (λ (x : Old). x .count) (t .is) in
     let s : o .size ≡ 3 + high ys = ap (λ (x : Old). x .size) (t .is) in
-    let b : value (take (suc (high ys)) ys) < 128 ^ suc (high ys) = value-below (suc (high ys)) (take (suc (high ys)) ys) (simp length-take (omega arith)) in
+    let b : value (take (suc (high ys)) ys) < 128 ^ suc (high ys) =
+    value-below (suc (high ys)) (take (suc (high ys)) ys) (simp length-take (omega arith)) in
     let m : length (varint (o .count)) ≤ suc (high ys) = rw v (length-below (high ys) (value (take (suc (high ys)) ys)) b) in
     omega (arith, length-record (o .epoch ⦂ o .count))
 
-with-longer : (base : ℕ) (o : Old) (m : List At) → length (recordsBytes (with base o m)) ≤ length (recordBytes (o .epoch ⦂ o .count)) + length (recordsBytes m)
-with-longer base o m = by (fits base o)
+with-longer : (base : ℕ) (o : Old) (m : List At)
+    → length (recordsBytes (with base o m)) ≤ length (recordBytes (o .epoch ⦂ o .count)) + length (recordsBytes m)
+with-longer base o m = by (oldFits base o)
   where
-    by : (b : Bool) → length (recordsBytes (cond b (put (o .epoch ⦂ o .count) m) m)) ≤ length (recordBytes (o .epoch ⦂ o .count)) + length (recordsBytes m)
+    by : (b : Bool) → length (recordsBytes (cond b (put (o .epoch ⦂ o .count) m) m)) ≤ length (recordBytes (o .epoch ⦂ o .count)) + length
+        (recordsBytes m)
     by true = put-longer (o .epoch ⦂ o .count) m
     by false = omega arith
 
@@ -110,8 +125,8 @@ unfolding recordsBytes
 left-longer k xs h =
     omega (
       arith,
-      length-bytes (baseIn k xs) (ownerIn k xs) (left k xs),
-      length-records (left k xs),
+      length-bytes (baseIn k xs) (ownerIn k xs) (recordsLeft k xs),
+      length-records (recordsLeft k xs),
       head-longer k xs,
       chain-longer k xs (baseIn k xs) (headSize k) (oldsIn k xs .records) (oldsIn k xs .cut) [] (read-chain k xs) h,
     )
@@ -135,11 +150,11 @@ left-most : (k : Kind) (xs : List ℕ) → Bytes xs → headSize k ≤ length xs
 left-most k xs bs h =
     omega (
       arith,
-      length-bytes (baseIn k xs) (ownerIn k xs) (left k xs),
-      length-records (left k xs),
+      length-bytes (baseIn k xs) (ownerIn k xs) (recordsLeft k xs),
+      length-records (recordsLeft k xs),
       head-longer k xs,
       head-most k,
-      canonical-most (baseIn k xs) (left k xs) (left-canonical k xs bs) (omega (arith, left-proper k xs bs h .base-fits)),
+      canonical-most (baseIn k xs) (recordsLeft k xs) (left-canonical k xs bs) (omega (arith, left-proper k xs bs h .base-fits)),
     )
   where
     head-most : (k : Kind) → headSize k ≤ ownedHead
@@ -156,7 +171,8 @@ of-answers : (xs : List ℕ) (r : Repaired) (P : List ℕ → Repaired → Type 
     → ((k : Kind) → headSize k ≤ length xs → P xs (record { bytes = bytesOf (flagsLeft k xs); lines = linesOf k xs })) → Answered xs r → P xs r
 of-answers xs r P none-given some-given (no-bytes e q) = rw (e, q) none-given
 of-answers xs r P none-given some-given (some-bytes k a) =
-    let q : r ≡ record { bytes = bytesOf (flagsLeft k xs); lines = linesOf k xs } = (λ z. record { bytes = a .bytes-are z; lines = a .lines-are z }) in
+    let q : r ≡ record { bytes = bytesOf (flagsLeft k xs); lines = linesOf k xs } =
+    (λ z. record { bytes = a .bytes-are z; lines = a .lines-are z }) in
     rw q (some-given k (a .head-inside))
 
 -- THE ANSWER IS NEVER LONGER THAN THE INPUT

@@ -13,12 +13,13 @@ use lib.ListN.{length, getD, set, length-set}
 use lib.Seq.{getD-set-same, getD-set-other}
 use Rattle.records_spec.specs.declared.head.Kind.{Kind}
 use Rattle.repair_spec.specs.Olds.{Old}
-use Rattle.repair_spec.specs.Standing.{fits}
+use Rattle.repair_spec.specs.Standing.{oldFits}
 use Rattle.repair_spec.specs.Changes.{Line, again, someAbove, dropped, recordLines, keeping, linesAfter}
 use Rattle.repair_spec.specs.Steps.{allEpochs, marks, higher, linesBy}
 use Rattle.repair_spec.specs.declared.change.Change.{Change}
 use Rattle.repair_spec.proofs.Chains.{Link, Chain}
-use Rattle.repair_spec.proofs.Fitting.{Fits, fits-yes, Fate, too-large, too-low, comes-again, stays, fate, dropped-large, dropped-low, again-none, again-no, again-yes}
+use Rattle.repair_spec.proofs.Fitting.{Fits, fits-yes, Fate, too-large, too-low, comes-again, stays, fate, dropped-large, dropped-low}
+use Rattle.repair_spec.proofs.Fitting.{again-none, again-no, again-yes}
 use Rattle.repair_spec.proofs.Holding.{Short}
 use Rattle.repair_spec.proofs.Marks.{marked-long}
 
@@ -27,7 +28,7 @@ no-true e = let z : _≡_ {A = ℕ} 0 1 = cc in omega arith
 
 -- a table with a record's mark, if this fits
 abbrev pub marked : (Old → ℕ) → ℕ → Old → List ℕ → List ℕ
-marked give base o t = cond (fits base o) (set t (o .epoch) (give o)) t
+marked give base o t = cond (oldFits base o) (set t (o .epoch) (give o)) t
 
 -- a record's offset
 abbrev offset : Old → ℕ
@@ -37,10 +38,10 @@ offset o = o .offset
 
 module _ (base e : ℕ) where
   -- one that does not fit, or has another epoch, leaves the table there
-  mark-beside : (give : Old → ℕ) (t : List ℕ) (o : Old) → (fits base o && eqb e (o .epoch)) ≡ false → getD (marked give base o t) e 0 ≡ getD t e 0
-  mark-beside give t o q = by (fits base o) refl
+  mark-beside : (give : Old → ℕ) (t : List ℕ) (o : Old) → (oldFits base o && eqb e (o .epoch)) ≡ false → getD (marked give base o t) e 0 ≡ getD t e 0
+  mark-beside give t o q = by (oldFits base o) refl
     where
-      by : (b : Bool) → fits base o ≡ b → getD (cond b (set t (o .epoch) (give o)) t) e 0 ≡ getD t e 0
+      by : (b : Bool) → oldFits base o ≡ b → getD (cond b (set t (o .epoch) (give o)) t) e 0 ≡ getD t e 0
       by false p = refl
       by true p =
           let n : eqb e (o .epoch) ≡ false = sym (ap (λ (x : Bool). x && eqb e (o .epoch)) p) ∙ q in
@@ -55,12 +56,13 @@ module _ (base e : ℕ) where
       marks-beside give (marked give base o t) os (s .1) ∙ mark-beside give t o (s .0)
 
   -- where one comes again, the table has an offset from the first record on
-  marks-later : (k : Kind) (d : List ℕ) (lo : ℕ) (os : List Old) (c : Option ℕ) (t : List ℕ) → allEpochs ≤ length t → Chain k d lo os c → Short os → again base e os ≡ true
+  marks-later : (k : Kind) (d : List ℕ) (lo : ℕ) (os : List Old) (c : Option ℕ) (t : List ℕ) → allEpochs ≤ length t → Chain k d lo os c → Short os
+      → again base e os ≡ true
       → lo ≤ getD (marks offset base t os) e 0
   unfolding marks
   marks-later k d lo [] c t l ch s h = absurd (no-true (sym h ∙ again-none base e))
   marks-later k d lo (o ∷ os) c t l ch s h =
-      let m : allEpochs ≤ length (marked offset base o t) = omega (arith, marked-long (fits base o) t (o .epoch) (o .offset)) in
+      let m : allEpochs ≤ length (marked offset base o t) = omega (arith, marked-long (oldFits base o) t (o .epoch) (o .offset)) in
       by (again base e os) refl (marks-later k d (lo + o .size) os c (marked offset base o t) m (ch .1) (s .1))
     where
       by : (a : Bool) → again base e os ≡ a → (again base e os ≡ true → lo + o .size ≤ getD (marks offset base (marked offset base o t) os) e 0)
@@ -69,21 +71,26 @@ module _ (base e : ℕ) where
       by false q later =
           let f = again-yes base e o os h q in
           let v : getD (marked offset base o t) e 0 ≡ o .offset =
-          ap₂ (λ (b : Bool) (i : ℕ). getD (cond b (set t (o .epoch) (o .offset)) t) i 0) (fits-yes base o (f .0)) (f .1) ∙ getD-set-same t (o .epoch) (o .offset) 0 (omega (arith, s .0)) in
+          ap₂ (λ (b : Bool) (i : ℕ). getD (cond b (set t (o .epoch) (o .offset)) t) i 0) (fits-yes base o (f .0)) (f .1)
+          ∙ getD-set-same t (o .epoch) (o .offset) 0 (omega (arith, s .0)) in
           omega (arith, marks-beside offset (marked offset base o t) os q, ch .0 .starts)
 
 -- the table has a record's offset exactly where it does not come again
-stands : (base : ℕ) (k : Kind) (d : List ℕ) (o : Old) (os : List Old) (c : Option ℕ) (t : List ℕ) → allEpochs ≤ length t → Chain k d (o .offset) (o ∷ os) c → Short (o ∷ os) → Fits base o
+stands : (base : ℕ) (k : Kind) (d : List ℕ) (o : Old) (os : List Old) (c : Option ℕ) (t : List ℕ) → allEpochs ≤ length t
+    → Chain k d (o .offset) (o ∷ os) c → Short (o ∷ os) → Fits base o
     → not (eqb (getD (marks offset base t (o ∷ os)) (o .epoch) 0) (o .offset)) ≡ again base (o .epoch) os
 unfolding marks
 stands base k d o os c t l ch s f = rw (fits-yes base o f) (by (again base (o .epoch) os) refl)
   where
-    by : (a : Bool) → again base (o .epoch) os ≡ a → not (eqb (getD (marks offset base (set t (o .epoch) (o .offset)) os) (o .epoch) 0) (o .offset)) ≡ again base (o .epoch) os
+    by : (a : Bool) → again base (o .epoch) os ≡ a
+        → not (eqb (getD (marks offset base (set t (o .epoch) (o .offset)) os) (o .epoch) 0) (o .offset)) ≡ again base (o .epoch) os
     by true e =
-        let m = marks-later base (o .epoch) k d (o .offset + o .size) os c (set t (o .epoch) (o .offset)) (omega (arith, length-set t (o .epoch) (o .offset))) (ch .1) (s .1) e in
+        let m = marks-later base (o .epoch) k d (o .offset + o .size) os c (set t (o .epoch) (o .offset))
+        (omega (arith, length-set t (o .epoch) (o .offset))) (ch .1) (s .1) e in
         rw (e, ne-eqb (getD (marks offset base (set t (o .epoch) (o .offset)) os) (o .epoch) 0) (o .offset) (λ d. omega (arith, ch .0 .some-bytes)))
     by false e =
-        let m = marks-beside base (o .epoch) offset (set t (o .epoch) (o .offset)) os e ∙ getD-set-same t (o .epoch) (o .offset) 0 (omega (arith, s .0)) in
+        let m = marks-beside base (o .epoch) offset (set t (o .epoch) (o .offset)) os e
+        ∙ getD-set-same t (o .epoch) (o .offset) 0 (omega (arith, s .0)) in
         rw (e, eq-eqb (getD (marks offset base (set t (o .epoch) (o .offset)) os) (o .epoch) 0) (o .offset) m)
 
 -- ---- the highest kept epoch
@@ -101,7 +108,12 @@ highest-kept none o before h s e = rw s (by (decLt e (o .epoch)) (decLt (o .epoc
     by (yes p) (yes q) = rw (lt-ltb e (o .epoch) p, lt-ltb (o .epoch) h q, lt-ltb e h (omega arith))
     by (yes p) (no q) = rw (lt-ltb e (o .epoch) p, le-ltb (o .epoch) h (omega arith), lt-ltb e (o .epoch) p)
     by (no p) (yes q) = rw (le-ltb e (o .epoch) (omega arith), lt-ltb (o .epoch) h q)
-    by (no p) (no q) = rw (le-ltb e (o .epoch) (omega arith), le-ltb (o .epoch) h (omega arith), le-ltb e h (omega arith), le-ltb e (o .epoch) (omega arith))
+    by (no p) (no q) = rw (
+      le-ltb e (o .epoch) (omega arith),
+      le-ltb (o .epoch) h (omega arith),
+      le-ltb e h (omega arith),
+      le-ltb e (o .epoch) (omega arith),
+    )
 
 highest-none : Highest [] 0
 unfolding someAbove
@@ -110,7 +122,8 @@ highest-none e = sym (le-ltb e 0 (omega arith))
 -- ---- the lines
 
 -- whether and why a record is dropped, by the table as by the definition
-dropped-same : (base : ℕ) (k : Kind) (d : List ℕ) (o : Old) (os : List Old) (c : Option ℕ) (t : List ℕ) → allEpochs ≤ length t → Chain k d (o .offset) (o ∷ os) c → Short (o ∷ os)
+dropped-same : (base : ℕ) (k : Kind) (d : List ℕ) (o : Old) (os : List Old) (c : Option ℕ) (t : List ℕ) → allEpochs ≤ length t
+    → Chain k d (o .offset) (o ∷ os) c → Short (o ∷ os)
     → dropped base (not (eqb (getD (marks offset base t (o ∷ os)) (o .epoch) 0) (o .offset))) o ≡ dropped base (again base (o .epoch) os) o
 dropped-same base k d o os c t l ch s = by (fate base o (again base (o .epoch) os))
   where
@@ -126,19 +139,23 @@ dropped-same base k d o os c t l ch s = by (fate base o (again base (o .epoch) o
     by (comes-again f q p) = fitting f
     by (stays f q p) = fitting f
 
-lines-same : (base : ℕ) (k : Kind) (d : List ℕ) (at : ℕ) (os : List Old) (c : Option ℕ) (t : List ℕ) (before : List ℕ) (h : ℕ) → allEpochs ≤ length t → Chain k d at os c → Short os → Highest before h
+lines-same : (base : ℕ) (k : Kind) (d : List ℕ) (at : ℕ) (os : List Old) (c : Option ℕ) (t : List ℕ) (before : List ℕ) (h : ℕ) → allEpochs ≤ length t
+    → Chain k d at os c → Short os → Highest before h
     → linesBy base (marks offset base t os) h os ≡ linesAfter base before os
 unfolding linesBy linesAfter marks
 lines-same base k d at [] c t before h l ch s g = refl
 lines-same base k d at (o ∷ os) c t before h l ch s g =
     let ch′ : Chain k d (o .offset) (o ∷ os) c = subst (λ (i : ℕ). Link d i o × Chain k d (i + o .size) os c) (sym (ch .0 .starts)) ch in
     let x = dropped base (again base (o .epoch) os) o in
-    let m : allEpochs ≤ length (marked offset base o t) = omega (arith, marked-long (fits base o) t (o .epoch) (o .offset)) in
-    ap₂ (λ (y : Option Change) (b : Bool). recordLines y b o ++ linesBy base (marks offset base (marked offset base o t) os) (higher y o h) os) (dropped-same base k d o os c t l ch′ s) (sym (g (o .epoch)))
+    let m : allEpochs ≤ length (marked offset base o t) = omega (arith, marked-long (oldFits base o) t (o .epoch) (o .offset)) in
+    ap₂ (λ (y : Option Change) (b : Bool). recordLines y b o ++ linesBy base (marks offset base (marked offset base o t) os) (higher y o h) os)
+    (dropped-same base k d o os c t l ch′ s) (sym (g (o .epoch)))
     ∙ ap (λ (ls : List Line). recordLines x (someAbove (o .epoch) before) o ++ ls)
-    (lines-same base k d (at + o .size) os c (marked offset base o t) (keeping x o before) (higher x o h) m (ch .1) (s .1) (highest-kept x o before h g))
+    (lines-same base k d (at + o .size) os c (marked offset base o t) (keeping x o before) (higher x o h) m (ch .1) (s .1)
+    (highest-kept x o before h g))
 
 -- THE LINES BY THE TABLE ARE THOSE OF THE DEFINITION
-pub by-table : (base : ℕ) (k : Kind) (d : List ℕ) (at : ℕ) (os : List Old) (c : Option ℕ) (t : List ℕ) → allEpochs ≤ length t → Chain k d at os c → Short os
+pub by-table : (base : ℕ) (k : Kind) (d : List ℕ) (at : ℕ) (os : List Old) (c : Option ℕ) (t : List ℕ) → allEpochs ≤ length t → Chain k d at os c
+    → Short os
     → linesBy base (marks (λ (o : Old). o .offset) base t os) 0 os ≡ linesAfter base [] os
 by-table base k d at os c t l ch s = lines-same base k d at os c t [] 0 l ch s highest-none

@@ -13,7 +13,8 @@ use Rattle.fields_spec.specs.Writing.{Put}
 use Rattle.fields_spec.proofs.RoundTrip.{Bytes}
 use Rattle.records_spec.specs.Flags.{Flags, flags, multi, kindOfByte}
 use Rattle.records_spec.specs.Tables.{At, over}
-use Rattle.records_spec.specs.Answers.{Answer, ok}
+use Rattle.records_spec.specs.Outcomes.{Answer, ok, after}
+use Rattle.records_spec.specs.Refusals.{number}
 use Rattle.records_spec.specs.declared.head.Kind.{Kind}
 use Rattle.records_spec.specs.declared.head.KindByte.{KindByte}
 use Rattle.records_spec.specs.declared.head.KindByte.the-variants.{Known, Unknown}
@@ -23,8 +24,8 @@ use Rattle.records_spec.proofs.Tables.{over-sets}
 use Rattle.codec_spec.specs.Bytes.{headSize}
 use Rattle.codec_spec.specs.Reading.{Fault, noFlags, someFlags, refusedAt, withRecords, baseIn, ownerIn, recordsIn, readAs, readByte, read}
 use Rattle.repair_spec.specs.Repairing.{Repaired, repaired, repairedAs, repairedByte}
-use Rattle.repair_spec.specs.Calls.{shown, offsetsOf, changesOf, after, repairedInto}
-use Rattle.repair_spec.specs.declared.repairing.Outcome.the-variants.{Done, Refused}
+use Rattle.repair_spec.specs.Calls.{offsetsOf, changesOf, repairedInto, placingRepair, repairLent, toldRepair}
+use Rattle.repair_spec.specs.declared.repairing.AnsweredRepair.the-variants.{Done, Refused}
 use Rattle.repair_spec.proofs.CanonicalBack.{canonical-back, nothing-back}
 use Rattle.repair_spec.proofs.Finishing.{after-placed, after-long, after-refused}
 
@@ -43,7 +44,8 @@ as-flags k xs = by (multi k) (leb (headSize k) (length xs)) (eqb (length xs) (he
     end = length xs
 
     by : (b c d : Bool) (f : Option Fault) (rs : List At)
-        → cond b (cond c (withRecords end (baseIn k xs) (ownerIn k xs) f rs) (refusedAt WrongSize end)) (cond d (someFlags (flags (baseIn k xs) (ownerIn k xs) [])) (refusedAt WrongSize end)) ≡ noFlags → ⊥
+        → cond b (cond c (withRecords end (baseIn k xs) (ownerIn k xs) f rs) (refusedAt WrongSize end))
+        (cond d (someFlags (flags (baseIn k xs) (ownerIn k xs) [])) (refusedAt WrongSize end)) ≡ noFlags → ⊥
     by true true d (some f) rs e = let z : _≡_ {A = ℕ} 0 1 = cc in omega arith
     by true true d none [] e = let z : _≡_ {A = ℕ} 0 1 = cc in omega arith
     by true true d none (r ∷ rs) e = let z : _≡_ {A = ℕ} 0 1 = cc in omega arith
@@ -62,14 +64,16 @@ nothing-read (x ∷ xs) e = absurd (by (kindOfByte x) e)
     by Unknown q = let z : _≡_ {A = ℕ} 0 1 = cc in omega arith
 
 module _ (xs out os cs : List ℕ) where
-  pub call-nothing : read xs ≡ noFlags → shown (Done 0 0) out os cs ≡ repairedInto xs out os cs
+  pub call-nothing : read xs ≡ noFlags → after (toldRepair (Done 0 0)) (repairLent out os cs) ≡ repairedInto xs (repairLent out os cs)
   unfolding offsetsOf changesOf
   call-nothing e =
-      sym (ap (λ (a : Answer Repaired). after a out os cs) (nothing-read xs e)
-      ∙ after-placed (record { bytes = []; lines = [] }) out os cs (omega arith) (simp (le-leb 0 (length os) (omega arith), le-leb 0 (length cs) (omega arith))))
+      sym (ap (λ (a : Answer Repaired). placingRepair a (repairLent out os cs)) (nothing-read xs e)
+      ∙ after-placed (record { bytes = []; lines = [] }) out os cs (omega arith)
+      (simp (le-leb 0 (length os) (omega arith), le-leb 0 (length cs) (omega arith))))
 
-  pub call-canonical : (f : Flags) → Bytes xs → read xs ≡ someFlags f → after (ok (record { bytes = xs; lines = [] })) out os cs ≡ repairedInto xs out os cs
-  call-canonical f bs e = sym (ap (λ (a : Answer Repaired). after a out os cs) (canonical-back xs f bs e))
+  pub call-canonical : (f : Flags) → Bytes xs → read xs ≡ someFlags f
+      → placingRepair (ok (record { bytes = xs; lines = [] })) (repairLent out os cs) ≡ repairedInto xs (repairLent out os cs)
+  call-canonical f bs e = sym (ap (λ (a : Answer Repaired). placingRepair a (repairLent out os cs)) (canonical-back xs f bs e))
 
   by-byte : 0 < length xs → repaired xs ≡ repairedByte (kindOfByte (getD xs 0 0)) xs
   unfolding repaired
@@ -80,27 +84,35 @@ module _ (xs out os cs : List ℕ) where
       by (x ∷ xs) h = refl
 
   module _ (h : 0 < length xs) where
-    pub call-known : (k : Kind) → kindOfByte (getD xs 0 0) ≡ Known k → after (repairedAs k xs) out os cs ≡ repairedInto xs out os cs
-    call-known k e = sym (ap (λ (a : Answer Repaired). after a out os cs) (by-byte h ∙ ap (λ (b : KindByte). repairedByte b xs) e))
+    pub call-known : (k : Kind) → kindOfByte (getD xs 0 0) ≡ Known k
+        → placingRepair (repairedAs k xs) (repairLent out os cs) ≡ repairedInto xs (repairLent out os cs)
+    call-known k e = sym (ap (λ (a : Answer Repaired). placingRepair a (repairLent out os cs))
+        (by-byte h ∙ ap (λ (b : KindByte). repairedByte b xs) e))
 
-    pub call-unknown : kindOfByte (getD xs 0 0) ≡ Unknown → shown (Refused UnknownType) out os cs ≡ repairedInto xs out os cs
+    pub call-unknown : kindOfByte (getD xs 0 0) ≡ Unknown
+        → after (toldRepair (Refused UnknownType)) (repairLent out os cs) ≡ repairedInto xs (repairLent out os cs)
     call-unknown e =
-        sym (ap (λ (a : Answer Repaired). after a out os cs) (by-byte h ∙ ap (λ (b : KindByte). repairedByte b xs) e) ∙ after-refused 1 out os cs)
+        sym (ap (λ (a : Answer Repaired). placingRepair a (repairLent out os cs)) (by-byte h ∙ ap (λ (b : KindByte). repairedByte b xs) e)
+        ∙ after-refused (number UnknownType) out os cs)
 
-  pub call-short : (k : Kind) → length xs < headSize k → shown (Refused WrongSize) out os cs ≡ after (repairedAs k xs) out os cs
+  pub call-short : (k : Kind) → length xs < headSize k
+      → after (toldRepair (Refused WrongSize)) (repairLent out os cs) ≡ placingRepair (repairedAs k xs) (repairLent out os cs)
   unfolding repairedAs
-  call-short k h = rw (lt-leb (headSize k) (length xs) h) (sym (after-refused 2 out os cs))
+  call-short k h = rw (lt-leb (headSize k) (length xs) h) (sym (after-refused (number WrongSize) out os cs))
 
 -- ---- canonical bytes
 
 module _ (xs out os cs : List ℕ) where
-  pub kept-long : length out < length xs → shown (Refused NoRoom) out os cs ≡ after (ok (record { bytes = xs; lines = [] })) out os cs
+  pub kept-long : length out < length xs → after (toldRepair (Refused NoRoom)) (repairLent out os cs)
+      ≡ placingRepair (ok (record { bytes = xs; lines = [] })) (repairLent out os cs)
   kept-long h = sym (after-long (record { bytes = xs; lines = [] }) out os cs h)
 
-  pub kept-whole : (n : ℕ) (out′ : List ℕ) → length xs ≤ length out → Put xs 0 n out out′ → shown (Done n 0) out′ os cs ≡ after (ok (record { bytes = xs; lines = [] })) out os cs
+  pub kept-whole : (n : ℕ) (out′ : List ℕ) → length xs ≤ length out → Put xs 0 n out out′
+      → after (toldRepair (Done n 0)) (repairLent out′ os cs) ≡ placingRepair (ok (record { bytes = xs; lines = [] })) (repairLent out os cs)
   unfolding offsetsOf changesOf
   kept-whole n out′ h p =
       let e : n ≡ length xs = omega (arith, p .behind) in
       let o : out′ ≡ over xs out = p .wrote ∙ over-sets xs out h in
-      (λ z. shown (Done (e z) 0) (o z) os cs)
-      ∙ sym (after-placed (record { bytes = xs; lines = [] }) out os cs h (simp (le-leb 0 (length os) (omega arith), le-leb 0 (length cs) (omega arith))))
+      (λ z. after (toldRepair (Done (e z) 0)) (repairLent (o z) os cs))
+      ∙ sym (after-placed (record { bytes = xs; lines = [] }) out os cs h
+      (simp (le-leb 0 (length os) (omega arith), le-leb 0 (length cs) (omega arith))))

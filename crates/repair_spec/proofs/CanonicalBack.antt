@@ -14,7 +14,7 @@ use Rattle.fields_spec.proofs.Varints.{length-five}
 use Rattle.fields_spec.proofs.RoundTrip.{Bytes, found-inv}
 use Rattle.records_spec.specs.Tables.{At, _⦂_, put}
 use Rattle.records_spec.specs.Flags.{Flags, flags, multi, kindOfByte}
-use Rattle.records_spec.specs.Answers.{ok}
+use Rattle.records_spec.specs.Outcomes.{ok}
 use Rattle.records_spec.specs.declared.head.Kind.{Kind}
 use Rattle.records_spec.specs.declared.head.KindByte.{KindByte}
 use Rattle.records_spec.specs.declared.head.KindByte.the-variants.{Known, Unknown}
@@ -29,10 +29,11 @@ use Rattle.codec_spec.proofs.Canonical.{Proper, read-back, read-canonical}
 use Rattle.repair_spec.specs.Olds.{Old, oldAt}
 use Rattle.repair_spec.specs.Standing.{mapOnto, mapOf}
 use Rattle.repair_spec.specs.Changes.{again, linesAfter, cutLine}
-use Rattle.repair_spec.specs.Repairing.{oldsIn, left, flagsLeft, kindLine, linesOf, repairedAs, repairedByte, repaired}
+use Rattle.repair_spec.specs.Repairing.{oldsIn, recordsLeft, flagsLeft, kindLine, linesOf, repairedAs, repairedByte, repaired}
 use Rattle.repair_spec.proofs.Reading.{oldThere, old-there}
 use Rattle.repair_spec.proofs.Chains.{Link, Ends, Chain, all-read, bytes-left, read-chain}
-use Rattle.repair_spec.proofs.Fitting.{Fits, dropped-fits, again-none, again-past, lines-none, lines-kept, Under, under-none, under-cons, under-more, map-none, map-fits}
+use Rattle.repair_spec.proofs.Fitting.{Fits, dropped-fits, again-none, again-past, lines-none, lines-kept, Under, under-none, under-cons}
+use Rattle.repair_spec.proofs.Fitting.{under-more, map-none, map-fits}
 
 -- ---- old records as canonical ones are
 
@@ -52,7 +53,8 @@ plain-lines base prev before [] h u p = lines-none base before
 plain-lines base prev before (o ∷ os) h u p =
     let f : Fits base o = record { small = p .1; above = omega arith } in
     let v : Under (o .epoch) before = under-more prev (o .epoch) before (omega arith) u in
-    lines-kept base before o os (dropped-fits base o (again base (o .epoch) os) f ∙ rw (plain-again base (o .epoch) (o .epoch) os (omega arith) (p .3)))
+    lines-kept base before o os (dropped-fits base o (again base (o .epoch) os) f
+    ∙ rw (plain-again base (o .epoch) (o .epoch) os (omega arith) (p .3)))
     ∙ simp (v, le-ltb (length (recordBytes (o .epoch ⦂ o .count))) (o .size) (omega (arith, p .2)))
     (plain-lines base (o .epoch) (o .epoch ∷ before) os (omega arith) (under-cons (o .epoch) (o .epoch) before (omega arith) v) (p .3))
 
@@ -68,7 +70,8 @@ plain-past base prev r m (o ∷ os) h l p =
     ∙ ap (λ (x : List At). r ∷ x) (sym (map-fits base m o os f))
 
 -- so the first comes first
-plain-first : (base : ℕ) (o : Old) (os : List Old) → base < o .epoch → o .count ≤ largest → Plain (o .epoch) os → mapOf base (o ∷ os) ≡ o .epoch ⦂ o .count ∷ mapOf base os
+plain-first : (base : ℕ) (o : Old) (os : List Old) → base < o .epoch → o .count ≤ largest → Plain (o .epoch) os
+    → mapOf base (o ∷ os) ≡ o .epoch ⦂ o .count ∷ mapOf base os
 unfolding put
 plain-first base o os h c p =
     map-fits base [] o os (record { small = c; above = h }) ∙ plain-past base (o .epoch) (o .epoch ⦂ o .count) [] os (omega arith) (omega arith) p
@@ -159,15 +162,17 @@ kind-stays k (r ∷ rs) h = refl
 
 -- the records that are read are left, and there is no line
 record Stays (k : Kind) (xs : List ℕ) (rs : List At) : Type 0 where
-  pub left-is : left k xs ≡ rs
+  pub left-is : recordsLeft k xs ≡ rs
   pub no-line : linesOf k xs ≡ []
 
 -- the head is inside
-pub repaired-long : (k : Kind) (xs : List ℕ) → headSize k ≤ length xs → repairedAs k xs ≡ ok (record { bytes = bytesOf (flagsLeft k xs); lines = linesOf k xs })
+pub repaired-long : (k : Kind) (xs : List ℕ) → headSize k ≤ length xs
+    → repairedAs k xs ≡ ok (record { bytes = bytesOf (flagsLeft k xs); lines = linesOf k xs })
 unfolding repairedAs
 repaired-long k xs h = rw (le-leb (headSize k) (length xs) h)
 
-stays-repaired : (k : Kind) (xs : List ℕ) (f : Flags) (rs : List At) → headSize k ≤ length xs → f ≡ flags (baseIn k xs) (ownerIn k xs) rs → Stays k xs rs
+stays-repaired : (k : Kind) (xs : List ℕ) (f : Flags) (rs : List At) → headSize k ≤ length xs → f ≡ flags (baseIn k xs) (ownerIn k xs) rs
+    → Stays k xs rs
     → repairedAs k xs ≡ ok (record { bytes = bytesOf f; lines = [] })
 stays-repaired k xs f rs h e s =
     repaired-long k xs h
@@ -180,12 +185,13 @@ unfolding mapOnto linesAfter
 stays-single k xs m h = record { left-is = rw m; no-line = simp (m, le-ltb (headSize k) (length xs) (omega arith)) }
 
 -- kinds 1 and 3: at least one record, and none at fault
-stays-multi : (k : Kind) (xs : List ℕ) → multi k ≡ true → recordsIn k xs .fault ≡ none → 1 ≤ length (recordsIn k xs .records) → Stays k xs (recordsIn k xs .records)
+stays-multi : (k : Kind) (xs : List ℕ) → multi k ≡ true → recordsIn k xs .fault ≡ none → 1 ≤ length (recordsIn k xs .records)
+    → Stays k xs (recordsIn k xs .records)
 stays-multi k xs m z h =
     let base = baseIn k xs in
     let os = oldsIn k xs .records in
     let s = chain-same k xs base m (headSize k) base os (oldsIn k xs .cut) (omega arith) (read-chain k xs) z in
-    let no-kind : kindLine k (left k xs) ≡ [] = kind-stays k (left k xs) (rw (s .same) h) in
+    let no-kind : kindLine k (recordsLeft k xs) ≡ [] = kind-stays k (recordsLeft k xs) (rw (s .same) h) in
     let no-record : linesAfter base [] os ≡ [] = plain-lines base base [] os (omega arith) (under-none base) (s .plain) in
     record { left-is = s .same; no-line = λ i. no-kind i ++ (no-record i ++ cutLine (s .uncut i)) }
 

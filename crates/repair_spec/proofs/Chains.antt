@@ -71,7 +71,8 @@ pub record Stands (k : Kind) (d : List ℕ) (at : ℕ) (o : Old) (later : List O
   pub link : Link d (o .offset) o
   pub behind : Chain k d (o .offset + o .size) later c
 
-pub chain-split : (k : Kind) (d : List ℕ) (at : ℕ) (earlier : List Old) (o : Old) (later : List Old) (c : Option ℕ) → Chain k d at (earlier ++ (o ∷ later)) c
+pub chain-split : (k : Kind) (d : List ℕ) (at : ℕ) (earlier : List Old) (o : Old) (later : List Old) (c : Option ℕ)
+    → Chain k d at (earlier ++ (o ∷ later)) c
     → Stands k d at o later c
 chain-split k d at [] o later c p =
     let s : at ≡ o .offset = sym (p .0 .starts) in

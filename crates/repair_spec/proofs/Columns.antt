@@ -38,16 +38,19 @@ pub listed-none : (k : ℕ) (os cs : List ℕ) → Listed [] k k os cs os cs
 unfolding offsetsOf changesOf
 listed-none k os cs = record { behind = sym (add-zero k); offsets-set = refl; changes-set = refl }
 
-pub listed-one : (at : ℕ) (c : Change) (k : ℕ) (os cs os′ cs′ : List ℕ) → os′ ≡ set os k at → cs′ ≡ set cs k (changeNumber c) → Listed (line at c ∷ []) k (k + 1) os cs os′ cs′
+pub listed-one : (at : ℕ) (c : Change) (k : ℕ) (os cs os′ cs′ : List ℕ) → os′ ≡ set os k at → cs′ ≡ set cs k (changeNumber c)
+    → Listed (line at c ∷ []) k (k + 1) os cs os′ cs′
 unfolding offsetsOf changesOf
 listed-one at c k os cs os′ cs′ p q = record { behind = refl; offsets-set = p; changes-set = q }
 
 -- a column that is written behind another
-column-then : (xs ys : List ℕ) (k n m : ℕ) (old mid new : List ℕ) → n ≡ k + m → length xs ≡ m → mid ≡ sets old k xs → new ≡ sets mid n ys → new ≡ sets old k (xs ++ ys)
+column-then : (xs ys : List ℕ) (k n m : ℕ) (old mid new : List ℕ) → n ≡ k + m → length xs ≡ m → mid ≡ sets old k xs → new ≡ sets mid n ys
+    → new ≡ sets old k (xs ++ ys)
 column-then xs ys k n m old mid new en em e f =
     f ∙ ap₂ (λ (l : List ℕ) (i : ℕ). sets l i ys) e (en ∙ ap (λ (j : ℕ). k + j) (sym em)) ∙ sym (sets-append xs ys old k)
 
-pub listed-then : {ls ms : List Line} {k n m : ℕ} {os cs os′ cs′ os″ cs″ : List ℕ} → Listed ls k n os cs os′ cs′ → Listed ms n m os′ cs′ os″ cs″ → Listed (ls ++ ms) k m os cs os″ cs″
+pub listed-then : {ls ms : List Line} {k n m : ℕ} {os cs os′ cs′ os″ cs″ : List ℕ} → Listed ls k n os cs os′ cs′ → Listed ms n m os′ cs′ os″ cs″
+    → Listed (ls ++ ms) k m os cs os″ cs″
 listed-then {ls} {ms} {k} {n} {m} {os} {cs} p q =
     record {
       behind = omega (arith, p .behind, q .behind, length-append ls ms);
@@ -60,7 +63,8 @@ listed-then {ls} {ms} {k} {n} {m} {os} {cs} p q =
     }
 
 -- both columns are as long as they were
-pub listed-long : {ls : List Line} {k n : ℕ} {os cs os′ cs′ : List ℕ} → Listed ls k n os cs os′ cs′ → (length os′ ≡ length os) × (length cs′ ≡ length cs)
+pub listed-long : {ls : List Line} {k n : ℕ} {os cs os′ cs′ : List ℕ} → Listed ls k n os cs os′ cs′
+    → (length os′ ≡ length os) × (length cs′ ≡ length cs)
 listed-long {ls} {k} {n} {os} {cs} p =
     (ap length (p .offsets-set) ∙ length-sets os k (offsetsOf ls), ap length (p .changes-set) ∙ length-sets cs k (changesOf ls))
 
@@ -75,7 +79,8 @@ going-start all at os cs = record { then = λ n os′ cs′ l. l; offsets-long =
 
 module _ {all left : List Line} {at k : ℕ} {os₀ cs₀ os cs : List ℕ} (g : Going all at os₀ cs₀ left k os cs) where
   -- some lines more
-  pub going-more : (ls rest : List Line) (j : ℕ) (os′ cs′ : List ℕ) → left ≡ ls ++ rest → Listed ls k j os cs os′ cs′ → Going all at os₀ cs₀ rest j os′ cs′
+  pub going-more : (ls rest : List Line) (j : ℕ) (os′ cs′ : List ℕ) → left ≡ ls ++ rest → Listed ls k j os cs os′ cs′
+      → Going all at os₀ cs₀ rest j os′ cs′
   going-more ls rest j os′ cs′ e l =
       record {
         then = λ n os″ cs″ m. g .then n os″ cs″ (rw e (listed-then l m));

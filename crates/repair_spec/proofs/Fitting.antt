@@ -13,7 +13,7 @@ use Rattle.fields_spec.specs.Varint.{largest}
 use Rattle.records_spec.specs.Tables.{At, _⦂_, put}
 use Rattle.codec_spec.specs.Bytes.{recordBytes}
 use Rattle.repair_spec.specs.Olds.{Old}
-use Rattle.repair_spec.specs.Standing.{fits, mapOnto}
+use Rattle.repair_spec.specs.Standing.{oldFits, mapOnto}
 use Rattle.repair_spec.specs.Changes.{Line, again, someAbove, dropped, keptLines, recordLines, keeping, linesAfter}
 use Rattle.repair_spec.specs.declared.change.Change.{Change}
 use Rattle.repair_spec.specs.declared.change.Change.the-variants.{TooLarge, NotAboveBase, Replaced}
@@ -31,25 +31,25 @@ pub record Fits (base : ℕ) (o : Old) : Type 0 where
   pub above : base < o .epoch
 
 module _ (base : ℕ) (o : Old) where
-  pub fits-yes : Fits base o → fits base o ≡ true
+  pub fits-yes : Fits base o → oldFits base o ≡ true
   fits-yes f = simp (le-leb (o .count) largest (f .small), lt-ltb base (o .epoch) (f .above))
 
-  pub fits-inv : fits base o ≡ true → Fits base o
+  pub fits-inv : oldFits base o ≡ true → Fits base o
   fits-inv e =
       let p = and-eq-true-iff (leb (o .count) largest) (ltb base (o .epoch)) .0 e in
       record { small = leb-true (o .count) largest (p .0); above = ltb-true base (o .epoch) (p .1) }
 
-  pub fits-cases : {P : Type 0} → (Fits base o → P) → (fits base o ≡ false → P) → P
-  fits-cases {P} y n = by (fits base o) refl
+  pub fits-cases : {P : Type 0} → (Fits base o → P) → (oldFits base o ≡ false → P) → P
+  fits-cases {P} y n = by (oldFits base o) refl
     where
-      by : (b : Bool) → fits base o ≡ b → P
+      by : (b : Bool) → oldFits base o ≡ b → P
       by true e = y (fits-inv e)
       by false e = n e
 
   -- what becomes of a record, by whether a later one replaces it
   pub data Fate (replaced : Bool) : Type 0 where
-    too-large : largest < o .count → dropped base replaced o ≡ some TooLarge → fits base o ≡ false → Fate replaced
-    too-low : o .count ≤ largest → o .epoch ≤ base → dropped base replaced o ≡ some NotAboveBase → fits base o ≡ false → Fate replaced
+    too-large : largest < o .count → dropped base replaced o ≡ some TooLarge → oldFits base o ≡ false → Fate replaced
+    too-low : o .count ≤ largest → o .epoch ≤ base → dropped base replaced o ≡ some NotAboveBase → oldFits base o ≡ false → Fate replaced
     comes-again : Fits base o → replaced ≡ true → dropped base replaced o ≡ some Replaced → Fate replaced
     stays : Fits base o → replaced ≡ false → dropped base replaced o ≡ none → Fate replaced
 
@@ -70,7 +70,8 @@ module _ (base : ℕ) (o : Old) where
           | no h ↦
               elim (decLt base (o .epoch)) [
                 | yes l ↦ by replaced refl (record { small = omega arith; above = l })
-                | no l ↦ too-low (omega arith) (omega arith) (dropped-low (omega arith) (omega arith)) (simp (le-ltb base (o .epoch) (omega arith), and-false))
+                | no l ↦ too-low (omega arith) (omega arith) (dropped-low (omega arith) (omega arith))
+                    (simp (le-ltb base (o .epoch) (omega arith), and-false))
               ]
         ]
       where
@@ -94,15 +95,15 @@ module _ (base e : ℕ) (o : Old) (os : List Old) where
   again-past h = simp (ne-eqb e (o .epoch) h, and-false)
 
   -- neither the first nor one behind it
-  pub again-no : again base e (o ∷ os) ≡ false → ((fits base o && eqb e (o .epoch)) ≡ false) × (again base e os ≡ false)
+  pub again-no : again base e (o ∷ os) ≡ false → ((oldFits base o && eqb e (o .epoch)) ≡ false) × (again base e os ≡ false)
   unfolding again
-  again-no = neither (fits base o && eqb e (o .epoch)) (again base e os)
+  again-no = neither (oldFits base o && eqb e (o .epoch)) (again base e os)
 
   -- the first, where none behind it is one
   pub again-yes : again base e (o ∷ os) ≡ true → again base e os ≡ false → Fits base o × (e ≡ o .epoch)
   unfolding again
   again-yes h n =
-      let p = and-eq-true-iff (fits base o) (eqb e (o .epoch)) .0 (first-holds (fits base o && eqb e (o .epoch)) (again base e os) h n) in
+      let p = and-eq-true-iff (oldFits base o) (eqb e (o .epoch)) .0 (first-holds (oldFits base o && eqb e (o .epoch)) (again base e os) h n) in
       (fits-inv base o (p .0), eqb-true e (o .epoch) (p .1))
 
 -- ---- the lines of a record and of those behind it
@@ -162,6 +163,6 @@ module _ (base : ℕ) (m : List At) (o : Old) (os : List Old) where
   unfolding mapOnto
   map-fits f = simp (fits-yes base o f)
 
-  pub map-not : fits base o ≡ false → mapOnto base m (o ∷ os) ≡ mapOnto base m os
+  pub map-not : oldFits base o ≡ false → mapOnto base m (o ∷ os) ≡ mapOnto base m os
   unfolding mapOnto
   map-not h = simp h

@@ -8,7 +8,7 @@ use mathlib.Core.List.{List, [], _∷_, _++_}
 use lib.Dec.{ltb}
 use borrow.Author.Tests.{lt-ltb, ltb-true, not-true}
 use Rattle.repair_spec.specs.Olds.{Old}
-use Rattle.repair_spec.specs.Standing.{fits}
+use Rattle.repair_spec.specs.Standing.{oldFits}
 use Rattle.repair_spec.specs.Changes.{again, someAbove, dropped, keeping}
 use Rattle.repair_spec.proofs.Among.{Among, among-first, among-behind}
 use Rattle.repair_spec.proofs.Either.{second-holds}
@@ -16,7 +16,7 @@ use Rattle.repair_spec.proofs.Fitting.{Fits, fits-yes, fits-inv, Fate, 
 
 -- whether a record is kept: it fits, and none of the later ones that fit has its epoch
 abbrev pub keeps : ℕ → Old → List Old → Bool
-keeps base o later = fits base o && not (again base (o .epoch) later)
+keeps base o later = oldFits base o && not (again base (o .epoch) later)
 
 -- whether some kept one of the earlier records has an epoch above e; later ones stand behind these
 abbrev pub higherKept : ℕ → ℕ → List Old → List Old → Bool
@@ -29,10 +29,11 @@ pub record Rises (base e : ℕ) (later : List Old) (o : Old) (between : List Old
   pub not-again : again base (o .epoch) (between ++ later) ≡ false
   pub above : e < o .epoch
 
-rises : (base e : ℕ) (later : List Old) (o : Old) (between : List Old) → (keeps base o (between ++ later) && ltb e (o .epoch)) ≡ true → Rises base e later o between
+rises : (base e : ℕ) (later : List Old) (o : Old) (between : List Old) → (keeps base o (between ++ later) && ltb e (o .epoch)) ≡ true
+    → Rises base e later o between
 rises base e later o between h =
     let p = and-eq-true-iff (keeps base o (between ++ later)) (ltb e (o .epoch)) .0 h in
-    let q = and-eq-true-iff (fits base o) (not (again base (o .epoch) (between ++ later))) .0 (p .0) in
+    let q = and-eq-true-iff (oldFits base o) (not (again base (o .epoch) (between ++ later))) .0 (p .0) in
     record {
       kept-fits = fits-inv base o (q .0);
       not-again = not-true (again base (o .epoch) (between ++ later)) (q .1);
@@ -52,7 +53,8 @@ higher-there base e (o ∷ earlier) later h = by (keeps base o (earlier ++ later
     by true q h ih = among-first (Rises base e later) o earlier (rises base e later o earlier q)
     by false q h ih = among-behind (Rises base e later) o earlier (ih h)
 
-higher-yes : (base e : ℕ) (xs : List Old) (o : Old) (between later : List Old) → Rises base e later o between → higherKept base e (xs ++ (o ∷ between)) later ≡ true
+higher-yes : (base e : ℕ) (xs : List Old) (o : Old) (between later : List Old) → Rises base e later o between
+    → higherKept base e (xs ++ (o ∷ between)) later ≡ true
 higher-yes base e [] o between later r = simp (fits-yes base o (r .kept-fits), r .not-again, lt-ltb e (o .epoch) (r .above))
 higher-yes base e (x ∷ xs) o between later r =
     rw (higher-yes base e xs o between later r) (second-holds (keeps base x (xs ++ (o ∷ between) ++ later) && ltb e (x .epoch)))
@@ -66,12 +68,14 @@ higher-kept base e earlier later = (
 
 -- as the lines go on from the epochs of those before
 pub keeping-above : (base e : ℕ) (before : List ℕ) (o : Old) (later : List Old)
-    → someAbove e (keeping (dropped base (again base (o .epoch) later) o) o before) ≡ cond (keeps base o later && ltb e (o .epoch)) true (someAbove e before)
+    → someAbove e (keeping (dropped base (again base (o .epoch) later) o) o before)
+    ≡ cond (keeps base o later && ltb e (o .epoch)) true (someAbove e before)
 unfolding someAbove
 keeping-above base e before o later = by (fate base o (again base (o .epoch) later))
   where
     by : Fate base o (again base (o .epoch) later)
-        → someAbove e (keeping (dropped base (again base (o .epoch) later) o) o before) ≡ cond (keeps base o later && ltb e (o .epoch)) true (someAbove e before)
+        → someAbove e (keeping (dropped base (again base (o .epoch) later) o) o before)
+        ≡ cond (keeps base o later && ltb e (o .epoch)) true (someAbove e before)
     by (too-large h d n) = simp (d, n)
     by (too-low h l d n) = simp (d, n)
     by (comes-again f a d) = rw d (simp (fits-yes base o f, a))

@@ -12,7 +12,7 @@ use Rattle.records_spec.proofs.Held.{has-none, has-put, held-put}
 use Rattle.records_spec.proofs.Unions.{put-cases}
 use Rattle.codec_spec.proofs.RoundTrip.{Canonical}
 use Rattle.repair_spec.specs.Olds.{Old}
-use Rattle.repair_spec.specs.Standing.{fits, mapOnto, mapOf}
+use Rattle.repair_spec.specs.Standing.{oldFits, mapOnto, mapOf}
 use Rattle.repair_spec.specs.Changes.{again}
 use Rattle.repair_spec.proofs.Among.{Among, among-first, among-behind}
 use Rattle.repair_spec.proofs.Either.{second-holds, first-alone, either-turn}
@@ -22,18 +22,18 @@ use Rattle.repair_spec.proofs.Fitting.{Fits, fits-yes, fits-cases, agai
 
 -- the map with a record, if this fits
 abbrev pub with : ℕ → Old → List At → List At
-with base o m = cond (fits base o) (put (o .epoch ⦂ o .count) m) m
+with base o m = cond (oldFits base o) (put (o .epoch ⦂ o .count) m) m
 
 module _ (base e : ℕ) (o : Old) (m : List At) where
-  pub has-with : has e (with base o m) ≡ cond (fits base o && eqb e (o .epoch)) true (has e m)
-  has-with = by (fits base o)
+  pub has-with : has e (with base o m) ≡ cond (oldFits base o && eqb e (o .epoch)) true (has e m)
+  has-with = by (oldFits base o)
     where
       by : (b : Bool) → has e (cond b (put (o .epoch ⦂ o .count) m) m) ≡ cond (b && eqb e (o .epoch)) true (has e m)
       by true = has-put e (o .epoch ⦂ o .count) m
       by false = refl
 
-  pub held-with : held e (with base o m) ≡ cond (fits base o && eqb e (o .epoch)) (o .count) (held e m)
-  held-with = by (fits base o)
+  pub held-with : held e (with base o m) ≡ cond (oldFits base o && eqb e (o .epoch)) (o .count) (held e m)
+  held-with = by (oldFits base o)
     where
       by : (b : Bool) → held e (cond b (put (o .epoch ⦂ o .count) m) m) ≡ cond (b && eqb e (o .epoch)) (o .count) (held e m)
       by true = held-put e (o .epoch ⦂ o .count) m
@@ -51,7 +51,8 @@ module _ (base : ℕ) where
   has-onto : (e : ℕ) (m : List At) (os : List Old) → has e (mapOnto base m os) ≡ cond (again base e os) true (has e m)
   unfolding mapOnto again
   has-onto e m [] = refl
-  has-onto e m (o ∷ os) = has-onto e (with base o m) os ∙ rw (has-with base e o m) (sym (either-turn (fits base o && eqb e (o .epoch)) (again base e os) (has e m)))
+  has-onto e m (o ∷ os) = has-onto e (with base o m) os
+      ∙ rw (has-with base e o m) (sym (either-turn (oldFits base o && eqb e (o .epoch)) (again base e os) (has e m)))
 
   -- records that do not fit, or are at other epochs, change nothing
   held-onto : (e : ℕ) (m : List At) (os : List Old) → again base e os ≡ false → held e (mapOnto base m os) ≡ held e m
@@ -88,7 +89,7 @@ last-there base e (o ∷ os) h = by (again base e os) refl (λ q. last-there bas
 again-behind : (base e : ℕ) (xs : List Old) (o : Old) (later : List Old) → Fits base o → e ≡ o .epoch → again base e (xs ++ (o ∷ later)) ≡ true
 unfolding again
 again-behind base e [] o later f h = again-here base e o later f h
-again-behind base e (x ∷ xs) o later f h = rw (again-behind base e xs o later f h) (second-holds (fits base x && eqb e (x .epoch)))
+again-behind base e (x ∷ xs) o later f h = rw (again-behind base e xs o later f h) (second-holds (oldFits base x && eqb e (x .epoch)))
 
 pub last-again : (base e : ℕ) (os : List Old) → Last base e os → again base e os ≡ true
 last-again base e os l = rw (l .split) (again-behind base e (l .earlier) (l .one) (l .later) (l .holds .last-fits) (l .holds .last-epoch))

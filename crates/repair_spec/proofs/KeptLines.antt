@@ -32,7 +32,8 @@ kept-listed o len moved e p q =
 kept-few : (moved : Bool) (o : Old) → 3 ≤ o .size → 2 * length (keptLines moved o) ≤ o .size
 kept-few moved o h = by (ltb (length (recordBytes (o .epoch ⦂ o .count))) (o .size)) refl
   where
-    by : (b : Bool) → ltb (length (recordBytes (o .epoch ⦂ o .count))) (o .size) ≡ b → 2 * length (lineIf b (o .offset) ReEncoded ++ lineIf moved (o .offset) Moved) ≤ o .size
+    by : (b : Bool) → ltb (length (recordBytes (o .epoch ⦂ o .count))) (o .size) ≡ b
+        → 2 * length (lineIf b (o .offset) ReEncoded ++ lineIf moved (o .offset) Moved) ≤ o .size
     by true e =
         let l = ltb-true (length (recordBytes (o .epoch ⦂ o .count))) (o .size) e in
         omega (arith, length-record (o .epoch ⦂ o .count), length-pos (o .count), line-if-short moved (o .offset) Moved)

@@ -29,16 +29,19 @@ module _ (base : ℕ) (ps : List ℕ) (highest : ℕ) (d : List ℕ) (at : ℕ) 
   dropping o = dropped base (not (eqb (getD ps (o .epoch) 0) (o .offset))) o
 
   lines-more : (o : Old) (next : ℕ) → Turn d at o → next ≡ at + o .size
-      → linesFrom base ps highest at d ≡ recordLines (dropping o) (ltb (o .epoch) highest) o ++ linesFrom base ps (higher (dropping o) o highest) next d
+      → linesFrom base ps highest at d ≡ recordLines (dropping o) (ltb (o .epoch) highest) o ++ linesFrom base ps
+      (higher (dropping o) o highest) next d
   unfolding linesBy
   lines-more o next t e =
       ap (λ (p : Olds). linesBy base ps highest (p .records) ++ cutLine (p .cut)) (t .step)
-      ∙ append-assoc (recordLines (dropping o) (ltb (o .epoch) highest) o) (linesBy base ps (higher (dropping o) o highest) (rest d (at + o .size) .records)) (cutLine (rest d (at + o .size) .cut))
+      ∙ append-assoc (recordLines (dropping o) (ltb (o .epoch) highest) o)
+      (linesBy base ps (higher (dropping o) o highest) (rest d (at + o .size) .records)) (cutLine (rest d (at + o .size) .cut))
       ∙ ap (λ (n : ℕ). recordLines (dropping o) (ltb (o .epoch) highest) o ++ linesFrom base ps (higher (dropping o) o highest) n d) (sym e)
 
   module _ (more : at < length d) (next : ℕ) where
     -- one whose count is too large
-    pub lines-large : (l : Large (oldAt at (drop at d)) next) → linesFrom base ps highest at d ≡ (line at TooLarge ∷ []) ++ linesFrom base ps highest next d
+    pub lines-large : (l : Large (oldAt at (drop at d)) next)
+        → linesFrom base ps highest at d ≡ (line at TooLarge ∷ []) ++ linesFrom base ps highest next d
     lines-large l =
         let o = l .old in
         let t = large-turn d at more next l in
@@ -49,5 +52,6 @@ module _ (base : ℕ) (ps : List ℕ) (highest : ℕ) (d : List ℕ) (at : ℕ) 
 
     -- one whose count fits
     pub lines-fitting : (e c : ℕ) → Fitting (oldAt at (drop at d)) e c next
-        → linesFrom base ps highest at d ≡ recordLines (dropping (oldOf at e c next)) (ltb e highest) (oldOf at e c next) ++ linesFrom base ps (higher (dropping (oldOf at e c next)) (oldOf at e c next) highest) next d
+        → linesFrom base ps highest at d ≡ recordLines (dropping (oldOf at e c next)) (ltb e highest) (oldOf at e c next) ++ linesFrom base ps
+        (higher (dropping (oldOf at e c next)) (oldOf at e c next) highest) next d
     lines-fitting e c f = let t = fitting-turn d at more e c next f in lines-more (oldOf at e c next) next (t .0) (t .1)

@@ -40,7 +40,8 @@ past-if false n m c ls h = refl
 
 -- ---- the lines of a record
 
-at-record : (x : Option Change) (moved : Bool) (o : Old) (ls : List Line) → linesAt (o .offset) (recordLines x moved o ++ ls) ≡ recordLines x moved o ++ linesAt (o .offset) ls
+at-record : (x : Option Change) (moved : Bool) (o : Old) (ls : List Line)
+    → linesAt (o .offset) (recordLines x moved o ++ ls) ≡ recordLines x moved o ++ linesAt (o .offset) ls
 at-record (some c) moved o ls = simp (eq-eqb (o .offset) (o .offset) refl)
 at-record none moved o ls =
     let n = o .offset in
@@ -52,10 +53,12 @@ at-record none moved o ls =
     ∙ sym (append-assoc one two (linesAt n ls))
 
 -- where all behind it are at higher offsets
-pub only-record : (x : Option Change) (moved : Bool) (o : Old) (a : ℕ) (ls : List Line) → o .offset < a → Climbs a ls → linesAt (o .offset) (recordLines x moved o ++ ls) ≡ recordLines x moved o
+pub only-record : (x : Option Change) (moved : Bool) (o : Old) (a : ℕ) (ls : List Line) → o .offset < a → Climbs a ls
+    → linesAt (o .offset) (recordLines x moved o ++ ls) ≡ recordLines x moved o
 only-record x moved o a ls h p = at-record x moved o ls ∙ rw (at-below (o .offset) a ls h p) (append-nil (recordLines x moved o))
 
-pub past-record : (n : ℕ) (x : Option Change) (moved : Bool) (o : Old) (ls : List Line) → (n ≡ o .offset → ⊥) → linesAt n (recordLines x moved o ++ ls) ≡ linesAt n ls
+pub past-record : (n : ℕ) (x : Option Change) (moved : Bool) (o : Old) (ls : List Line) → (n ≡ o .offset → ⊥)
+    → linesAt n (recordLines x moved o ++ ls) ≡ linesAt n ls
 past-record n (some c) moved o ls h = simp (ne-eqb n (o .offset) h)
 past-record n none moved o ls h =
     let two : List Line = lineIf moved (o .offset) Moved in

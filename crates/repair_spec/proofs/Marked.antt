@@ -7,8 +7,8 @@ use lib.ListN.{replicate}
 use Rattle.fields_spec.specs.Big.{big, saidAfter}
 use Rattle.fields_spec.specs.Varint.{groups, varint, high, value}
 use Rattle.records_spec.specs.Tables.{put}
-use Rattle.records_spec.specs.Answers.{Answer, ok, refused}
 use Rattle.codec_spec.specs.Bytes.{recordsBytes, bytesOf}
+use Rattle.records_spec.specs.Outcomes.{refused, Answer, ok}
 use Rattle.repair_spec.specs.Olds.{oldAt, olds}
 use Rattle.repair_spec.specs.Standing.{mapOnto}
 use Rattle.repair_spec.specs.Changes.{Line, line, again, someAbove, linesAfter}
@@ -63,7 +63,8 @@ examples =
     ∷ example (above5 (0x00 ∷ 0x07 ∷ 0xFF ∷ 0xFF ∷ 0xFF ∷ 0xFF ∷ 0x10 ∷ [])) only5 (line 0 KindChanged ∷ line 3 TooLarge ∷ [])
     ∷ example (above5 (0x00 ∷ 0x07 ∷ (replicate 9 0x80 ++ (0x01 ∷ [])))) only5 (line 0 KindChanged ∷ line 3 TooLarge ∷ [])
     ∷ example (above5 (0x00 ∷ 0x03 ∷ 0x80 ∷ 0x80 ∷ 0x80 ∷ 0x80 ∷ 0x10 ∷ [])) only5 (line 0 KindChanged ∷ line 3 TooLarge ∷ [])
-    ∷ example (above5 (0x00 ∷ 0x07 ∷ 0x01 ∷ 0x00 ∷ 0x07 ∷ 0x80 ∷ 0x80 ∷ 0x80 ∷ 0x80 ∷ 0x10 ∷ [])) (above5 (0x00 ∷ 0x07 ∷ 0x01 ∷ [])) (line 6 TooLarge ∷ [])
+    ∷ example (above5 (0x00 ∷ 0x07 ∷ 0x01 ∷ 0x00 ∷ 0x07 ∷ 0x80 ∷ 0x80 ∷ 0x80 ∷ 0x80 ∷ 0x10 ∷ [])) (above5 (0x00 ∷ 0x07 ∷ 0x01 ∷ []))
+    (line 6 TooLarge ∷ [])
     -- a cut record, ten continued bytes, and extra bytes
     ∷ example (above5 (0x00 ∷ 0x07 ∷ 0x01 ∷ 0x00 ∷ [])) (above5 (0x00 ∷ 0x07 ∷ 0x01 ∷ [])) (line 6 TailCut ∷ [])
     ∷ example (above5 (0x00 ∷ 0x07 ∷ 0x01 ∷ 0x00 ∷ 0x08 ∷ 0x80 ∷ [])) (above5 (0x00 ∷ 0x07 ∷ 0x01 ∷ [])) (line 6 TailCut ∷ [])
@@ -73,7 +74,8 @@ examples =
     ∷ example (above5 []) only5 (line 0 KindChanged ∷ [])
     -- owned flags
     ∷ example (0x02 ∷ (someone ++ (0x00 ∷ 0x05 ∷ 0xFF ∷ []))) (0x02 ∷ (someone ++ (0x00 ∷ 0x05 ∷ []))) (line 35 TailCut ∷ [])
-    ∷ example (0x03 ∷ (someone ++ (0x00 ∷ 0x05 ∷ 0x00 ∷ 0x05 ∷ 0x01 ∷ []))) (0x02 ∷ (someone ++ (0x00 ∷ 0x05 ∷ []))) (line 0 KindChanged ∷ line 35 NotAboveBase ∷ [])
+    ∷ example (0x03 ∷ (someone ++ (0x00 ∷ 0x05 ∷ 0x00 ∷ 0x05 ∷ 0x01 ∷ []))) (0x02 ∷ (someone ++ (0x00 ∷ 0x05 ∷ [])))
+    (line 0 KindChanged ∷ line 35 NotAboveBase ∷ [])
     -- refused: another kind; owner or base not complete
     ∷ refusal (0x04 ∷ []) 1
     ∷ refusal (0x01 ∷ 0x00 ∷ []) 2

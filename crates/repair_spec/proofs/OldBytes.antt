@@ -32,7 +32,8 @@ use Rattle.repair_spec.proofs.Told.{record-stands, told-kept}
 
 -- ---- a varint that is not longer than minimal
 
-varint-back : (xs : List ℕ) → Bytes xs → high xs < 10 → high xs < length xs → value (take (suc (high xs)) xs) ≤ largest → suc (high xs) ≤ length (varint (value (take (suc (high xs)) xs)))
+varint-back : (xs : List ℕ) → Bytes xs → high xs < 10 → high xs < length xs → value (take (suc (high xs)) xs) ≤ largest
+    → suc (high xs) ≤ length (varint (value (take (suc (high xs)) xs)))
     → varint (value (take (suc (high xs)) xs)) ≡ take (suc (high xs)) xs
 varint-back xs bs ten inside small least =
     let h = high xs in
@@ -90,4 +91,5 @@ module _ (k : Kind) (xs : List ℕ) (earlier : List Old) (o : Old) (later : List
   pub old-bytes : again (baseIn k xs) (o .epoch) later ≡ false → linesAt (o .offset) (linesOf k xs) ≡ []
       → recordBytes (o .epoch ⦂ o .count) ≡ take (o .size) (drop (o .offset) xs)
   old-bytes a e =
-      not-longer .0 (no-line (longer o) (higherKept (baseIn k xs) (o .epoch) earlier (o ∷ later)) (o .offset) (sym (told-kept k xs earlier o later split f a) ∙ e))
+      not-longer .0 (no-line (longer o) (higherKept (baseIn k xs) (o .epoch) earlier (o ∷ later)) (o .offset)
+      (sym (told-kept k xs earlier o later split f a) ∙ e))

@@ -8,13 +8,13 @@ use mathlib.Core.Option.{Option, none, some}
 use mathlib.Core.List.{List, [], _∷_, _++_, append-assoc}
 use Rattle.records_spec.specs.Tables.{At}
 use Rattle.records_spec.specs.Flags.{multi}
-use Rattle.records_spec.specs.Answers.{ok}
+use Rattle.records_spec.specs.Outcomes.{ok}
 use Rattle.records_spec.specs.declared.head.Kind.{Kind}
 use Rattle.codec_spec.specs.Bytes.{headSize}
 use Rattle.codec_spec.specs.Reading.{baseIn}
 use Rattle.repair_spec.specs.Olds.{Old}
 use Rattle.repair_spec.specs.Changes.{Line, lineIf, again, someAbove, dropped, recordLines, keeping, linesAfter, cutLine}
-use Rattle.repair_spec.specs.Repairing.{Repaired, oldsIn, left, kindLine, linesOf, repaired}
+use Rattle.repair_spec.specs.Repairing.{Repaired, oldsIn, recordsLeft, kindLine, linesOf, repaired}
 use Rattle.repair_spec.specs.declared.change.Change.{Change}
 use Rattle.repair_spec.specs.declared.change.Change.the-variants.{ReEncoded, Moved, KindChanged}
 use Rattle.repair_spec.proofs.Chains.{Chain, all-read, bytes-left, read-chain}
@@ -35,7 +35,8 @@ climbs-if true a n c ls h p = (h, p)
 climbs-if false a n c ls h p = climbs-lower a n ls h p
 
 -- the lines of a record, before those behind its offset
-climbs-record : (d : Option Change) (moved : Bool) (a : ℕ) (o : Old) (ls : List Line) → a ≤ o .offset → Climbs (o .offset) ls → Climbs a (recordLines d moved o ++ ls)
+climbs-record : (d : Option Change) (moved : Bool) (a : ℕ) (o : Old) (ls : List Line) → a ≤ o .offset → Climbs (o .offset) ls
+    → Climbs a (recordLines d moved o ++ ls)
 climbs-record (some c) moved a o ls h p = (h, p)
 climbs-record none moved a o ls h p =
     let n : ℕ = o .offset in
@@ -66,8 +67,9 @@ climbs-kind k (r ∷ rs) ls p = p
 pub lines-climb : (k : Kind) (xs : List ℕ) → Climbs 0 (linesOf k xs)
 lines-climb k xs =
     let behind : List Line = linesAfter (baseIn k xs) [] (oldsIn k xs .records) ++ cutLine (oldsIn k xs .cut) in
-    climbs-kind k (left k xs) behind
-    (climbs-lower 0 (headSize k) behind (omega arith) (chain-climbs k xs (baseIn k xs) [] (headSize k) (oldsIn k xs .records) (oldsIn k xs .cut) (read-chain k xs)))
+    climbs-kind k (recordsLeft k xs) behind
+    (climbs-lower 0 (headSize k) behind (omega arith)
+    (chain-climbs k xs (baseIn k xs) [] (headSize k) (oldsIn k xs .records) (oldsIn k xs .cut) (read-chain k xs)))
 
 -- so do those of every answer
 pub answer-climbs : (xs : List ℕ) (r : Repaired) → repaired xs ≡ ok r → Climbs 0 (r .lines)

@@ -11,7 +11,7 @@ use lib.ListN.{length, getD, take, drop, drop-of-length-le}
 use lib.Seq.{drop-cons}
 use Rattle.fields_spec.specs.Varint.{largest, high, value}
 use Rattle.fields_spec.proofs.Places.{high-low, high-high, high-nil, value-cons, value-nil}
-use Rattle.repair_spec.specs.Steps.{capped}
+use Rattle.repair_spec.specs.Steps.{countCapped}
 
 -- ---- where it ends
 
@@ -27,27 +27,27 @@ module _ (d : List ℕ) (k : ℕ) where
 
 -- ---- what it says
 
-pub capped-fits : (n : ℕ) → n ≤ largest → capped n ≡ n
+pub capped-fits : (n : ℕ) → n ≤ largest → countCapped n ≡ n
 capped-fits n h = rw (le-leb n largest h)
 
-pub capped-large : (n : ℕ) → largest < n → capped n ≡ suc largest
+pub capped-large : (n : ℕ) → largest < n → countCapped n ≡ suc largest
 capped-large n h = rw (lt-leb n largest h)
 
-pub capped-most : (n : ℕ) → capped n ≤ suc largest
+pub capped-most : (n : ℕ) → countCapped n ≤ suc largest
 capped-most n =
     elim (decLt largest n) [
       | yes h ↦ omega (arith, capped-large n h)
       | no h ↦ omega (arith, capped-fits n (omega arith))
     ]
 
-pub capped-small : (n : ℕ) → capped n ≤ largest → capped n ≡ n
+pub capped-small : (n : ℕ) → countCapped n ≤ largest → countCapped n ≡ n
 capped-small n h =
     elim (decLt largest n) [
       | yes l ↦ absurd (omega (arith, capped-large n l))
       | no l ↦ capped-fits n (omega arith)
     ]
 
-pub capped-above : (n : ℕ) → largest < capped n → largest < n
+pub capped-above : (n : ℕ) → largest < countCapped n → largest < n
 capped-above n h =
     elim (decLt largest n) [
       | yes l ↦ l
@@ -55,16 +55,16 @@ capped-above n h =
     ]
 
 -- one group more below what was capped is as if nothing had been
-pub capped-turn : (n b : ℕ) → capped (capped n * 128 + b) ≡ capped (b + 128 * n)
+pub capped-turn : (n b : ℕ) → countCapped (countCapped n * 128 + b) ≡ countCapped (b + 128 * n)
 capped-turn n b =
     elim (decLt largest n) [
       | yes h ↦
           let e = capped-large n h in
-          capped-large (capped n * 128 + b) (omega arith) ∙ sym (capped-large (b + 128 * n) (omega arith))
+          capped-large (countCapped n * 128 + b) (omega arith) ∙ sym (capped-large (b + 128 * n) (omega arith))
       | no h ↦
           let e = capped-fits n (omega arith) in
-          let s : capped n * 128 + b ≡ b + 128 * n = omega arith in
-          ap capped s
+          let s : countCapped n * 128 + b ≡ b + 128 * n = omega arith in
+          ap countCapped s
     ]
 
 -- the groups from i up to end

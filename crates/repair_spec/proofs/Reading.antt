@@ -12,7 +12,7 @@ use lib.ListN.{length, take, drop, length-drop, drop-of-length-le}
 use lib.Seq.{drop-drop}
 use Rattle.fields_spec.specs.Big.{said}
 use Rattle.fields_spec.specs.Varint.{high, value}
-use Rattle.repair_spec.specs.Olds.{Old, oldAt, Olds, following, olds}
+use Rattle.repair_spec.specs.Olds.{Old, oldAt, Olds, followingOld, olds}
 
 -- ---- one record
 
@@ -35,9 +35,15 @@ old-cut at xs h t =
 
 -- the record of a whole varint
 abbrev pub oldThere : ℕ → List ℕ → Old
-oldThere at xs = record { offset = at; epoch = said (take 2 xs); count = value (take (suc (high (drop 2 xs))) (drop 2 xs)); size = 3 + high (drop 2 xs) }
+oldThere at xs = record {
+  offset = at;
+  epoch = said (take 2 xs);
+  count = value (take (suc (high (drop 2 xs))) (drop 2 xs));
+  size = 3 + high (drop 2 xs);
+}
 
-pub old-there : (at : ℕ) (xs : List ℕ) → 2 ≤ length xs → high (drop 2 xs) < 10 → high (drop 2 xs) < length (drop 2 xs) → oldAt at xs ≡ some (oldThere at xs)
+pub old-there : (at : ℕ) (xs : List ℕ) → 2 ≤ length xs → high (drop 2 xs) < 10 → high (drop 2 xs) < length (drop 2 xs)
+    → oldAt at xs ≡ some (oldThere at xs)
 unfolding oldAt
 old-there at xs h t l = simp (le-leb 2 (length xs) h, lt-ltb (high (drop 2 xs)) 10 t, lt-ltb (high (drop 2 xs)) (length (drop 2 xs)) l)
 
@@ -62,7 +68,12 @@ old-inv at xs o e =
           elim (decLt (high (drop 2 xs)) 10) [
             | yes t ↦
                 elim (decLt (high (drop 2 xs)) (length (drop 2 xs))) [
-                  | yes l ↦ record { ten = t; inside = l; long = omega arith; is = some-same o (oldThere at xs) (sym e ∙ old-there at xs (omega arith) t l) }
+                  | yes l ↦ record {
+                    ten = t;
+                    inside = l;
+                    long = omega arith;
+                    is = some-same o (oldThere at xs) (sym e ∙ old-there at xs (omega arith) t l);
+                  }
                   | no l ↦ absurd (none-some o (sym (old-cut at xs (omega arith) (omega arith)) ∙ e))
                 ]
             | no t ↦ absurd (none-some o (sym (old-ten at xs (omega arith) (omega arith)) ∙ e))
@@ -87,7 +98,7 @@ olds-nil at = refl
 pub olds-cut : (at : ℕ) (xs : List ℕ) → 1 ≤ length xs → oldAt at xs ≡ none → olds at 0 xs ≡ record { records = []; cut = some at }
 unfolding olds
 olds-cut at [] h q = absurd (omega arith)
-olds-cut at (x ∷ xs) h q = ap (λ (n : Option Old). following n at (λ o. olds (suc at) (pred (o .size)) xs)) q
+olds-cut at (x ∷ xs) h q = ap (λ (n : Option Old). followingOld n at (λ o. olds (suc at) (pred (o .size)) xs)) q
 
 -- what a record and those behind it make
 abbrev pub before : Old → Olds → Olds
@@ -100,8 +111,9 @@ olds-more at [] o h hu q = absurd (omega arith)
 olds-more at (x ∷ xs) o h hu q =
     let u : suc (pred (o .size)) ≡ o .size = omega arith in
     let e : suc at + pred (o .size) ≡ at + o .size = omega arith in
-    ap (λ (n : Option Old). following n at (λ o. olds (suc at) (pred (o .size)) xs)) q
-    ∙ ap (before o) (olds-skip (suc at) (pred (o .size)) xs ∙ ap (λ (i : ℕ). olds i 0 (drop (pred (o .size)) xs)) e ∙ ap (λ (j : ℕ). olds (at + o .size) 0 (drop j (x ∷ xs))) u)
+    ap (λ (n : Option Old). followingOld n at (λ o. olds (suc at) (pred (o .size)) xs)) q
+    ∙ ap (before o) (olds-skip (suc at) (pred (o .size)) xs ∙ ap (λ (i : ℕ). olds i 0 (drop (pred (o .size)) xs)) e
+    ∙ ap (λ (j : ℕ). olds (at + o .size) 0 (drop j (x ∷ xs))) u)
 
 -- ---- at a place of the input
 

@@ -22,8 +22,8 @@ use Rattle.codec_spec.specs.Reading.{baseIn, ownerIn}
 use Rattle.codec_spec.proofs.RoundTrip.{Canonical}
 use Rattle.repair_spec.specs.Olds.{Old, Olds}
 use Rattle.repair_spec.specs.Standing.{mapOnto}
-use Rattle.repair_spec.specs.Repairing.{oldsIn, extra, left, flagsLeft}
-use Rattle.repair_spec.specs.Steps.{lastEpoch, allEpochs, marks, gathered, kindLeft, Blank, Standing, Ready}
+use Rattle.repair_spec.specs.Repairing.{oldsIn, extra, recordsLeft, flagsLeft}
+use Rattle.repair_spec.specs.Steps.{lastEpoch, allEpochs, marks, gathered, kindLeft, Blank, Settled, Ready}
 use Rattle.repair_spec.proofs.Reading.{rest}
 use Rattle.repair_spec.proofs.Chains.{Chain, read-chain}
 use Rattle.repair_spec.proofs.Told.{head-three}
@@ -70,33 +70,37 @@ module _ (k : Kind) (m : multi k ≡ true) where
 module _ (k : Kind) (xs : List ℕ) (h : Head) (e : h ≡ headOf (flagsLeft k xs)) (es cs : List ℕ) where
   -- how many are left
   abbrev many : ℕ
-  many = length (left k xs)
+  many = length (recordsLeft k xs)
 
-  pub ready : Canonical (baseIn k xs) (left k xs) → many ≤ length es → many ≤ length cs → take many es ≡ epochsOf (left k xs) → take many cs ≡ countsOf (left k xs) → Ready k xs h es cs
+  pub ready : Canonical (baseIn k xs) (recordsLeft k xs) → many ≤ length es → many ≤ length cs → take many es ≡ epochsOf (recordsLeft k xs)
+      → take many cs ≡ countsOf (recordsLeft k xs) → Ready k xs h es cs
   ready c le lc te tc =
       record {
-        is-proper = rw e (stand-proper (flagsLeft k xs) es cs te le lc (canonical-ascends (baseIn k xs) (left k xs) c));
+        is-proper = rw e (stand-proper (flagsLeft k xs) es cs te le lc (canonical-ascends (baseIn k xs) (recordsLeft k xs) c));
         is-left = rw e (stand-flags (flagsLeft k xs) es cs te tc);
       }
 
   -- records that were placed at the start of two tables
-  pub placed-ready : (es₀ cs₀ : List ℕ) (m : ℕ) → Canonical (baseIn k xs) (left k xs) → many ≤ length es₀ → many ≤ length cs₀ → Placed (left k xs) 0 m es₀ cs₀ es cs → Ready k xs h es cs
+  pub placed-ready : (es₀ cs₀ : List ℕ) (m : ℕ) → Canonical (baseIn k xs) (recordsLeft k xs) → many ≤ length es₀ → many ≤ length cs₀
+      → Placed (recordsLeft k xs) 0 m es₀ cs₀ es cs → Ready k xs h es cs
   placed-ready es₀ cs₀ m c le lc p =
       let l = placed-long p in
-      let ne = length-epochsOf (left k xs) in
-      let nc = length-countsOf (left k xs) in
+      let ne = length-epochsOf (recordsLeft k xs) in
+      let nc = length-countsOf (recordsLeft k xs) in
       ready c (omega (arith, l .0)) (omega (arith, l .1))
-      (ap (take many) (p .epochs-set ∙ over-sets (epochsOf (left k xs)) es₀ (omega arith)) ∙ over-first (epochsOf (left k xs)) es₀ many ne)
-      (ap (take many) (p .counts-set ∙ over-sets (countsOf (left k xs)) cs₀ (omega arith)) ∙ over-first (countsOf (left k xs)) cs₀ many nc)
+      (ap (take many) (p .epochs-set ∙ over-sets (epochsOf (recordsLeft k xs)) es₀ (omega arith))
+      ∙ over-first (epochsOf (recordsLeft k xs)) es₀ many ne)
+      (ap (take many) (p .counts-set ∙ over-sets (countsOf (recordsLeft k xs)) cs₀ (omega arith))
+      ∙ over-first (countsOf (recordsLeft k xs)) cs₀ many nc)
 
 -- ---- kinds 0 and 2
 
 module _ (k : Kind) (xs : List ℕ) (m : multi k ≡ false) where
-  nothing-left : left k xs ≡ []
+  nothing-left : recordsLeft k xs ≡ []
   unfolding mapOnto
   nothing-left = let e : oldsIn k xs ≡ extra k xs = rw m in ap (λ (p : Olds). mapOnto (baseIn k xs) [] (p .records)) e
 
-  pub single-standing : (ps : List ℕ) (n : ℕ) → headSize k ≤ length xs → n ≡ 0 → Standing k xs ps n
+  pub single-standing : (ps : List ℕ) (n : ℕ) → headSize k ≤ length xs → n ≡ 0 → Settled k xs ps n
   single-standing ps n h z =
       record {
         head-inside = h;
@@ -121,9 +125,11 @@ blank-zeros n h = record { wide = omega (arith, length-replicate {A = ℕ} n 0);
     zero-at (suc n) zero = refl
     zero-at (suc n) (suc i) = zero-at n i
 
-module _ (k : Kind) (xs : List ℕ) (m : multi k ≡ true) (bs : Bytes xs) (long : headSize k ≤ length xs) (base start : ℕ) (eb : base ≡ baseIn k xs) (es : start ≡ headSize k)
+module _ (k : Kind) (xs : List ℕ) (m : multi k ≡ true) (bs : Bytes xs) (long : headSize k ≤ length xs) (base start : ℕ) (eb : base ≡ baseIn k xs)
+    (es : start ≡ headSize k)
     (ps₀ cs₀ ps cs : List ℕ) (bp : Blank ps₀) (bc : Blank cs₀)
-    (ep : ps ≡ marks (λ (o : Old). o .offset) base ps₀ (rest xs start .records)) (ec : cs ≡ marks (λ (o : Old). o .count) base cs₀ (rest xs start .records)) where
+    (ep : ps ≡ marks (λ (o : Old). o .offset) base ps₀ (rest xs start .records))
+    (ec : cs ≡ marks (λ (o : Old). o .count) base cs₀ (rest xs start .records)) where
   records-are : rest xs start .records ≡ oldsIn k xs .records
   records-are = ap (λ (i : ℕ). rest xs i .records) es ∙ rw m
 
@@ -140,12 +146,13 @@ module _ (k : Kind) (xs : List ℕ) (m : multi k ≡ true) (bs : Bytes xs) (long
   counts-are = ec ∙ ap₂ (λ (b : ℕ) (os : List Old). marks (λ (o : Old). o .count) b cs₀ os) eb records-are
 
   -- the two tables drawn together
-  drawn-is : gathered ps cs (base + 1) (lastEpoch - base) ≡ left k xs
+  drawn-is : gathered ps cs (base + 1) (lastEpoch - base) ≡ recordsLeft k xs
   drawn-is =
       (λ z. gathered (places-are z) (counts-are z) (eb z + 1) (lastEpoch - eb z))
-      ∙ drawn-left (baseIn k xs) k xs (headSize k) (oldsIn k xs .records) (oldsIn k xs .cut) ps₀ cs₀ (omega (arith, left-proper k xs bs long .base-fits)) (omega (arith, head-three k)) chain short bp bc
+      ∙ drawn-left (baseIn k xs) k xs (headSize k) (oldsIn k xs .records) (oldsIn k xs .cut) ps₀ cs₀
+      (omega (arith, left-proper k xs bs long .base-fits)) (omega (arith, head-three k)) chain short bp bc
 
-  multi-standing : (n : ℕ) → n ≡ length (left k xs) → Standing k xs ps n
+  multi-standing : (n : ℕ) → n ≡ length (recordsLeft k xs) → Settled k xs ps n
   multi-standing n e =
       record {
         head-inside = long;
@@ -158,10 +165,10 @@ module _ (k : Kind) (xs : List ℕ) (m : multi k ≡ true) (bs : Bytes xs) (long
   module _ (es₀ : List ℕ) (wide : allEpochs ≤ length es₀) (n : ℕ) (es′ cs′ : List ℕ)
       (p : Placed (gathered ps cs (base + 1) (lastEpoch - base)) 0 n es₀ cs es′ cs′)
       (k′ : Kind) (ek : k′ ≡ kindLeft k n) (h : Head) (eh : h ≡ headFor (baseIn k′ xs) (ownerIn k′ xs) n) where
-    counted : n ≡ length (left k xs)
+    counted : n ≡ length (recordsLeft k xs)
     counted = omega (arith, p .behind, ap (length {A = At}) drawn-is)
 
-    few : length (left k xs) ≤ lastEpoch - base
+    few : length (recordsLeft k xs) ≤ lastEpoch - base
     few = omega (arith, ap (length {A = At}) drawn-is, gathered-short ps cs (base + 1) (lastEpoch - base))
 
     head-is : h ≡ headOf (flagsLeft k xs)
@@ -174,5 +181,5 @@ module _ (k : Kind) (xs : List ℕ) (m : multi k ≡ true) (bs : Bytes xs) (long
         (omega (arith, few, ap length counts-are, marks-long (λ (o : Old). o .count) (baseIn k xs) cs₀ (oldsIn k xs .records), bc .wide))
         (rw drawn-is at p)
 
-    pub standing-ready : Standing k xs ps (h .records)
+    pub standing-ready : Settled k xs ps (h .records)
     standing-ready = multi-standing (h .records) (ap (λ (x : Head). x .records) head-is)

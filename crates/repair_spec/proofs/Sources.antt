@@ -12,7 +12,7 @@ use Rattle.records_spec.specs.declared.head.Kind.{Kind}
 use Rattle.codec_spec.specs.Reading.{baseIn}
 use Rattle.repair_spec.specs.Olds.{Old}
 use Rattle.repair_spec.specs.Changes.{Line, line, lineIf, again, someAbove, dropped, recordLines, keeping, linesAfter, cutLine}
-use Rattle.repair_spec.specs.Repairing.{oldsIn, left, kindLine, linesOf}
+use Rattle.repair_spec.specs.Repairing.{oldsIn, recordsLeft, kindLine, linesOf}
 use Rattle.repair_spec.specs.declared.change.Change.{Change}
 use Rattle.repair_spec.specs.declared.change.Change.the-variants.{ReEncoded, TailCut, Moved, KindChanged}
 use Rattle.repair_spec.proofs.Among.{Among, among-first, among-behind}
@@ -54,11 +54,11 @@ after-line base before (o ∷ os) l m =
 
 -- where a line comes from
 pub data Source (k : Kind) (xs : List ℕ) (l : Line) : Type 0 where
-  kind-changed : multi k ≡ true → left k xs ≡ [] → l ≡ line 0 KindChanged → Source k xs l
+  kind-changed : multi k ≡ true → recordsLeft k xs ≡ [] → l ≡ line 0 KindChanged → Source k xs l
   of-record : Among (LineOf (baseIn k xs) l) (oldsIn k xs .records) → Source k xs l
   tail-cut : (c : ℕ) → oldsIn k xs .cut ≡ some c → l ≡ line c TailCut → Source k xs l
 
-kind-source : (k : Kind) (xs : List ℕ) (l : Line) (rs : List At) → left k xs ≡ rs → List·Memᴰ l (kindLine k rs) → Source k xs l
+kind-source : (k : Kind) (xs : List ℕ) (l : Line) (rs : List At) → recordsLeft k xs ≡ rs → List·Memᴰ l (kindLine k rs) → Source k xs l
 kind-source k xs l [] e m = let p = if-line (multi k) 0 KindChanged l m in kind-changed (p .0) e (p .1)
 kind-source k xs l (r ∷ rs) e m = absurd (List·Memᴰ·not-nil m)
 
@@ -70,10 +70,10 @@ cut-source k xs l (some c) e m = tail-cut c e (List·Memᴰ·eq-of-singleton m)
 pub source : (k : Kind) (xs : List ℕ) (l : Line) → List·Memᴰ l (linesOf k xs) → Source k xs l
 source k xs l m =
     let os : List Old = oldsIn k xs .records in
-    ⊎-elim (kind-source k xs l (left k xs) refl)
+    ⊎-elim (kind-source k xs l (recordsLeft k xs) refl)
     (λ a.
     ⊎-elim
     (λ b. of-record (after-line (baseIn k xs) [] os l b))
     (cut-source k xs l (oldsIn k xs .cut) refl)
     (List·Memᴰ·append-cases (linesAfter (baseIn k xs) [] os) a))
-    (List·Memᴰ·append-cases (kindLine k (left k xs)) m)
+    (List·Memᴰ·append-cases (kindLine k (recordsLeft k xs)) m)

@@ -16,7 +16,7 @@ use Rattle.codec_spec.specs.Bytes.{unownedHead, ownedHead, headSize}
 use Rattle.codec_spec.specs.Reading.{baseIn}
 use Rattle.repair_spec.specs.Olds.{Old}
 use Rattle.repair_spec.specs.Changes.{line, again, someAbove, dropped, keptLines, recordLines, keeping, linesAfter, cutLine}
-use Rattle.repair_spec.specs.Repairing.{oldsIn, left, kindLine, linesOf}
+use Rattle.repair_spec.specs.Repairing.{oldsIn, recordsLeft, kindLine, linesOf}
 use Rattle.repair_spec.specs.declared.change.Change.{Change}
 use Rattle.repair_spec.specs.declared.change.Change.the-variants.{TooLarge, NotAboveBase, Replaced, TailCut}
 use Rattle.repair_spec.proofs.Chains.{Ends, Chain, Stands, read-chain, chain-split, behindAll, chain-ends, chain-cut}
@@ -33,7 +33,8 @@ use Rattle.repair_spec.proofs.LinesAt.{linesAt, only-record, past-recor
 module _ (k : Kind) (d : List ℕ) (base : ℕ) (o : Old) (later : List Old) (c : Option ℕ) where
   told-after : (before : List ℕ) (at : ℕ) (earlier : List Old) → Chain k d at (earlier ++ (o ∷ later)) c
       → linesAt (o .offset) (linesAfter base before (earlier ++ (o ∷ later)) ++ cutLine c)
-      ≡ recordLines (dropped base (again base (o .epoch) later) o) (cond (someAbove (o .epoch) before) true (higherKept base (o .epoch) earlier (o ∷ later))) o
+      ≡ recordLines (dropped base (again base (o .epoch) later) o)
+      (cond (someAbove (o .epoch) before) true (higherKept base (o .epoch) earlier (o ∷ later))) o
   told-after before at [] p =
       let x : Option Change = dropped base (again base (o .epoch) later) o in
       ap (linesAt (o .offset)) (lines-on base before o later (cutLine c))
@@ -49,7 +50,8 @@ module _ (k : Kind) (d : List ℕ) (base : ℕ) (o : Old) (later : List Old) (c 
       ∙ past-record (o .offset) x (someAbove (y .epoch) before) y _ (λ e. omega (arith, p .0 .starts, p .0 .some-bytes, s .from))
       ∙ told-after (keeping x y before) (at + y .size) earlier (p .1)
       ∙ ap (λ (b : Bool). recordLines (dropped base (again base (o .epoch) later) o) b o)
-      (ap (λ (b : Bool). cond b true h) (keeping-above base (o .epoch) before y os) ∙ either-turn (keeps base y os && ltb (o .epoch) (y .epoch)) (someAbove (o .epoch) before) h)
+      (ap (λ (b : Bool). cond b true h) (keeping-above base (o .epoch) before y os)
+      ∙ either-turn (keeps base y os && ltb (o .epoch) (y .epoch)) (someAbove (o .epoch) before) h)
 
 -- ---- the cut
 
@@ -75,9 +77,9 @@ head-three k = by (owned k)
 
 module _ (k : Kind) (xs : List ℕ) where
   -- kind changed stands alone at offset 0
-  pub kind-told : linesAt 0 (linesOf k xs) ≡ kindLine k (left k xs)
+  pub kind-told : linesAt 0 (linesOf k xs) ≡ kindLine k (recordsLeft k xs)
   kind-told =
-      only-kind k (left k xs) (headSize k) _ (omega (arith, head-three k))
+      only-kind k (recordsLeft k xs) (headSize k) _ (omega (arith, head-three k))
       (chain-climbs k xs (baseIn k xs) [] (headSize k) (oldsIn k xs .records) (oldsIn k xs .cut) (read-chain k xs))
 
   -- THE READING ENDS BEHIND THE LAST RECORD, with the bytes, or where those that are left are no record or none is read
@@ -89,7 +91,7 @@ module _ (k : Kind) (xs : List ℕ) where
   cut-told c e =
       let os : List Old = oldsIn k xs .records in
       let p : Chain k xs (headSize k) os (some c) = subst (λ (x : Option ℕ). Chain k xs (headSize k) os x) e (read-chain k xs) in
-      past-kind c k (left k xs) _ (omega (arith, head-three k, chain-cut k xs (headSize k) os c p))
+      past-kind c k (recordsLeft k xs) _ (omega (arith, head-three k, chain-cut k xs (headSize k) os c p))
       ∙ ap (λ (x : Option ℕ). linesAt c (linesAfter (baseIn k xs) [] os ++ cutLine x)) e
       ∙ cut-after k xs (baseIn k xs) [] (headSize k) os c p
 
@@ -119,7 +121,7 @@ module _ (k : Kind) (xs : List ℕ) where
         ≡ recordLines (dropped (baseIn k xs) (again (baseIn k xs) (o .epoch) later) o) (higherKept (baseIn k xs) (o .epoch) earlier (o ∷ later)) o
     unfolding someAbove
     told =
-        past-kind (o .offset) k (left k xs) _ (omega (arith, head-three k, record-stands .from))
+        past-kind (o .offset) k (recordsLeft k xs) _ (omega (arith, head-three k, record-stands .from))
         ∙ ap (λ (l : List Old). linesAt (o .offset) (linesAfter (baseIn k xs) [] l ++ cutLine (oldsIn k xs .cut))) split
         ∙ told-after k xs (baseIn k xs) o later (oldsIn k xs .cut) [] (headSize k) earlier of-bytes
 
@@ -132,7 +134,8 @@ module _ (k : Kind) (xs : List ℕ) where
     told-low h l = told ∙ rw (dropped-low (baseIn k xs) o (again (baseIn k xs) (o .epoch) later) h l)
 
     -- otherwise, a later record that fits has its epoch
-    pub told-replaced : Fits (baseIn k xs) o → again (baseIn k xs) (o .epoch) later ≡ true → linesAt (o .offset) (linesOf k xs) ≡ line (o .offset) Replaced ∷ []
+    pub told-replaced : Fits (baseIn k xs) o → again (baseIn k xs) (o .epoch) later ≡ true
+        → linesAt (o .offset) (linesOf k xs) ≡ line (o .offset) Replaced ∷ []
     told-replaced f a = told ∙ rw (dropped-fits (baseIn k xs) o (again (baseIn k xs) (o .epoch) later) f, a)
 
     -- A KEPT RECORD HAS NONE, ONE OR TWO, re-encoded before moved
@@ -142,7 +145,7 @@ module _ (k : Kind) (xs : List ℕ) where
 
     -- and is left, with its count
     pub kept-left : Fits (baseIn k xs) o → again (baseIn k xs) (o .epoch) later ≡ false
-        → (has (o .epoch) (left k xs) ≡ true) × (held (o .epoch) (left k xs) ≡ o .count)
+        → (has (o .epoch) (recordsLeft k xs) ≡ true) × (held (o .epoch) (recordsLeft k xs) ≡ o .count)
     kept-left f a =
         let os : List Old = oldsIn k xs .records in
         let l : Last (baseIn k xs) (o .epoch) os =

@@ -9,7 +9,7 @@ use Rattle.fields_spec.specs.Varint.{largest}
 use Rattle.records_spec.specs.Tables.{_⦂_}
 use Rattle.codec_spec.specs.Bytes.{recordBytes}
 use Rattle.repair_spec.specs.Olds.{Old}
-use Rattle.repair_spec.specs.Standing.{fits}
+use Rattle.repair_spec.specs.Standing.{oldFits}
 use Rattle.repair_spec.specs.declared.change.Change.{Change}
 use Rattle.repair_spec.specs.declared.change.Change.the-variants.{ReEncoded, TooLarge, NotAboveBase, Replaced, TailCut, Moved, KindChanged}
 
@@ -42,7 +42,7 @@ lineIf false offset change = []
 -- whether a later record that fits has the epoch
 unfoldable pub again : ℕ → ℕ → List Old → Bool
 again base e [] = false
-again base e (o ∷ os) = cond (fits base o && eqb e (o .epoch)) true (again base e os)
+again base e (o ∷ os) = cond (oldFits base o && eqb e (o .epoch)) true (again base e os)
 
 -- whether some of these epochs is above e
 unfoldable pub someAbove : ℕ → List ℕ → Bool

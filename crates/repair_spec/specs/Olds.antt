@@ -20,7 +20,12 @@ pub record Old : Type 0 where
 unfoldable pub oldAt : ℕ → List ℕ → Option Old
 oldAt offset xs =
     cond (leb 2 (length xs) && (ltb (high (drop 2 xs)) 10 && ltb (high (drop 2 xs)) (length (drop 2 xs))))
-    (some (record { offset = offset; epoch = said (take 2 xs); count = value (take (suc (high (drop 2 xs))) (drop 2 xs)); size = 3 + high (drop 2 xs) }))
+    (some (record {
+      offset = offset;
+      epoch = said (take 2 xs);
+      count = value (take (suc (high (drop 2 xs))) (drop 2 xs));
+      size = 3 + high (drop 2 xs);
+    }))
     none
 
 -- the records that are read, and where the reading ends before the bytes do
@@ -29,12 +34,12 @@ pub record Olds : Type 0 where
   pub cut : Option ℕ
 
 -- a record that is not there ends the reading; another stands before those that go finds behind it
-abbrev pub following : Option Old → ℕ → (Old → Olds) → Olds
-following none offset go = record { records = []; cut = some offset }
-following (some o) offset go = record { records = o ∷ go o .records; cut = go o .cut }
+abbrev pub followingOld : Option Old → ℕ → (Old → Olds) → Olds
+followingOld none offset go = record { records = []; cut = some offset }
+followingOld (some o) offset go = record { records = o ∷ go o .records; cut = go o .cut }
 
 -- of the bytes from an offset on, of which the first k belong to the record before
 unfoldable pub olds : ℕ → ℕ → List ℕ → Olds
 olds offset k [] = record { records = []; cut = none }
 olds offset (suc k) (x ∷ xs) = olds (suc offset) k xs
-olds offset zero (x ∷ xs) = following (oldAt offset (x ∷ xs)) offset (λ o. olds (suc offset) (pred (o .size)) xs)
+olds offset zero (x ∷ xs) = followingOld (oldAt offset (x ∷ xs)) offset (λ o. olds (suc offset) (pred (o .size)) xs)

@@ -7,7 +7,9 @@ use lib.Dec.{leb, ltb}
 use lib.ListN.{length, drop}
 use Rattle.records_spec.specs.Tables.{At}
 use Rattle.records_spec.specs.Flags.{Flags, flags, multi, kindOfByte}
-use Rattle.records_spec.specs.Answers.{Answer, ok, refused}
+use Rattle.records_spec.specs.Outcomes.{refused, Answer, ok, _unless_, _>>_}
+use Rattle.records_spec.specs.Refusals.{number}
+use Rattle.records_spec.specs.declared.refusal.Refusal.the-variants.{UnknownType, WrongSize}
 use Rattle.records_spec.specs.declared.head.Kind.{Kind}
 use Rattle.records_spec.specs.declared.head.KindByte.{KindByte}
 use Rattle.records_spec.specs.declared.head.KindByte.the-variants.{Known, Unknown}
@@ -32,12 +34,12 @@ abbrev pub oldsIn : Kind → List ℕ → Olds
 oldsIn k xs = cond (multi k) (olds (headSize k) 0 (drop (headSize k) xs)) (extra k xs)
 
 -- the records that are left
-abbrev pub left : Kind → List ℕ → List At
-left k xs = mapOf (baseIn k xs) (oldsIn k xs .records)
+abbrev pub recordsLeft : Kind → List ℕ → List At
+recordsLeft k xs = mapOf (baseIn k xs) (oldsIn k xs .records)
 
 -- the flags that are written; nothing left gives kind 0 or 2
 abbrev pub flagsLeft : Kind → List ℕ → Flags
-flagsLeft k xs = flags (baseIn k xs) (ownerIn k xs) (left k xs)
+flagsLeft k xs = flags (baseIn k xs) (ownerIn k xs) (recordsLeft k xs)
 
 -- nothing left adds the line kind changed, at offset 0
 abbrev pub kindLine : Kind → List At → List Line
@@ -46,17 +48,18 @@ kindLine k (r ∷ rs) = []
 
 -- all lines, ascending by offset
 abbrev pub linesOf : Kind → List ℕ → List Line
-linesOf k xs = kindLine k (left k xs) ++ (linesAfter (baseIn k xs) [] (oldsIn k xs .records) ++ cutLine (oldsIn k xs .cut))
+linesOf k xs = kindLine k (recordsLeft k xs) ++ (linesAfter (baseIn k xs) [] (oldsIn k xs .records) ++ cutLine (oldsIn k xs .cut))
 
--- bytes of a kind: 2 where owner or base is not complete
+-- bytes of a kind, where owner and base are complete
 unfoldable pub repairedAs : Kind → List ℕ → Answer Repaired
-repairedAs k xs =
-    cond (leb (headSize k) (length xs)) (ok (record { bytes = bytesOf (flagsLeft k xs); lines = linesOf k xs })) (refused 2)
+repairedAs k xs = do
+  WrongSize unless leb (headSize k) (length xs)
+  ok (record { bytes = bytesOf (flagsLeft k xs); lines = linesOf k xs })
 
--- bytes of the kind that a byte names: 1 where it names none
+-- bytes of the kind that a byte names, if it names one
 abbrev pub repairedByte : KindByte → List ℕ → Answer Repaired
 repairedByte (Known k) xs = repairedAs k xs
-repairedByte Unknown xs = refused 1
+repairedByte Unknown xs = refused (number UnknownType)
 
 -- old bytes repaired; no bytes give no bytes and an empty list
 unfoldable pub repaired : List ℕ → Answer Repaired

@@ -8,13 +8,13 @@ use Rattle.records_spec.specs.Tables.{At, _⦂_, put}
 use Rattle.repair_spec.specs.Olds.{Old}
 
 -- a count above 32 bits and an epoch at or below the base are dropped; these are the others
-abbrev pub fits : ℕ → Old → Bool
-fits base o = leb (o .count) largest && ltb base (o .epoch)
+abbrev pub oldFits : ℕ → Old → Bool
+oldFits base o = leb (o .count) largest && ltb base (o .epoch)
 
 -- of the others the later of two records for one epoch stands: each is put into the map m
 unfoldable pub mapOnto : ℕ → List At → List Old → List At
 mapOnto base m [] = m
-mapOnto base m (o ∷ os) = mapOnto base (cond (fits base o) (put (o .epoch ⦂ o .count) m) m) os
+mapOnto base m (o ∷ os) = mapOnto base (cond (oldFits base o) (put (o .epoch ⦂ o .count) m) m) os
 
 -- what is left
 abbrev pub mapOf : ℕ → List Old → List At

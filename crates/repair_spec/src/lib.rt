@@ -12,4 +12,4 @@ pub use limits::LAST_EPOCH;
 pub use limits::LONGEST_FLAGS;
 pub use listing::Behind;
 pub use old::Got;
-pub use repairing::Outcome;
+pub use repairing::AnsweredRepair;

@@ -1,5 +1,5 @@
 // Replaying the repair: 23.
-use repair_spec::Outcome;
+use repair_spec::AnsweredRepair;
 use wire::TABLE_PLACES;
 use wire::byte_of;
 use wire::take_bytes;
@@ -21,10 +21,10 @@ fn tell_sizes(reply: &[u8], at: usize, refusal: u8, bytes: usize, lines: usize) 
 }
 
 // How many bytes and lines, or a refusal.
-fn tell_outcome(reply: &[u8], at: usize, outcome: Outcome) -> usize {
+fn tell_outcome(reply: &[u8], at: usize, outcome: AnsweredRepair) -> usize {
     match outcome {
-        Outcome::Done { bytes, lines } => tell_sizes(reply, at, 0, bytes, lines),
-        Outcome::Refused(refusal) => tell_sizes(reply, at, byte_of(refusal), 0, 0),
+        AnsweredRepair::Done { bytes, lines } => tell_sizes(reply, at, 0, bytes, lines),
+        AnsweredRepair::Refused(refusal) => tell_sizes(reply, at, byte_of(refusal), 0, 0),
     }
 }
 

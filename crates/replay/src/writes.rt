@@ -15,6 +15,7 @@ use wire::tell_number;
 use wire::tell_part;
 use wire::tell_u32;
 use wire::turn;
+ghost use Rattle.records_spec.specs.Answers.{counted};
 
 // The most bytes that are lent for writing in a stored question.
 const ROOM_TO_WRITE: usize = 1024;

@@ -1,6 +1,6 @@
 // Replaying the change of a table of totals: 24.
+use records_spec::Counted;
 use records_spec::OWNER_LENGTH;
-use totals_spec::Replaced;
 use wire::TABLE_PLACES;
 use wire::byte_of;
 use wire::take_bool;
@@ -16,11 +16,10 @@ use wire::tell_u8;
 use wire::turn;
 
 // A number of rows, or a refusal.
-fn tell_replaced(reply: &[u8], at: usize, replaced: Replaced) -> usize {
+fn tell_replaced(reply: &[u8], at: usize, replaced: Counted) -> usize {
     match replaced {
-        Replaced::Rows(n) => tell_len(reply, tell_u8(reply, at, 0), n),
-        Replaced::IndexMismatch => tell_len(reply, tell_u8(reply, at, 14), 0),
-        Replaced::Refused(refusal) => tell_len(reply, tell_u8(reply, at, byte_of(refusal)), 0),
+        Counted::Count(n) => tell_len(reply, tell_u8(reply, at, 0), n),
+        Counted::Refused(refusal) => tell_len(reply, tell_u8(reply, at, byte_of(refusal)), 0),
     }
 }
 

@@ -3,13 +3,14 @@ ghost use mathlib.Core.Path.{_≡_};
 ghost use Prim.Native.Nat.{_<_};
 ghost use mathlib.Core.List.{[]};
 ghost use lib.ListN.{length, getD};
+ghost use Rattle.fields_spec.specs.Lending.{was};
 ghost use Rattle.rows_spec.specs.Order.{by, order};
 ghost use Rattle.rows_spec.specs.Rows.{row, compared};
 use rows_spec::Order;
 
 // How two identifiers stand to each other, byte by byte.
 pub fn compare_ids(a: &[u8], b: &[u8]) -> Order
-    ensures { λ r. ⌜ r ≡ order (now (a .entry)) (now (b .entry)) ⌝ }
+    ensures { λ r. ⌜ r ≡ order (was a) (was b) ⌝ }
 {
     let mut i: usize = 0;
     while i < a.len() {
@@ -56,7 +57,8 @@ pub fn compare_rows(
 ) -> Order
     requires { ⌜ (i < length (now ids)) × (i < length (now epochs)) ⌝ }
     requires { ⌜ (j < length (now «other_ids»)) × (j < length (now «other_epochs»)) ⌝ }
-    ensures { λ r. ⌜ r ≡ compared (row (getD (now (ids .entry)) i []) (getD (now (epochs .entry)) i 0) 0) (row (getD (now («other_ids» .entry)) j []) (getD (now («other_epochs» .entry)) j 0) 0) ⌝ }
+    ensures { λ r.
+        ⌜ r ≡ compared (row (getD (was ids) i []) (getD (was epochs) i 0) 0) (row (getD (was «other_ids») j []) (getD (was «other_epochs») j 0) 0) ⌝ }
 {
     match compare_ids(&ids[i], &other_ids[j]) {
         Order::Less => Order::Less,

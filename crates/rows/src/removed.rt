@@ -1,9 +1,9 @@
 // What was removed: the state beside its rows, whether it is proper, and what it comes to.
 ghost use mathlib.Core.Path.{_≡_};
-ghost use Rattle.rows_spec.specs.Rows.{tables, rowsIn, Room};
-ghost use Rattle.rows_spec.specs.Removals.{proper, totalRows, anyBytes};
-ghost use Rattle.records_spec.specs.Answers.{ok};
-ghost use Rattle.rows_spec.specs.Calls.{told, totalled, within, hasRemoval, totalRemoved};
+ghost use Rattle.records_spec.specs.Outcomes.{ok};
+ghost use Rattle.rows_spec.specs.Rows.{tables, rowsIn, Room, rowsWere};
+ghost use Rattle.rows_spec.specs.Removals.{properIn, totalRows, anyBytes, holdingRows};
+ghost use Rattle.rows_spec.specs.Calls.{decided, totalled, totalWithin, hasRemoval, totalRemoved};
 use crate::row;
 use fields::LARGEST;
 use records_spec::Refusal;
@@ -14,7 +14,7 @@ use rows_spec::Total;
 
 // Whether a removal and its tables are proper.
 pub fn is_proper(removed: Removed, ids: &[[u8; 32]], epochs: &[u16], bytes: &[u32]) -> bool
-    ensures { λ r. ⌜ r ≡ proper removed (tables (now (ids .entry)) (now (epochs .entry)) (now (bytes .entry))) ⌝ }
+    ensures { λ r. ⌜ r ≡ properIn removed (rowsWere ids epochs bytes) ⌝ }
 {
     match removed {
         Removed::None => true,
@@ -26,7 +26,7 @@ pub fn is_proper(removed: Removed, ids: &[[u8; 32]], epochs: &[u16], bytes: &[u3
 // Whether one of the first n rows has bytes.
 fn any_bytes(n: usize, ids: &[[u8; 32]], epochs: &[u16], bytes: &[u32]) -> bool
     requires { ⌜ Room n (tables (now ids) (now epochs) (now bytes)) ⌝ }
-    ensures { λ r. ⌜ r ≡ anyBytes (rowsIn n (tables (now (ids .entry)) (now (epochs .entry)) (now (bytes .entry)))) ⌝ }
+    ensures { λ r. ⌜ r ≡ anyBytes (rowsIn n (rowsWere ids epochs bytes)) ⌝ }
 {
     let mut i: usize = 0;
     while i < n {
@@ -45,7 +45,7 @@ pub fn has_removal(
     epochs: &[u16],
     bytes: &[u32],
 ) -> HasRemoval
-    ensures { λ r. ⌜ told r ≡ hasRemoval (removal .removed) (tables (now (ids .entry)) (now (epochs .entry)) (now (bytes .entry))) ⌝ }
+    ensures { λ r. ⌜ decided r ≡ hasRemoval (holdingRows (removal .removed) (rowsWere ids epochs bytes)) ⌝ }
 {
     let removed = removal.removed;
     if is_proper(removed, ids, epochs, bytes) {
@@ -60,7 +60,7 @@ pub fn has_removal(
 
 // A truth as an answer.
 fn yes_or_no(truth: bool) -> HasRemoval
-    ensures { λ r. ⌜ told r ≡ ok truth ⌝ }
+    ensures { λ r. ⌜ decided r ≡ ok truth ⌝ }
 {
     if truth {
         return HasRemoval::Yes;
@@ -71,7 +71,7 @@ fn yes_or_no(truth: bool) -> HasRemoval
 // The bytes of the first n rows, where they do not pass 32 bits.
 fn total_rows(n: usize, ids: &[[u8; 32]], epochs: &[u16], bytes: &[u32]) -> Total
     requires { ⌜ Room n (tables (now ids) (now epochs) (now bytes)) ⌝ }
-    ensures { λ r. ⌜ totalled r ≡ within (totalRows (rowsIn n (tables (now (ids .entry)) (now (epochs .entry)) (now (bytes .entry))))) ⌝ }
+    ensures { λ r. ⌜ totalled r ≡ totalWithin (totalRows (rowsIn n (rowsWere ids epochs bytes))) ⌝ }
 {
     let mut total: u32 = 0;
     let mut i: usize = 0;
@@ -93,7 +93,7 @@ pub fn total_removed_bytes(
     epochs: &[u16],
     bytes: &[u32],
 ) -> Total
-    ensures { λ r. ⌜ totalled r ≡ totalRemoved (removal .removed) (tables (now (ids .entry)) (now (epochs .entry)) (now (bytes .entry))) ⌝ }
+    ensures { λ r. ⌜ totalled r ≡ totalRemoved (holdingRows (removal .removed) (rowsWere ids epochs bytes)) ⌝ }
 {
     let removed = removal.removed;
     if is_proper(removed, ids, epochs, bytes) {

@@ -1,13 +1,13 @@
 // The three tables of rows: place i of them holds an identifier, an epoch and a number of bytes.
 ghost use mathlib.Core.Path.{_≡_};
 ghost use Prim.Native.Nat.{_+_};
-ghost use Rattle.rows_spec.specs.Rows.{row, tables, roomIn, properRows, setRow, Room};
+ghost use Rattle.rows_spec.specs.Rows.{row, tables, roomIn, properRows, setRow, Room, rowsWere, rowsLeft};
 use crate::order;
 use rows_spec::Order;
 
 // Whether n rows have room in all three tables.
 pub fn fit(n: usize, ids: &[[u8; 32]], epochs: &[u16], bytes: &[u32]) -> bool
-    ensures { λ r. ⌜ r ≡ roomIn n (tables (now (ids .entry)) (now (epochs .entry)) (now (bytes .entry))) ⌝ }
+    ensures { λ r. ⌜ r ≡ roomIn n (rowsWere ids epochs bytes) ⌝ }
 {
     if ids.len() < n {
         return false;
@@ -20,7 +20,7 @@ pub fn fit(n: usize, ids: &[[u8; 32]], epochs: &[u16], bytes: &[u32]) -> bool
 
 // Whether the first n rows stand in the tables, ascend and have no pair twice.
 pub fn are_proper(n: usize, ids: &[[u8; 32]], epochs: &[u16], bytes: &[u32]) -> bool
-    ensures { λ r. ⌜ r ≡ properRows n (tables (now (ids .entry)) (now (epochs .entry)) (now (bytes .entry))) ⌝ }
+    ensures { λ r. ⌜ r ≡ properRows n (rowsWere ids epochs bytes) ⌝ }
 {
     if fit(n, ids, epochs, bytes) {
         let mut i: usize = 0;
@@ -53,7 +53,7 @@ pub fn put_row(
     count: u32,
 )
     requires { ⌜ Room (at + 1) (tables (now ids) (now epochs) (now bytes)) ⌝ }
-    ensures { λ _. ⌜ tables (now (ids .exit)) (now (epochs .exit)) (now (bytes .exit)) ≡ setRow (tables (now (ids .entry)) (now (epochs .entry)) (now (bytes .entry))) at (row id epoch count) ⌝ }
+    ensures { λ _. ⌜ rowsLeft ids epochs bytes ≡ setRow (rowsWere ids epochs bytes) at (row id epoch count) ⌝ }
 {
     ids[at] = id;
     epochs[at] = epoch;

@@ -1,4 +1,4 @@
--- Rows placed into three tables from the back: what was placed stands as it ends, and what is before it as it began.
+-- Rows placed into three tables from the back: what was placed stands as it ends, and what is before it began.
 -- One law for a column, then the three together.
 -- Assumes nothing.
 use mathlib.Core.Path.{_≡_, refl, sym, ap, _∙_, subst}
@@ -9,7 +9,8 @@ use lib.ListN.{length, take, drop, length-append, length-drop, take-append-drop}
 use lib.Seq.{length-take-le, take-append-le, take-take, drop-drop, drop-at, drop-append-seam, sets, sets-eq}
 use Rattle.records_spec.specs.Tables.{recordsOf, epochsOf, countsOf, over}
 use Rattle.rows_spec.specs.Rows.{Row, idsOf, partsOf, Tables, tables, rowsOf, rowsIn, overRows, setRow, Room}
-use Rattle.rows_spec.proofs.Columns.{length-ids, ids-append, epochsIn, bytesIn, length-epochs, length-bytes, epochs-in-append, bytes-in-append, three, take-rows, columns}
+use Rattle.rows_spec.proofs.Columns.{length-ids, ids-append, epochsIn, bytesIn, length-epochs, length-bytes, epochs-in-append, bytes-in-append}
+use Rattle.rows_spec.proofs.Columns.{three, take-rows, columns}
 use Rattle.rows_spec.proofs.Rows.{length-rows, room-less}
 
 -- ---- a column
@@ -44,9 +45,12 @@ module _ {ℓ} {A : Type ℓ} where
       let rest = drop (length xs) old in
       let l : length xs ≡ at + (length vs + length zs) = ap (length {A = A}) e ∙ length-append ys (vs ++ zs) ∙ rw (n, length-append vs zs) in
       let w = half-long k xs old (omega arith) h in
-      let q : over xs old ≡ ys ++ (vs ++ (zs ++ rest)) = ap (λ (u : List A). u ++ rest) e ∙ append-assoc ys (vs ++ zs) rest ∙ ap (λ (u : List A). ys ++ u) (append-assoc vs zs rest) in
-      let d : drop k (over xs old) ≡ zs ++ rest = rw (q, m, ← drop-drop (length vs) at (ys ++ (vs ++ (zs ++ rest))), drop-at ys (vs ++ (zs ++ rest)) at n) (drop-append-seam vs (zs ++ rest)) in
-      let f : drop (at + length vs) (half k xs old) ≡ zs ++ rest = rw (← m) (drop-at (take k old) (drop k (over xs old)) k (length-take-le k old (omega arith)) ∙ d) in
+      let q : over xs old ≡ ys ++ (vs ++ (zs ++ rest)) = ap (λ (u : List A). u ++ rest) e ∙ append-assoc ys (vs ++ zs) rest
+      ∙ ap (λ (u : List A). ys ++ u) (append-assoc vs zs rest) in
+      let d : drop k (over xs old) ≡ zs ++ rest =
+      rw (q, m, ← drop-drop (length vs) at (ys ++ (vs ++ (zs ++ rest))), drop-at ys (vs ++ (zs ++ rest)) at n) (drop-append-seam vs (zs ++ rest)) in
+      let f : drop (at + length vs) (half k xs old)
+      ≡ zs ++ rest = rw (← m) (drop-at (take k old) (drop k (over xs old)) k (length-take-le k old (omega arith)) ∙ d) in
       sets-eq vs (half k xs old) at (omega arith)
       ∙ append-assoc (take at (half k xs old)) vs (drop (at + length vs) (half k xs old))
       ∙ rw (half-first at k xs old (omega arith) (omega arith), f, ← drop-at ys (vs ++ (zs ++ rest)) at n, ← q)
@@ -60,8 +64,10 @@ module _ {ℓ} {A : Type ℓ} where
       ∙ ap (λ (l : List A). ys ++ l) (ap (drop k) q ∙ drop-at ys (zs ++ rest) k h) ∙ sym q
 
   -- of a column of rows
-  column-run : {at k : ℕ} (column : List Row → List A) → ((rs ss : List Row) → column (rs ++ ss) ≡ column rs ++ column ss) → ((rs : List Row) → length (column rs) ≡ length rs)
-      → {all : List Row} (rest rs written : List Row) (old : List A) → all ≡ rest ++ (rs ++ written) → length rest ≡ at → k ≡ at + length rs → length all ≤ length old
+  column-run : {at k : ℕ} (column : List Row → List A) → ((rs ss : List Row) → column (rs ++ ss) ≡ column rs ++ column ss)
+      → ((rs : List Row) → length (column rs) ≡ length rs)
+      → {all : List Row} (rest rs written : List Row) (old : List A) → all ≡ rest ++ (rs ++ written) → length rest ≡ at → k ≡ at + length rs
+      → length all ≤ length old
       → sets (half k (column all) old) at (column rs) ≡ half at (column all) old
   column-run {at} {k} column append long {all} rest rs written old e n m h =
       half-run at k (column all) (column rest) (column rs) (column written) old
@@ -94,7 +100,8 @@ backing-start all t r =
       parts = sym (append-nil all);
       reached = refl;
       room = r;
-      stands = three (half-start _ (idsOf all) (t .ids) (length-ids all)) (half-start _ (epochsIn all) (t .epochs) (length-epochs all)) (half-start _ (bytesIn all) (t .bytes) (length-bytes all));
+      stands = three (half-start _ (idsOf all) (t .ids) (length-ids all)) (half-start _ (epochsIn all) (t .epochs) (length-epochs all))
+          (half-start _ (bytesIn all) (t .bytes) (length-bytes all));
     }
 
 module _ {all left : List Row} {k : ℕ} {t₀ t : Tables} (b : Backing all left k t₀ t) where
@@ -105,9 +112,12 @@ module _ {all left : List Row} {k : ℕ} {t₀ t : Tables} (b : Backing all left
   pub backing-long : (length (t .ids) ≡ length (t₀ .ids)) × (length (t .epochs) ≡ length (t₀ .epochs)) × (length (t .bytes) ≡ length (t₀ .bytes))
   backing-long =
       let w = within in (
-        ap (λ (u : Tables). length (u .ids)) (b .stands) ∙ half-long k (idsOf all) (t₀ .ids) (omega (arith, length-ids all)) (omega (arith, length-ids all, b .room .ids-long)),
-        ap (λ (u : Tables). length (u .epochs)) (b .stands) ∙ half-long k (epochsIn all) (t₀ .epochs) (omega (arith, length-epochs all)) (omega (arith, length-epochs all, b .room .epochs-long)),
-        ap (λ (u : Tables). length (u .bytes)) (b .stands) ∙ half-long k (bytesIn all) (t₀ .bytes) (omega (arith, length-bytes all)) (omega (arith, length-bytes all, b .room .bytes-long)),
+        ap (λ (u : Tables). length (u .ids)) (b .stands)
+            ∙ half-long k (idsOf all) (t₀ .ids) (omega (arith, length-ids all)) (omega (arith, length-ids all, b .room .ids-long)),
+        ap (λ (u : Tables). length (u .epochs)) (b .stands)
+            ∙ half-long k (epochsIn all) (t₀ .epochs) (omega (arith, length-epochs all)) (omega (arith, length-epochs all, b .room .epochs-long)),
+        ap (λ (u : Tables). length (u .bytes)) (b .stands)
+            ∙ half-long k (bytesIn all) (t₀ .bytes) (omega (arith, length-bytes all)) (omega (arith, length-bytes all, b .room .bytes-long)),
       )
 
   -- the first k places have room
@@ -132,7 +142,8 @@ module _ {all left : List Row} {k : ℕ} {t₀ t : Tables} (b : Backing all left
       ∙ sym (take-rows i t₀)
 
   -- the last run of what is left is placed
-  pub backing-run : {at : ℕ} {t′ : Tables} (rest rs : List Row) → left ≡ rest ++ rs → k ≡ at + length rs → t′ ≡ setRows t at rs → Backing all rest at t₀ t′
+  pub backing-run : {at : ℕ} {t′ : Tables} (rest rs : List Row) → left ≡ rest ++ rs → k ≡ at + length rs → t′ ≡ setRows t at rs
+      → Backing all rest at t₀ t′
   backing-run {at} {t′} rest rs e n s =
       let place : length rest ≡ at = omega (arith, b .reached, ap (length {A = Row}) e, length-append rest rs) in
       let all-is : all ≡ rest ++ (rs ++ b .written) = b .parts ∙ ap (λ (l : List Row). l ++ b .written) e ∙ append-assoc rest rs (b .written) in
@@ -156,8 +167,14 @@ module _ {all left : List Row} {k : ℕ} {t₀ t : Tables} (b : Backing all left
     pub backing-room : (0 < k) × Room (k - 1 + 1) t
     backing-room =
         let s = some-left in
-        let f = backing-fits in
-        (omega arith, record { ids-long = omega (arith, f .ids-long); epochs-long = omega (arith, f .epochs-long); bytes-long = omega (arith, f .bytes-long) })
+        let f = backing-fits in (
+          omega arith,
+          record {
+            ids-long = omega (arith, f .ids-long);
+            epochs-long = omega (arith, f .epochs-long);
+            bytes-long = omega (arith, f .bytes-long);
+          },
+        )
 
     -- it is placed
     pub backing-step : {t′ : Tables} → t′ ≡ setRow t (k - 1) r → Backing all rest (k - 1) t₀ t′
@@ -171,9 +188,12 @@ module _ {all left : List Row} {k : ℕ} {t₀ t : Tables} (b : Backing all left
       let c = columns (room-less k w (b .room)) in
       b .stands
       ∙ three
-      (half-stays k (idsOf all) (idsOf left) (idsOf (b .written)) (t₀ .ids) (ap idsOf (b .parts) ∙ ids-append left (b .written)) (length-ids left ∙ sym (b .reached)) (ap idsOf e ∙ c .ids-first))
-      (half-stays k (epochsIn all) (epochsIn left) (epochsIn (b .written)) (t₀ .epochs) (ap epochsIn (b .parts) ∙ epochs-in-append left (b .written)) (length-epochs left ∙ sym (b .reached)) (ap epochsIn e ∙ c .epochs-first))
-      (half-stays k (bytesIn all) (bytesIn left) (bytesIn (b .written)) (t₀ .bytes) (ap bytesIn (b .parts) ∙ bytes-in-append left (b .written)) (length-bytes left ∙ sym (b .reached)) (ap bytesIn e ∙ c .bytes-first))
+      (half-stays k (idsOf all) (idsOf left) (idsOf (b .written)) (t₀ .ids) (ap idsOf (b .parts) ∙ ids-append left (b .written))
+      (length-ids left ∙ sym (b .reached)) (ap idsOf e ∙ c .ids-first))
+      (half-stays k (epochsIn all) (epochsIn left) (epochsIn (b .written)) (t₀ .epochs) (ap epochsIn (b .parts) ∙ epochs-in-append left (b .written))
+      (length-epochs left ∙ sym (b .reached)) (ap epochsIn e ∙ c .epochs-first))
+      (half-stays k (bytesIn all) (bytesIn left) (bytesIn (b .written)) (t₀ .bytes) (ap bytesIn (b .parts) ∙ bytes-in-append left (b .written))
+      (length-bytes left ∙ sym (b .reached)) (ap bytesIn e ∙ c .bytes-first))
 
   -- nothing is left
   pub backing-done : left ≡ [] → t ≡ overRows all t₀

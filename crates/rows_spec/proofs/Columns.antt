@@ -66,7 +66,8 @@ pub record Columns (n : ℕ) (t : Tables) : Type 0 where
   pub epochs-first : epochsIn (rowsIn n t) ≡ take n (t .epochs)
   pub bytes-first : bytesIn (rowsIn n t) ≡ take n (t .bytes)
 
-columns-of : (n : ℕ) (is : List (List ℕ)) (es bs : List ℕ) → n ≤ length is → n ≤ length es → n ≤ length bs → Columns n (record { ids = is; epochs = es; bytes = bs })
+columns-of : (n : ℕ) (is : List (List ℕ)) (es bs : List ℕ) → n ≤ length is → n ≤ length es → n ≤ length bs
+    → Columns n (record { ids = is; epochs = es; bytes = bs })
 unfolding rowsOf recordsOf idsOf partsOf epochsOf countsOf
 columns-of zero is es bs h k l = record { ids-first = refl; epochs-first = refl; bytes-first = refl }
 columns-of (suc n) [] es bs h k l = absurd (not-suc-le-zero h)
@@ -91,7 +92,8 @@ over-twice ys xs old h =
     let n = length ys - length xs in
     let e : length ys ≡ length xs + n = omega arith in
     ap (λ l. ys ++ l)
-    (ap (λ (k : ℕ). drop k (over xs old)) e ∙ drop-append-add xs (drop (length xs) old) n ∙ drop-drop n (length xs) old ∙ ap (λ (k : ℕ). drop k old) (sym e))
+    (ap (λ (k : ℕ). drop k (over xs old)) e ∙ drop-append-add xs (drop (length xs) old) n ∙ drop-drop n (length xs) old
+    ∙ ap (λ (k : ℕ). drop k old) (sym e))
 
 pub as-long-as {ℓ} : {A : Type ℓ} (xs old : List A) → length xs ≤ length old → length (over xs old) ≡ length old
 as-long-as xs old h = let a = length-append xs (drop (length xs) old) in let b = length-drop (length xs) old in omega arith
@@ -122,7 +124,8 @@ module _ (rs : List Row) (t : Tables) where
         as-long-as (bytesIn rs) (t .bytes) (omega (arith, r .bytes-long, length-bytes rs)),
       )
 
-read-rows : (rs : List Row) (is : List (List ℕ)) (es bs : List ℕ) → rowsIn (length rs) (tables (idsOf rs ++ is) (epochsIn rs ++ es) (bytesIn rs ++ bs)) ≡ rs
+read-rows : (rs : List Row) (is : List (List ℕ)) (es bs : List ℕ)
+    → rowsIn (length rs) (tables (idsOf rs ++ is) (epochsIn rs ++ es) (bytesIn rs ++ bs)) ≡ rs
 unfolding rowsOf recordsOf idsOf partsOf epochsOf countsOf
 read-rows [] is es bs = refl
 read-rows (r ∷ rs) is es bs = ap (λ (l : List Row). r ∷ l) (read-rows rs is es bs)
@@ -180,7 +183,8 @@ module _ (k m : ℕ) (t : Tables) (h : k ≤ m) where
   pub part-rows : rowsIn (m - k) (tables (part k (t .ids)) (part k (t .epochs)) (part k (t .bytes))) ≡ drop k (rowsIn m t)
   part-rows =
       ap (rowsIn (m - k)) (three (part-is k (t .ids)) (part-is k (t .epochs)) (part-is k (t .bytes)))
-      ∙ ap (take (m - k)) (ap (rowsOf (drop k (t .ids))) (sym (drop-records k (t .epochs) (t .bytes))) ∙ drop-rows-of k (t .ids) (recordsOf (t .epochs) (t .bytes)))
+      ∙ ap (take (m - k)) (ap (rowsOf (drop k (t .ids))) (sym (drop-records k (t .epochs) (t .bytes)))
+      ∙ drop-rows-of k (t .ids) (recordsOf (t .epochs) (t .bytes)))
       ∙ take-behind k m (rowsOf (t .ids) (recordsOf (t .epochs) (t .bytes))) h
 
   pub part-proper : Proper m t → Proper (m - k) (tables (part k (t .ids)) (part k (t .epochs)) (part k (t .bytes)))

@@ -76,7 +76,8 @@ module _ (x y : ℕ) (n : Order) where
   by-then : (next : Order) → by x y (andThen n next) ≡ andThen (by x y n) next
   by-then next =
       by-cases (λ o. by x y (andThen n next) ≡ andThen o next) (λ p. rw (lt-ltb x y p))
-      (λ p. let q : y ≤ x = omega arith in rw (le-ltb x y q, lt-ltb y x p)) (λ p. let q : x ≤ y = omega arith in let r : y ≤ x = omega arith in rw (le-ltb x y r, le-ltb y x q))
+      (λ p. let q : y ≤ x = omega arith in rw (le-ltb x y q, lt-ltb y x p))
+      (λ p. let q : x ≤ y = omega arith in let r : y ≤ x = omega arith in rw (le-ltb x y r, le-ltb y x q))
 
 -- ---- lists
 
@@ -97,7 +98,8 @@ order-trans (x ∷ xs) (y ∷ ys) [] h k = absurd (greater-less k)
 order-trans (x ∷ xs) (y ∷ ys) (z ∷ zs) h k =
     ⊎-elim
     (λ p. ⊎-elim (λ q. by-less x z _ (omega arith)) (λ q. by-less x z _ (omega arith)) (by-less-inv y z _ k))
-    (λ p. ⊎-elim (λ q. by-less x z _ (omega arith)) (λ q. by-next x z _ (omega arith) (omega arith) ∙ order-trans xs ys zs (p .1) (q .1)) (by-less-inv y z _ k))
+    (λ p. ⊎-elim (λ q. by-less x z _ (omega arith)) (λ q. by-next x z _ (omega arith) (omega arith) ∙ order-trans xs ys zs (p .1) (q .1))
+    (by-less-inv y z _ k))
     (by-less-inv x y _ h)
 
 pub order-same : (a b : List ℕ) → order a b ≡ Equal → a ≡ b
@@ -184,7 +186,8 @@ pub compared-under : (i : List ℕ) (a b m n : ℕ) → compared (row i a m) (ro
 compared-under i a b m n = order-behind i (a ∷ []) (b ∷ []) ∙ order-one a b
 
 -- by identifiers of one length, then by epochs
-pub compared-parts : (o : Order) (i j : List ℕ) (a b m n : ℕ) → length i ≡ length j → order i j ≡ o → compared (row i a m) (row j b n) ≡ andThen o (by a b Equal)
+pub compared-parts : (o : Order) (i j : List ℕ) (a b m n : ℕ) → length i ≡ length j → order i j ≡ o
+    → compared (row i a m) (row j b n) ≡ andThen o (by a b Equal)
 compared-parts o i j a b m n h e =
     order-then i j (a ∷ []) (b ∷ []) h ∙ ap (andThen (order i j)) (order-one a b) ∙ ap (λ (p : Order). andThen p (by a b Equal)) e
 

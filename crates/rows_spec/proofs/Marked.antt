@@ -7,10 +7,10 @@ use mathlib.Core.Bool.{Bool, true, false}
 use mathlib.Core.List.{List, [], _∷_, _++_, map}
 use lib.ListN.{replicate}
 use Rattle.records_spec.specs.Tables.{recordsOf}
-use Rattle.records_spec.specs.Answers.{Answer, ok, refused}
+use Rattle.records_spec.specs.Outcomes.{refused, Answer, ok}
 use Rattle.rows_spec.specs.Order.{order}
 use Rattle.rows_spec.specs.Rows.{ascends, Tables, tables, rowsOf, properRows}
-use Rattle.rows_spec.specs.Removals.{totalRows, anyBytes}
+use Rattle.rows_spec.specs.Removals.{totalRows, anyBytes, holdingRows}
 use Rattle.rows_spec.specs.Calls.{hasRemoval, totalRemoved}
 use Rattle.rows_spec.specs.declared.removed.Removed.{Removed}
 use Rattle.rows_spec.specs.declared.removed.Removed.the-variants.{None, Basic, Sectioned}
@@ -28,7 +28,7 @@ example state rows has total = record { state = state; rows = rows; has = has; t
 
 -- the two answers of the calls
 abbrev answered : Example → Example
-answered e = example (e .state) (e .rows) (hasRemoval (e .state) (e .rows)) (totalRemoved (e .state) (e .rows))
+answered e = example (e .state) (e .rows) (hasRemoval (holdingRows (e .state) (e .rows))) (totalRemoved (holdingRows (e .state) (e .rows)))
 
 -- identifiers that differ in their last byte
 abbrev id : ℕ → List ℕ

@@ -7,10 +7,12 @@ use mathlib.Core.Bool.{Bool, true, false, cond}
 use lib.ListN.{drop, getD}
 use borrow.Author.Tests.{le-leb, lt-leb, lt-ltb, le-ltb}
 use Rattle.fields_spec.specs.Varint.{largest}
-use Rattle.records_spec.specs.Answers.{Answer, ok, refused}
+use Rattle.records_spec.specs.Outcomes.{refused, Answer, ok}
+use Rattle.records_spec.specs.Refusals.{number}
+use Rattle.records_spec.specs.declared.refusal.Refusal.the-variants.{BadTable, TotalTooLarge}
 use Rattle.rows_spec.specs.Rows.{Row, Tables, rowsIn, Room, Proper}
-use Rattle.rows_spec.specs.Removals.{Removal, removalOf, proper, totalRows, anyBytes}
-use Rattle.rows_spec.specs.Calls.{within}
+use Rattle.rows_spec.specs.Removals.{Removal, removalIn, properIn, totalRows, anyBytes}
+use Rattle.rows_spec.specs.Calls.{totalWithin}
 use Rattle.rows_spec.specs.declared.removed.Removed.{Removed}
 use Rattle.rows_spec.specs.declared.removed.Removed.the-variants.{Sectioned}
 use Rattle.rows_spec.proofs.Rows.{rows-on, rows-end, proper-rows}
@@ -44,22 +46,23 @@ pub total-cons : (r : Row) (rs : List Row) → totalRows (r ∷ rs) ≡ r .part 
 unfolding totalRows
 total-cons r rs = refl
 
-pub within-over : (n : ℕ) → largest < n → within n ≡ refused 9
+pub within-over : (n : ℕ) → largest < n → totalWithin n ≡ refused (number TotalTooLarge)
 within-over n h = rw (lt-leb _ _ h)
 
-pub within-fits : (n : ℕ) → n ≤ largest → within n ≡ ok n
+pub within-fits : (n : ℕ) → n ≤ largest → totalWithin n ≡ ok n
 within-fits n h = rw (le-leb _ _ h)
 
 -- ---- by the tests of the calls
 
 -- a proper sectioned removal has proper rows
-pub proper-sectioned : (x : Removed) (n : ℕ) (t : Tables) → proper x t ≡ true → x ≡ Sectioned n → Proper n t
-proper-sectioned x n t h e = proper-rows n t (ap (λ (y : Removed). proper y t) (sym e) ∙ h)
+pub proper-sectioned : (x : Removed) (n : ℕ) (t : Tables) → properIn x t ≡ true → x ≡ Sectioned n → Proper n t
+proper-sectioned x n t h e = proper-rows n t (ap (λ (y : Removed). properIn y t) (sym e) ∙ h)
 
 -- what is answered of a removal that is tested: 11 where it is not proper
-module _ {A : Type 0} (answer : Removal → Answer A) (x : Removed) (t : Tables) {test : Bool} (tested : test ≡ proper x t) where
-  pub answered-bad : test ≡ false → refused 11 ≡ cond (proper x t) (answer (removalOf x t)) (refused 11)
+module _ {A : Type 0} (answer : Removal → Answer A) (x : Removed) (t : Tables) {test : Bool} (tested : test ≡ properIn x t) where
+  pub answered-bad : test ≡ false → refused (number BadTable) ≡ cond (properIn x t) (answer (removalIn x t)) (refused (number BadTable))
   answered-bad h = rw (← tested, h)
 
-  pub answered-proper : test ≡ true → (y : Removed) → x ≡ y → answer (removalOf y t) ≡ cond (proper x t) (answer (removalOf x t)) (refused 11)
-  answered-proper h y e = rw (← tested, h) (ap (λ (z : Removed). answer (removalOf z t)) (sym e))
+  pub answered-proper : test ≡ true → (y : Removed) → x ≡ y
+      → answer (removalIn y t) ≡ cond (properIn x t) (answer (removalIn x t)) (refused (number BadTable))
+  answered-proper h y e = rw (← tested, h) (ap (λ (z : Removed). answer (removalIn z t)) (sym e))

@@ -67,7 +67,8 @@ module _ (i : List ℕ) where
   before-under : (s : At) (ss : List At) → ascending (s .epoch) (epochsOf ss) ≡ true → Before (record { identifier = i; part = s }) (rowsUnder i ss)
   unfolding rowsUnder epochsOf
   before-under s [] h = tt
-  before-under s (u ∷ ss) h = compared-under i (s .epoch) (u .epoch) (s .bytes) (u .bytes) ∙ by-less (s .epoch) (u .epoch) Equal (asc-head (s .epoch) (u .epoch) (epochsOf ss) h)
+  before-under s (u ∷ ss) h = compared-under i (s .epoch) (u .epoch) (s .bytes) (u .bytes)
+      ∙ by-less (s .epoch) (u .epoch) Equal (asc-head (s .epoch) (u .epoch) (epochsOf ss) h)
 
   asc-above : (b : ℕ) (ss : List At) → ascending b (epochsOf ss) ≡ true → ascends (rowsUnder i ss) ≡ true
   unfolding rowsUnder epochsOf

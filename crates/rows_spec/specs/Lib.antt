@@ -1,5 +1,4 @@
 pub mod Order
 pub mod Rows
 pub mod Removals
-pub mod Outcomes
 pub mod Calls

@@ -23,3 +23,9 @@ abbrev pub isLess : Order → Bool
 isLess Less = true
 isLess Equal = false
 isLess Greater = false
+
+-- whether they are equal
+abbrev pub isEqual : Order → Bool
+isEqual Less = false
+isEqual Equal = true
+isEqual Greater = false

@@ -17,16 +17,33 @@ pub data Removal : Type 0 where
   sectioned : List Row → Removal
 
 -- the removal that a state and its tables stand for
-abbrev pub removalOf : Removed → Tables → Removal
-removalOf None t = nothing
-removalOf (Basic n) t = basic n
-removalOf (Sectioned n) t = sectioned (rowsIn n t)
+abbrev pub removalIn : Removed → Tables → Removal
+removalIn None t = nothing
+removalIn (Basic n) t = basic n
+removalIn (Sectioned n) t = sectioned (rowsIn n t)
 
 -- proper: the rows are; a removal without rows is
-abbrev pub proper : Removed → Tables → Bool
-proper None t = true
-proper (Basic n) t = true
-proper (Sectioned n) t = properRows n t
+abbrev pub properIn : Removed → Tables → Bool
+properIn None t = true
+properIn (Basic n) t = true
+properIn (Sectioned n) t = properRows n t
+
+-- a removal as a call is given it: its state, and the tables that hold its rows
+pub record HeldRemoval : Type 0 where
+  pub state : Removed
+  pub rows : Tables
+
+-- of these two
+abbrev pub holdingRows : Removed → Tables → HeldRemoval
+holdingRows s t = record { state = s; rows = t }
+
+-- the removal that it is
+abbrev pub removalOf : HeldRemoval → Removal
+removalOf x = removalIn (x .state) (x .rows)
+
+-- whether it is proper
+abbrev pub properRemoval : HeldRemoval → Bool
+properRemoval x = properIn (x .state) (x .rows)
 
 -- the rows of a removal
 abbrev pub rowsOfRemoval : Removal → List Row
@@ -59,7 +76,7 @@ anyBytes [] = false
 anyBytes (r ∷ rs) = cond (ltb 0 (r .part .bytes)) true (anyBytes rs)
 
 -- whether the number, or some row's bytes, is not 0
-abbrev pub has : Removal → Bool
-has nothing = false
-has (basic n) = ltb 0 n
-has (sectioned rs) = anyBytes rs
+abbrev pub hasBytes : Removal → Bool
+hasBytes nothing = false
+hasBytes (basic n) = ltb 0 n
+hasBytes (sectioned rs) = anyBytes rs

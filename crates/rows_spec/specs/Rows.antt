@@ -6,6 +6,7 @@ use mathlib.Core.Bool.{Bool, true, _&&_}
 use mathlib.Core.List.{List, [], _∷_, _++_}
 use lib.Dec.{leb}
 use lib.ListN.{length, take, getD, set}
+use Rattle.fields_spec.specs.Lending.{Slice, was, left}
 use Rattle.records_spec.specs.Tables.{At, _⦂_, recordsOf, epochsOf, countsOf, over}
 use Rattle.rows_spec.specs.Order.{order, isLess}
 use Rattle.rows_spec.specs.declared.order.Order.{Order}
@@ -63,6 +64,14 @@ pub record Tables : Type 0 where
 -- the tables that three slices are
 abbrev pub tables : List (List ℕ) → List ℕ → List ℕ → Tables
 tables is es bs = record { ids = is; epochs = es; bytes = bs }
+
+-- the tables that three lent slices were as the call began
+abbrev pub rowsWere : Slice (List ℕ) → Slice ℕ → Slice ℕ → Tables
+rowsWere is es bs = tables (was is) (was es) (was bs)
+
+-- and as the call leaves them
+abbrev pub rowsLeft : Slice (List ℕ) → Slice ℕ → Slice ℕ → Tables
+rowsLeft is es bs = tables (left is) (left es) (left bs)
 
 -- identifiers and sections, place by place
 unfoldable pub rowsOf : List (List ℕ) → List At → List Row

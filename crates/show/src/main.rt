@@ -2,8 +2,9 @@
 ghost use Prim.Native.Nat.{_≤_};
 ghost use mathlib.Core.Path.{_≡_};
 ghost use lib.ListN.{length, take};
+ghost use Rattle.fields_spec.specs.Lending.{was, left};
 ghost use Rattle.io.specs.Counts.{Counts};
-ghost use Rattle.listing_spec.specs.Listed.{longestText, listed};
+ghost use Rattle.listing_spec.specs.Listed.{listed, longestText};
 use listing_spec::LONGEST_TEXT;
 use listing_spec::MOST_LISTED;
 use records_spec::Counted;
@@ -12,8 +13,8 @@ use streams::Input;
 // Puts the text at the start of `out`, which has room for every text, so that the refusal does not occur.
 fn text_of(src: &[u8], out: &mut [u8]) -> usize
     requires { ⌜ longestText ≤ length (now out) ⌝ }
-    ensures { λ r. ⌜ Counts r (now (out .exit)) ⌝ }
-    ensures { λ r. ⌜ take r (now (out .exit)) ≡ listed (now (src .entry)) ⌝ }
+    ensures { λ r. ⌜ Counts r (left out) ⌝ }
+    ensures { λ r. ⌜ take r (left out) ≡ listed (was src) ⌝ }
 {
     match listing::list(src, out) {
         Counted::Count(n) => n,

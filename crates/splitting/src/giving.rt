@@ -2,7 +2,7 @@
 ghost use mathlib.Core.Path.{_≡_};
 ghost use Prim.Native.Nat.{_-_, min};
 ghost use lib.ListN.{length};
-ghost use Rattle.records_spec.specs.Tables.{recordsOf};
+ghost use Rattle.records_spec.specs.Answers.{recordsWere};
 ghost use Rattle.splitting_spec.specs.Sections.{minimum};
 ghost use Rattle.splitting_spec.specs.Visits.{visits};
 use splitting_spec::Visited;
@@ -27,7 +27,7 @@ pub fn gives(asked: u32, count: u32) -> u32
 // Visits the records from the latest down, while bytes are left. Nothing is written.
 pub fn visit(epochs: &[u16], counts: &[u32], amount: u32) -> Visited
     requires { ⌜ length (now epochs) ≡ length (now counts) ⌝ }
-    ensures { λ r. ⌜ r ≡ visits (recordsOf (now (epochs .entry)) (now (counts .entry))) amount ⌝ }
+    ensures { λ r. ⌜ r ≡ visits (recordsWere epochs counts) amount ⌝ }
 {
     let mut records: usize = 0;
     let mut left = amount;

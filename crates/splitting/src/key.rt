@@ -1,7 +1,9 @@
 // Splitting a removal of key bytes: they make one section at the base.
 ghost use mathlib.Core.Path.{_≡_};
-ghost use Rattle.rows_spec.specs.Rows.{tables};
-ghost use Rattle.rows_spec.specs.Outcomes.{shown};
+ghost use Rattle.records_spec.specs.Answers.{flagsWere};
+ghost use Rattle.rows_spec.specs.Rows.{rowsWere, rowsLeft};
+ghost use Rattle.records_spec.specs.Outcomes.{after};
+ghost use Rattle.rows_spec.specs.Calls.{toldRemoval};
 ghost use Rattle.splitting_spec.specs.Calls.{splitKey};
 use records_spec::Head;
 use records_spec::Refusal;
@@ -19,7 +21,10 @@ pub fn split_key_removed_bytes(
     row_epochs: &mut [u16],
     row_bytes: &mut [u32],
 ) -> AnsweredRemoval
-    ensures { λ r. ⌜ shown r (tables (now (ids .exit)) (now («row_epochs» .exit)) (now («row_bytes» .exit))) ≡ splitKey flags (now (epochs .entry)) (now (counts .entry)) «removed_key_bytes» (tables (now (ids .entry)) (now («row_epochs» .entry)) (now («row_bytes» .entry))) ⌝ }
+    ensures { λ r.
+        let flags-given = flagsWere flags epochs counts in
+        let rows-lent = rowsWere ids «row_epochs» «row_bytes» in
+        ⌜ after (toldRemoval r) (rowsLeft ids «row_epochs» «row_bytes») ≡ splitKey flags-given «removed_key_bytes» rows-lent ⌝ }
 {
     if records::is_proper(flags, epochs, counts) {
         if removed_key_bytes == 0 {

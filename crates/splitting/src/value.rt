@@ -1,11 +1,13 @@
 // Splitting a removal of value bytes into sections, with the Rust's names where it has them.
 ghost use mathlib.Core.Path.{_≡_};
 ghost use lib.ListN.{length};
+ghost use Rattle.records_spec.specs.Answers.{flagsWere, recordsWere};
 ghost use Rattle.records_spec.specs.Tables.{recordsOf};
-ghost use Rattle.rows_spec.specs.Rows.{tables, Room};
+ghost use Rattle.rows_spec.specs.Rows.{tables, Room, rowsWere, rowsLeft};
+ghost use Rattle.records_spec.specs.Outcomes.{after};
 ghost use Rattle.splitting_spec.specs.Sections.{split};
 ghost use Rattle.splitting_spec.specs.Visits.{rowsAtBase};
-ghost use Rattle.splitting_spec.specs.Calls.{valuePart, PlacedRemoval, shown, splitValue};
+ghost use Rattle.splitting_spec.specs.Calls.{valuePart, PlacedRemoval, splitValue, toldSplit};
 use crate::giving::gives;
 use crate::giving::visit;
 use records_spec::Head;
@@ -42,7 +44,10 @@ fn sectioned_storage_removal(
     requires { ⌜ length (now epochs) ≡ length (now counts) ⌝ }
     requires { ⌜ rows ≡ length (split base (recordsOf (now epochs) (now counts)) «removed_bytes») ⌝ }
     requires { ⌜ Room rows (tables (now ids) (now «row_epochs») (now «row_bytes»)) ⌝ }
-    ensures { λ r. ⌜ PlacedRemoval (valuePart id base (recordsOf (now (epochs .entry)) (now (counts .entry))) «removed_bytes») (r .removed) (tables (now (ids .entry)) (now («row_epochs» .entry)) (now («row_bytes» .entry))) (tables (now (ids .exit)) (now («row_epochs» .exit)) (now («row_bytes» .exit))) ⌝ }
+    ensures { λ r.
+        let rows-lent = rowsWere ids «row_epochs» «row_bytes» in
+        let records-given = recordsWere epochs counts in
+        ⌜ PlacedRemoval (valuePart id base records-given «removed_bytes») (r .removed) rows-lent (rowsLeft ids «row_epochs» «row_bytes») ⌝ }
 {
     if removed_bytes == 0 {
         return StorageRemovedBytes {
@@ -85,7 +90,10 @@ pub fn split_value_removed_bytes(
     row_epochs: &mut [u16],
     row_bytes: &mut [u32],
 ) -> Splitting
-    ensures { λ r. ⌜ shown r (tables (now (ids .exit)) (now («row_epochs» .exit)) (now («row_bytes» .exit))) ≡ splitValue flags (now (epochs .entry)) (now (counts .entry)) «removed_value_bytes» (tables (now (ids .entry)) (now («row_epochs» .entry)) (now («row_bytes» .entry))) ⌝ }
+    ensures { λ r.
+        let flags-given = flagsWere flags epochs counts in
+        let rows-lent = rowsWere ids «row_epochs» «row_bytes» in
+        ⌜ after (toldSplit r) (rowsLeft ids «row_epochs» «row_bytes») ≡ splitValue flags-given «removed_value_bytes» rows-lent ⌝ }
 {
     if records::is_proper(flags, epochs, counts) {
         let n = flags.records;

@@ -28,7 +28,8 @@ pub sections-ascend : (b : ℕ) (rs : List At) (n : ℕ) → ascending b (epochs
 unfolding sections epochsOf
 sections-ascend b [] n h = asc-none b
 sections-ascend b (r ∷ rs) n h =
-    section-before b (r .epoch) (asked n rs) (above r) (sections rs n) (asc-head b (r .epoch) (epochsOf rs) h) (sections-ascend (r .epoch) rs n (asc-tail b (r .epoch) (epochsOf rs) h))
+    section-before b (r .epoch) (asked n rs) (above r) (sections rs n) (asc-head b (r .epoch) (epochsOf rs) h)
+    (sections-ascend (r .epoch) rs n (asc-tail b (r .epoch) (epochsOf rs) h))
 
 -- the base's section, if there is one, comes first
 section-first : (b n most : ℕ) (ss : List At) → ascending b (epochsOf ss) ≡ true → rising (epochsOf (section b n most ++ ss)) ≡ true
@@ -62,7 +63,8 @@ module _ (base : ℕ) (rs : List At) (n : ℕ) (h : ascending base (epochsOf rs)
   -- the sections of a split that do not stand at the base are those at the records
   pub split-beside : besideBase base (split base rs n) ≡ sections rs n
   unfolding split
-  split-beside = beside-section base (asked n rs) (asked n rs) (sections rs n) ∙ beside-all base base (sections rs n) (omega arith) (sections-ascend base rs n h)
+  split-beside = beside-section base (asked n rs) (asked n rs) (sections rs n)
+      ∙ beside-all base base (sections rs n) (omega arith) (sections-ascend base rs n h)
 
 -- ---- the two removals
 
@@ -70,7 +72,8 @@ pub key-ascends : (i : List ℕ) (base n : ℕ) → ascends (rowsOfRemoval (keyP
 key-ascends i base zero = asc-no-rows
 key-ascends i base (suc n) = rw (under-one i base (suc n)) (asc-row (row i base (suc n)) [] tt asc-no-rows)
 
-pub value-ascends : (i : List ℕ) (base : ℕ) (rs : List At) (n : ℕ) → ascending base (epochsOf rs) ≡ true → ascends (rowsOfRemoval (valuePart i base rs n)) ≡ true
+pub value-ascends : (i : List ℕ) (base : ℕ) (rs : List At) (n : ℕ) → ascending base (epochsOf rs) ≡ true
+    → ascends (rowsOfRemoval (valuePart i base rs n)) ≡ true
 value-ascends i base rs zero h = asc-no-rows
 value-ascends i base rs (suc n) h = rows-ascend base rs (suc n) h i
 

@@ -37,7 +37,13 @@ pub sections-short : (rs : List At) (n : ℕ) → length (sections rs n) ≤ len
 unfolding sections
 sections-short [] n = omega arith
 sections-short (r ∷ rs) n =
-    omega (arith, length-append (section (r .epoch) (asked n rs) (above r)) (sections rs n), section-long (r .epoch) (asked n rs) (above r), base-short (asked n rs), sections-short rs n)
+    omega (
+      arith,
+      length-append (section (r .epoch) (asked n rs) (above r)) (sections rs n),
+      section-long (r .epoch) (asked n rs) (above r),
+      base-short (asked n rs),
+      sections-short rs n,
+    )
 
 pub split-long : (base : ℕ) (rs : List At) (n : ℕ) → length (split base rs n) ≡ length (sections rs n) + rowsAtBase (asked n rs)
 unfolding split

@@ -60,14 +60,16 @@ module _ (r : At) (ys : List At) (n : ℕ) where
     sections-at b (x ∷ xs) h =
         let t = asc-tail b (x .epoch) (epochsOf (xs ++ (r ∷ ys))) h in
         let q = later (x .epoch) xs r ys t in
-        beside (r .epoch) read passes (x .epoch) (λ e. omega arith) (asked n (xs ++ (r ∷ ys))) (above x) (sections (xs ++ (r ∷ ys)) n) ∙ sections-at (x .epoch) xs t
+        beside (r .epoch) read passes (x .epoch) (λ e. omega arith) (asked n (xs ++ (r ∷ ys))) (above x) (sections (xs ++ (r ∷ ys)) n)
+        ∙ sections-at (x .epoch) xs t
 
     split-at : (base : ℕ) (xs : List At) → ascending base (epochsOf (xs ++ (r ∷ ys))) ≡ true
         → read (split base (xs ++ (r ∷ ys)) n) ≡ read (section (r .epoch) (asked n ys) (above r) ++ sections ys n)
     unfolding split
     split-at base xs h =
         let q = later base xs r ys h in
-        beside (r .epoch) read passes base (λ e. omega arith) (asked n (xs ++ (r ∷ ys))) (asked n (xs ++ (r ∷ ys))) (sections (xs ++ (r ∷ ys)) n) ∙ sections-at base xs h
+        beside (r .epoch) read passes base (λ e. omega arith) (asked n (xs ++ (r ∷ ys))) (asked n (xs ++ (r ∷ ys))) (sections (xs ++ (r ∷ ys)) n)
+        ∙ sections-at base xs h
 
   module _ (base : ℕ) (xs : List At) (h : ascending base (epochsOf (xs ++ (r ∷ ys))) ≡ true) where
     -- a section stands at a record's epoch exactly if the later ones gave less than asked (`gave-less` of Sums)

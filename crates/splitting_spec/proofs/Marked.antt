@@ -7,15 +7,14 @@ use mathlib.Core.Option.{Option, none, some}
 use mathlib.Core.List.{List, [], _∷_, map}
 use lib.ListN.{length, replicate}
 use Rattle.records_spec.specs.Tables.{At, _⦂_, recordsOf, epochsOf, countsOf, ascending}
-use Rattle.records_spec.specs.Flags.{idOf, headFor, proper}
-use Rattle.records_spec.specs.Answers.{ok}
-use Rattle.records_spec.specs.declared.head.Head.{Head}
+use Rattle.records_spec.specs.Flags.{idOf, headFor, proper, Held, holding}
+use Rattle.rows_spec.specs.Calls.{RemovalAfter}
+use Rattle.records_spec.specs.Outcomes.{kept, ok, leaving, after}
 use Rattle.rows_spec.specs.Rows.{Tables, tables, idsOf, partsOf, rowsUnder, overRows}
-use Rattle.rows_spec.specs.Outcomes.{After as AfterRemoval, kept, placing}
 use Rattle.rows_spec.specs.declared.removed.Removed.{Removed}
 use Rattle.rows_spec.specs.declared.removed.Removed.the-variants.{None, Sectioned}
 use Rattle.splitting_spec.specs.Sections.{spare, section, sections, split, fromLatest}
-use Rattle.splitting_spec.specs.Calls.{After, kept as keptValue, splitKey, splitValue}
+use Rattle.splitting_spec.specs.Calls.{SplitAfter, splitKey, splitValue}
 
 -- an owner or none, records, bytes, lent tables, and what is left
 pub record Example (Left : Type 0) : Type 0 where
@@ -26,8 +25,8 @@ pub record Example (Left : Type 0) : Type 0 where
   pub left : Left
 
 -- what a call leaves
-abbrev made : {Left : Type 0} → (Head → List ℕ → List ℕ → ℕ → Tables → Left) → Example Left → Left
-made call e = call (headFor 5 (e .owner) (length (e .records))) (epochsOf (e .records)) (countsOf (e .records)) (e .amount) (e .lent)
+abbrev made : {Left : Type 0} → (Held → ℕ → Tables → Left) → Example Left → Left
+made call e = call (holding (headFor 5 (e .owner) (length (e .records))) (epochsOf (e .records)) (countsOf (e .records))) (e .amount) (e .lent)
 
 -- an example by its parts
 abbrev example : {Left : Type 0} → Option (List ℕ) → List At → ℕ → Tables → (Tables → Left) → Example Left
@@ -43,18 +42,18 @@ state [] = None
 state (s ∷ ss) = Sectioned (length (s ∷ ss))
 
 -- the answer of the key's call: sections
-abbrev sectionsTold : Option (List ℕ) → List At → Tables → AfterRemoval
-sectionsTold o ss t = record { answer = ok (state ss); rows = overRows (rowsUnder (idOf o) ss) t }
+abbrev sectionsTold : Option (List ℕ) → List At → Tables → RemovalAfter
+sectionsTold o ss t = after (ok (state ss)) (overRows (rowsUnder (idOf o) ss) t)
 
 -- the answer of the value's call: sections, and the number visited
-abbrev sectionsVisited : Option (List ℕ) → List At → ℕ → Tables → After
-sectionsVisited o ss v t = record { answer = ok (record { removal = state ss; visited = v }); rows = overRows (rowsUnder (idOf o) ss) t }
+abbrev sectionsVisited : Option (List ℕ) → List At → ℕ → Tables → SplitAfter
+sectionsVisited o ss v t = after (ok (record { removal = state ss; visited = v })) (overRows (rowsUnder (idOf o) ss) t)
 
 -- an owner
 abbrev someone : Option (List ℕ)
 someone = some (replicate 32 7)
 
-pub key-examples : List (Example AfterRemoval)
+pub key-examples : List (Example RemovalAfter)
 key-examples =
     example none (7 ⦂ 10 ∷ 9 ⦂ 5 ∷ []) 8 (lent 2) (sectionsTold none (5 ⦂ 8 ∷ []))
     ∷ example none (7 ⦂ 10 ∷ 9 ⦂ 5 ∷ []) 0 (lent 0) (sectionsTold none [])
@@ -69,7 +68,7 @@ key-examples =
     ∷ example none (9 ⦂ 5 ∷ 7 ⦂ 10 ∷ []) 0 (lent 0) (kept 11)
     ∷ []
 
-pub value-examples : List (Example After)
+pub value-examples : List (Example SplitAfter)
 value-examples =
     example none (7 ⦂ 10 ∷ 9 ⦂ 5 ∷ []) 6 (lent 2) (sectionsVisited none (7 ⦂ 4 ∷ 9 ⦂ 2 ∷ []) 2)
     ∷ example none (7 ⦂ 10 ∷ 9 ⦂ 5 ∷ []) 20 (lent 4) (sectionsVisited none (5 ⦂ 11 ∷ 7 ⦂ 7 ∷ 9 ⦂ 2 ∷ []) 2)
@@ -88,18 +87,18 @@ value-examples =
     ∷ example none (7 ⦂ 10 ∷ 9 ⦂ 4294967295 ∷ []) 4294967294 (lent 2) (sectionsVisited none (7 ⦂ 2 ∷ 9 ⦂ 4294967292 ∷ []) 2)
     ∷ example none (7 ⦂ 4294967295 ∷ []) 4294967295 (lent 2) (sectionsVisited none (5 ⦂ 3 ∷ 7 ⦂ 4294967292 ∷ []) 1)
     ∷ example none [] 4294967293 (lent 1) (sectionsVisited none (5 ⦂ 4294967293 ∷ []) 0)
-    ∷ example none (7 ⦂ 1 ∷ []) 4294967295 (lent 1) (keptValue 10)
-    ∷ example none (7 ⦂ 10 ∷ 9 ⦂ 5 ∷ []) 20 (lent 2) (keptValue 10)
-    ∷ example none (9 ⦂ 5 ∷ 7 ⦂ 10 ∷ []) 20 (lent 3) (keptValue 11)
-    ∷ example none (9 ⦂ 5 ∷ 7 ⦂ 10 ∷ []) 0 (lent 0) (keptValue 11)
+    ∷ example none (7 ⦂ 1 ∷ []) 4294967295 (lent 1) (kept 10)
+    ∷ example none (7 ⦂ 10 ∷ 9 ⦂ 5 ∷ []) 20 (lent 2) (kept 10)
+    ∷ example none (9 ⦂ 5 ∷ 7 ⦂ 10 ∷ []) 20 (lent 3) (kept 11)
+    ∷ example none (9 ⦂ 5 ∷ 7 ⦂ 10 ∷ []) 0 (lent 0) (kept 11)
     ∷ []
 
-pub key-marked : map (made splitKey) key-examples ≡ map (λ (e : Example AfterRemoval). e .left) key-examples
-unfolding key-examples splitKey placing proper ascending recordsOf epochsOf countsOf idsOf partsOf rowsUnder
+pub key-marked : map (made splitKey) key-examples ≡ map (λ (e : Example RemovalAfter). e .left) key-examples
+unfolding key-examples splitKey leaving proper ascending recordsOf epochsOf countsOf idsOf partsOf rowsUnder
 key-marked = refl
 
-pub value-marked : map (made splitValue) value-examples ≡ map (λ (e : Example After). e .left) value-examples
-unfolding value-examples splitValue placing proper ascending recordsOf epochsOf countsOf spare section sections split idsOf partsOf rowsUnder
+pub value-marked : map (made splitValue) value-examples ≡ map (λ (e : Example SplitAfter). e .left) value-examples
+unfolding value-examples splitValue leaving proper ascending recordsOf epochsOf countsOf spare section sections split idsOf partsOf rowsUnder
 value-marked = refl
 
 -- the loop of the Rust over whole numbers, at the smallest inputs where its own sum of 32 bits overflows

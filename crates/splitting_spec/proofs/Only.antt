@@ -1,24 +1,17 @@
--- The statement of the value's call leaves no choice: what is shown of an outcome tells it.
+-- What is told of the value's answer tells it: there is a way back.
 -- Assumes nothing.
 use mathlib.Core.Path.{_≡_, refl, ap}
-use Rattle.records_spec.specs.Answers.{Answer, ok, refused}
-use Rattle.records_spec.proofs.Only.{same-only, back-only, named, named-back}
-use Rattle.rows_spec.specs.Rows.{Tables}
-use Rattle.splitting_spec.specs.Calls.{Told, After, told, shown}
+use Rattle.records_spec.proofs.Only.{named, named-back}
+use Rattle.records_spec.specs.Outcomes.{refused, Answer, ok}
+use Rattle.splitting_spec.specs.Calls.{Told, toldSplit}
 use Rattle.splitting_spec.specs.declared.split.Splitting.{Splitting}
 use Rattle.splitting_spec.specs.declared.split.Splitting.the-variants.{Done, Refused}
 
 -- the answer that a state and a number, or a refusal's number, tell
-abbrev toldAs : Answer Told → Splitting
-toldAs (ok t) = Done (record { removal = record { removed = t .removal }; visited = t .visited })
-toldAs (refused n) = Refused (named n)
+abbrev pub splitAs : Answer Told → Splitting
+splitAs (ok t) = Done (record { removal = record { removed = t .removal }; visited = t .visited })
+splitAs (refused n) = Refused (named n)
 
-told-back : (s : Splitting) → toldAs (told s) ≡ s
-told-back (Done s) = refl
-told-back (Refused r) = ap Refused (named-back r)
-
-pub shown-only : (a b : Splitting) (t u : Tables) (x : After) → shown a t ≡ x → shown b u ≡ x → (a ≡ b) × (t ≡ u)
-shown-only a b t u x p q = (
-  back-only told toldAs told-back a b (x .answer) (ap (λ (w : After). w .answer) p) (ap (λ (w : After). w .answer) q),
-  ap (λ (w : After). w .rows) (same-only (shown a t) (shown b u) x p q),
-)
+pub split-back : (s : Splitting) → splitAs (toldSplit s) ≡ s
+split-back (Done s) = refl
+split-back (Refused r) = ap Refused (named-back r)

@@ -32,7 +32,8 @@ module _ (i : List ℕ) (n : ℕ) (ss : List At) (t : Tables) where
       let e = removal-none i n ss h in
       record { state = sym (ap stateOf e); rows = sym (over-nothing t) ∙ ap (λ (r : Removal). overRows (rowsOfRemoval r) t) (sym e) }
 
-  pub rows-placed : {t′ : Tables} → 0 < n → (k : ℕ) → k ≡ length ss → t′ ≡ overRows (rowsUnder i ss) t → PlacedRemoval (removalUnder i n ss) (Sectioned k) t t′
+  pub rows-placed : {t′ : Tables} → 0 < n → (k : ℕ) → k ≡ length ss → t′ ≡ overRows (rowsUnder i ss) t
+      → PlacedRemoval (removalUnder i n ss) (Sectioned k) t t′
   rows-placed h k l p =
       let e = removal-some i n ss h in
       record {
@@ -56,7 +57,8 @@ pub record Placing (i : List ℕ) (base : ℕ) (es cs : List ℕ) (n left j k : 
   pub within : j ≤ length cs
   pub backing : Backing (rowsUnder i (split base (recordsOf es cs) n)) (rowsUnder i (split base (take j (recordsOf es cs)) left)) k t t′
 
-pub placing-start : (i : List ℕ) (base : ℕ) (es cs : List ℕ) (n k : ℕ) (t : Tables) → length es ≡ length cs → k ≡ length (split base (recordsOf es cs) n)
+pub placing-start : (i : List ℕ) (base : ℕ) (es cs : List ℕ) (n k : ℕ) (t : Tables) → length es ≡ length cs
+    → k ≡ length (split base (recordsOf es cs) n)
     → Room k t → Placing i base es cs n n (length cs) k t t
 placing-start i base es cs n k t h l r =
     let ss = split base (recordsOf es cs) n in
@@ -86,13 +88,18 @@ module _ {i : List ℕ} {base : ℕ} {es cs : List ℕ} {n left j k : ℕ} {t t�
 
     -- the row of the latest of these records is placed
     pub placing-step : {u : Tables} → u ≡ setRow t′ (k - 1) (row i (getD es (j - 1) 0) g) → Placing i base es cs n (left - g) (j - 1) (k - 1) t u
-    placing-step s = record { even = p .even; within = omega (arith, p .within); backing = backing-step (p .backing) rest (row i (getD es (j - 1) 0) g) last s }
+    placing-step s = record {
+      even = p .even;
+      within = omega (arith, p .within);
+      backing = backing-step (p .backing) rest (row i (getD es (j - 1) 0) g) last s;
+    }
 
   -- nothing is left
   pub placing-none : 0 < n → (rows : ℕ) → rows ≡ length (split base (recordsOf es cs) n) → left ≡ 0
       → PlacedRemoval (valuePart i base (recordsOf es cs) n) (Sectioned rows) t t′
   placing-none h rows l z =
-      let e = ap (λ (m : ℕ). rowsUnder i (split base (take j (recordsOf es cs)) m)) z ∙ ap (rowsUnder i) (split-none base (take j (recordsOf es cs))) ∙ under-none i in
+      let e = ap (λ (m : ℕ). rowsUnder i (split base (take j (recordsOf es cs)) m)) z ∙ ap (rowsUnder i) (split-none base (take j (recordsOf es cs)))
+      ∙ under-none i in
       rows-placed i n (split base (recordsOf es cs) n) t h rows l (backing-done (p .backing) e)
 
   -- no record is left, and the base gives the rest

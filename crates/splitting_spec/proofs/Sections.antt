@@ -88,11 +88,13 @@ module _ (rs : List At) (r : At) (n : ℕ) where
   pub split-last : (base : ℕ) → split base (rs ++ (r ∷ [])) n ≡ split base rs (n - min n (above r)) ++ section (r .epoch) n (above r)
   unfolding split
   split-last base = rw (asked-last, sections-last)
-      (sym (append-assoc (section base (asked (n - min n (above r)) rs) (asked (n - min n (above r)) rs)) (sections rs (n - min n (above r))) (section (r .epoch) n (above r))))
+      (sym (append-assoc (section base (asked (n - min n (above r)) rs) (asked (n - min n (above r)) rs)) (sections rs (n - min n (above r)))
+      (section (r .epoch) n (above r))))
 
 -- ---- the records of two tables, the last of the first j
 
-module _ (es cs : List ℕ) (j n g : ℕ) (p : 0 < j) (he : j ≤ length es) (hc : j ≤ length cs) (q : 0 < n) (e : g ≡ min n (getD cs (j - 1) 0 - minimum)) where
+module _ (es cs : List ℕ) (j n g : ℕ) (p : 0 < j) (he : j ≤ length es) (hc : j ≤ length cs) (q : 0 < n)
+    (e : g ≡ min n (getD cs (j - 1) 0 - minimum)) where
   -- the record there gives g
   pub asked-next : asked n (take j (recordsOf es cs)) ≡ asked (n - g) (take (j - 1) (recordsOf es cs))
   asked-next = rw (first-last es cs j p he hc, e) (asked-last (take (j - 1) (recordsOf es cs)) (getD es (j - 1) 0 ⦂ getD cs (j - 1) 0) n)
@@ -103,7 +105,8 @@ module _ (es cs : List ℕ) (j n g : ℕ) (p : 0 < j) (he : j ≤ length es) (hc
       (sections-last (take (j - 1) (recordsOf es cs)) (getD es (j - 1) 0 ⦂ getD cs (j - 1) 0) n
       ∙ rw (section-one (getD es (j - 1) 0) n (getD cs (j - 1) 0 - minimum) q))
 
-  pub split-next : (base : ℕ) → split base (take j (recordsOf es cs)) n ≡ split base (take (j - 1) (recordsOf es cs)) (n - g) ++ (getD es (j - 1) 0 ⦂ g ∷ [])
+  pub split-next : (base : ℕ) → split base (take j (recordsOf es cs)) n
+      ≡ split base (take (j - 1) (recordsOf es cs)) (n - g) ++ (getD es (j - 1) 0 ⦂ g ∷ [])
   split-next base =
       rw (first-last es cs j p he hc, e)
       (split-last (take (j - 1) (recordsOf es cs)) (getD es (j - 1) 0 ⦂ getD cs (j - 1) 0) n base

@@ -25,13 +25,23 @@ module _ (i : List ℕ) where
   unfolding sections spare
   sections-sum [] n = total-none i ∙ omega arith
   sections-sum (r ∷ rs) n =
-      omega (arith, total-append i (section (r .epoch) (asked n rs) (above r)) (sections rs n), section-sum (r .epoch) (asked n rs) (above r), sections-sum rs n)
+      omega (
+        arith,
+        total-append i (section (r .epoch) (asked n rs) (above r)) (sections rs n),
+        section-sum (r .epoch) (asked n rs) (above r),
+        sections-sum rs n,
+      )
 
   -- and the base the rest
   pub split-sum : (base : ℕ) (rs : List At) (n : ℕ) → totalRows (rowsUnder i (split base rs n)) ≡ n
   unfolding split
   split-sum base rs n =
-      omega (arith, total-append i (section base (asked n rs) (asked n rs)) (sections rs n), section-sum base (asked n rs) (asked n rs), sections-sum rs n)
+      omega (
+        arith,
+        total-append i (section base (asked n rs) (asked n rs)) (sections rs n),
+        section-sum base (asked n rs) (asked n rs),
+        sections-sum rs n,
+      )
 
   -- earlier epochs are asked for something exactly if the records gave less than was asked
   pub gave-less : (rs : List At) (n : ℕ) → ltb 0 (asked n rs) ≡ ltb (totalRows (rowsUnder i (sections rs n))) n

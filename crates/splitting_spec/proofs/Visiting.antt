@@ -32,7 +32,8 @@ module _ {es cs : List ℕ} {n visited left j : ℕ} (v : Visiting es cs n visit
   visiting-step g p q e =
       let he : j ≤ length es = omega (arith, v .even, v .reached) in
       let hc : j ≤ length cs = omega (arith, v .reached) in
-      let l = ap (length {A = At}) (sections-next es cs j left g p he hc q e) ∙ length-append (sections (take (j - 1) (recordsOf es cs)) (left - g)) (getD es (j - 1) 0 ⦂ g ∷ []) in
+      let l = ap (length {A = At}) (sections-next es cs j left g p he hc q e)
+      ∙ length-append (sections (take (j - 1) (recordsOf es cs)) (left - g)) (getD es (j - 1) 0 ⦂ g ∷ []) in
       record {
         even = v .even;
         reached = omega (arith, v .reached);

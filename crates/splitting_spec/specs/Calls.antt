@@ -6,12 +6,12 @@ use mathlib.Core.List.{List, [], _∷_}
 use lib.ListN.{length}
 use Rattle.records_spec.specs.Refusals.{number}
 use Rattle.records_spec.specs.Tables.{At, _⦂_}
-use Rattle.records_spec.specs.Flags.{Flags, idOf, flagsOf, proper}
-use Rattle.records_spec.specs.Answers.{Answer, ok, refused}
-use Rattle.records_spec.specs.declared.head.Head.{Head}
-use Rattle.rows_spec.specs.Rows.{Tables, rowsUnder, overRows}
+use Rattle.records_spec.specs.Flags.{Flags, idOf, Held, flagsOf, proper}
+use Rattle.records_spec.specs.Outcomes.{Answer, ok, refused, _unless_, _>>_, After, leaving, placed}
+use Rattle.records_spec.specs.declared.refusal.Refusal.the-variants.{BadTable}
+use Rattle.rows_spec.specs.Rows.{Tables, rowsUnder, roomIn, overRows}
 use Rattle.rows_spec.specs.Removals.{Removal, nothing, sectioned, rowsOfRemoval, stateOf}
-use Rattle.rows_spec.specs.Outcomes.{After as AfterRemoval, whereProper}
+use Rattle.rows_spec.specs.Calls.{RemovalAfter, placedRemoval}
 use Rattle.rows_spec.specs.declared.removed.Removed.{Removed}
 use Rattle.splitting_spec.specs.Sections.{sections, split}
 use Rattle.splitting_spec.specs.declared.split.Splitting.{Splitting}
@@ -49,47 +49,37 @@ pub record PlacedRemoval (r : Removal) (x : Removed) (t t′ : Tables) : Type 0 
   pub state : x ≡ stateOf r
   pub rows : t′ ≡ overRows (rowsOfRemoval r) t
 
--- ---- what the value's call leaves
+-- ---- what the value's call answers
 
 -- a removal's state, and how many records were visited
 pub record Told : Type 0 where
   pub removal : Removed
   pub visited : ℕ
 
+-- these or a refusal, as the code told it
+abbrev pub toldSplit : Splitting → Answer Told
+toldSplit (Done s) = ok (record { removal = s .removal .removed; visited = s .visited })
+toldSplit (Refused r) = refused (number r)
+
 -- all that it leaves: these or a refusal, and the tables lent for the rows
-pub record After : Type 0 where
-  pub answer : Answer Told
-  pub rows : Tables
+abbrev pub SplitAfter : Type 0
+SplitAfter = After (Answer Told) Tables
 
--- what the code answered
-abbrev pub told : Splitting → Answer Told
-told (Done s) = ok (record { removal = s .removal .removed; visited = s .visited })
-told (Refused r) = refused (number r)
-
--- what the code answered and left
-abbrev pub shown : Splitting → Tables → After
-shown s t = record { answer = told s; rows = t }
-
--- a refusal: nothing lent has changed
-abbrev pub kept : ℕ → Tables → After
-kept n t = record { answer = refused n; rows = t }
-
--- a state, and with it how many records were visited; a refusal is its number only
-abbrev pub toldWith : ℕ → Answer Removed → Answer Told
-toldWith v (ok x) = ok (record { removal = x; visited = v })
-toldWith v (refused n) = refused n
-
--- what a call leaves that gives a removal, and how many records were visited
-abbrev pub withVisited : ℕ → AfterRemoval → After
-withVisited v a = record { answer = toldWith v (a .answer); rows = a .rows }
+-- a removal with its rows at the start of the tables, where these have room, and how many records were visited
+abbrev pub placedSplit : ℕ → Removal → Tables → Answer (Told × Tables)
+placedSplit visited r t =
+    placed (roomIn (length (rowsOfRemoval r)) t) (record { removal = stateOf r; visited = visited }) (overRows (rowsOfRemoval r) t)
 
 -- ---- the calls
 
--- `split_key_removed_bytes`: 11 where the flags are not proper, before all else
-unfoldable pub splitKey : Head → List ℕ → List ℕ → ℕ → Tables → AfterRemoval
-splitKey h es cs n t = whereProper (proper h es cs) (keyRemoval (flagsOf h es cs) n) t
+-- `split_key_removed_bytes`
+unfoldable pub splitKey : Held → ℕ → Tables → RemovalAfter
+splitKey f n t = leaving t do
+  BadTable unless proper f
+  placedRemoval (keyRemoval (flagsOf f) n) t
 
--- `split_value_removed_bytes`: the same
-unfoldable pub splitValue : Head → List ℕ → List ℕ → ℕ → Tables → After
-splitValue h es cs n t =
-    withVisited (visitedFor (flagsOf h es cs) n) (whereProper (proper h es cs) (valueRemoval (flagsOf h es cs) n) t)
+-- `split_value_removed_bytes`
+unfoldable pub splitValue : Held → ℕ → Tables → SplitAfter
+splitValue f n t = leaving t do
+  BadTable unless proper f
+  placedSplit (visitedFor (flagsOf f) n) (valueRemoval (flagsOf f) n) t

@@ -15,8 +15,9 @@ use Rattle.records_spec.proofs.Held.{held-put}
 use Rattle.splitting_spec.specs.Sections.{minimum, above, section, split}
 use Rattle.splitting_spec.proofs.Sections.{split-none, asked-all, asked-last, split-last}
 use Rattle.splitting_spec.proofs.Given.{later}
-use Rattle.removal_spec.specs.Removing.{left}
-use Rattle.steps.proofs.Remaining.{remaining, remaining-none, stays, remains, remaining-each, stays-left, given, given-append, part, part-sum, given-section}
+use Rattle.removal_spec.specs.Removing.{remainder}
+use Rattle.steps.proofs.Remaining.{remaining, remaining-none, stays, remains, remaining-each, stays-left, given, given-append, part, part-sum}
+use Rattle.steps.proofs.Remaining.{given-section}
 
 -- records up to a latest one, at e
 abbrev pub upTo : List At → ℕ → ℕ → List At
@@ -76,7 +77,7 @@ module _ (rs : List At) (e c x y : ℕ) (p : 4 ≤ c) where
   same-stays : stays (e ⦂ (c + x)) (x + y) ≡ stays (e ⦂ c) y
   same-stays =
       let z : c + x - min (x + y) (c + x - minimum) ≡ c - min y (c - minimum) = omega arith in
-      stays-left (e ⦂ (c + x)) (x + y) (omega arith) ∙ ap (left e) z ∙ sym (stays-left (e ⦂ c) y (omega arith))
+      stays-left (e ⦂ (c + x)) (x + y) (omega arith) ∙ ap (remainder e) z ∙ sym (stays-left (e ⦂ c) y (omega arith))
 
   pub remaining-back : (base : ℕ) → ascending base (epochsOf (upTo rs e c)) ≡ true
       → remaining base (upTo rs e (c + x)) (x + y) ≡ remaining base (upTo rs e c) y
@@ -94,7 +95,8 @@ module _ (rs : List At) (e c x y : ℕ) (p : 4 ≤ c) where
 
 -- ---- a removal of no more than was added since: it is taken back from the latest record alone
 
-pub taken-back : (base : ℕ) (rs : List At) (e k n : ℕ) → ascending base (epochsOf (upTo rs e k)) ≡ true → 4 + n ≤ k → remaining base (upTo rs e k) n ≡ upTo rs e (k - n)
+pub taken-back : (base : ℕ) (rs : List At) (e k n : ℕ) → ascending base (epochsOf (upTo rs e k)) ≡ true → 4 + n ≤ k
+    → remaining base (upTo rs e k) n ≡ upTo rs e (k - n)
 taken-back base rs e k n a p =
     let w : k - n + n ≡ k = omega arith in
     let z : n + 0 ≡ n = omega arith in

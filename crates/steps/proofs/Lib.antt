@@ -11,5 +11,3 @@ pub mod SmallSteps
 pub mod Witness
 pub mod Needed
 pub mod Marked
-pub mod Only
-pub mod Keeping

@@ -6,16 +6,15 @@ use mathlib.Core.Option.{none}
 use mathlib.Core.List.{List, [], _∷_, map}
 use Rattle.records_spec.specs.Tables.{At, _⦂_, recordsOf, epochsOf, countsOf, ascending, has, held, put, union}
 use Rattle.records_spec.specs.Flags.{flags, zeros, same, proper}
-use Rattle.records_spec.specs.Answers.{after}
 use Rattle.flags_spec.specs.Merging.{added}
 use Rattle.flags_spec.specs.Calls.{combinedAdded}
 use Rattle.rows_spec.specs.Order.{order}
 use Rattle.rows_spec.specs.Rows.{ascends, idsOf, partsOf, rowsUnder, tables, rowsOf, properRows}
-use Rattle.rows_spec.specs.Outcomes.{placing}
 use Rattle.splitting_spec.specs.Sections.{spare, section, sections, split}
 use Rattle.splitting_spec.specs.Calls.{splitValue}
-use Rattle.removal_spec.specs.Removing.{allUnder, fault, minus, removed}
+use Rattle.removal_spec.specs.Removing.{allUnder, allFine, minus, removed}
 use Rattle.removal_spec.specs.Calls.{combinedRemoved}
+use Rattle.records_spec.specs.Outcomes.{leaving}
 use Rattle.steps.specs.History.{Edit, Step, add, remove, state, step, run}
 use Rattle.steps.specs.Marked.{Reply, someFlags, refusal, unowned, edit, toldOfStep}
 
@@ -30,8 +29,7 @@ narrow x =
       incoming = x .incoming;
       strategy = x .strategy;
       amount = x .amount;
-      epochs = x .epochs;
-      counts = x .counts;
+      out = x .out;
       row-tables = tables (zeros ∷ zeros ∷ []) (0 ∷ 0 ∷ []) (0 ∷ 0 ∷ []);
     }
 
@@ -50,5 +48,6 @@ examples =
     ∷ []
 
 pub needed : map (λ (x : Example). toldOfStep (run (state (unowned 5 (x .0)) []) (x .1))) examples ≡ map (λ (x : Example). x .2) examples
-unfolding examples run step recordsOf epochsOf countsOf ascending has held put union same proper after added combinedAdded order ascends idsOf partsOf rowsUnder rowsOf properRows spare section sections split placing splitValue allUnder fault minus removed combinedRemoved
+unfolding examples run step recordsOf epochsOf countsOf ascending has held put union same proper leaving added combinedAdded order ascends idsOf
+    partsOf rowsUnder rowsOf properRows spare section sections split splitValue allUnder allFine minus removed combinedRemoved
 needed = refl

@@ -14,7 +14,7 @@ use Rattle.records_spec.specs.Tables.{At, _⦂_, epochsOf, ascending}
 use Rattle.splitting_spec.specs.Sections.{minimum, above, spare, asked, section, sections, split}
 use Rattle.splitting_spec.proofs.Sections.{split-none}
 use Rattle.splitting_spec.proofs.Given.{record-has, record-gives}
-use Rattle.removal_spec.specs.Removing.{left, minus}
+use Rattle.removal_spec.specs.Removing.{remainder, minus}
 use Rattle.removal_spec.proofs.Lessening.{minus-none, minus-cons, minus-above}
 use Rattle.removal_spec.proofs.OwnSplit.{minus-nothing}
 
@@ -29,7 +29,7 @@ remaining-none base rs = ap (minus rs) (split-none base rs) ∙ minus-nothing rs
 
 -- what stays of a record of which n bytes are asked
 abbrev pub stays : At → ℕ → List At
-stays r n = cond (ltb 0 n) (left (r .epoch) (r .bytes - min n (above r))) (r ∷ [])
+stays r n = cond (ltb 0 n) (remainder (r .epoch) (r .bytes - min n (above r))) (r ∷ [])
 
 -- what stays of all records, each asked what the later ones cannot give
 unfoldable pub remains : List At → ℕ → List At
@@ -52,7 +52,7 @@ module _ (base n : ℕ) where
   remaining-each rs h = later-remain [] rs h
 
 -- where something is asked, or more than 3 are held, only what is left decides
-pub stays-left : (r : At) (n : ℕ) → 0 < n + above r → stays r n ≡ left (r .epoch) (r .bytes - min n (above r))
+pub stays-left : (r : At) (n : ℕ) → 0 < n + above r → stays r n ≡ remainder (r .epoch) (r .bytes - min n (above r))
 stays-left r n p =
     elim (decLt 0 n) [
       | yes q ↦ rw (lt-ltb 0 n q)

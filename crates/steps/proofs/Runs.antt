@@ -8,9 +8,9 @@ use Prim.Native.Nat.{ℕ, _+_}
 use native.Mathlib.Omega.{arith}
 use Rattle.records_spec.specs.Tables.{At}
 use Rattle.records_spec.specs.Flags.{Flags, flags, same, idOf}
-use Rattle.records_spec.specs.Answers.{Answer, ok, refused}
 use Rattle.rows_spec.specs.Rows.{Row, rowsUnder}
-use Rattle.steps.specs.History.{Step, State, step, onward, run, refundAt}
+use Rattle.records_spec.specs.Outcomes.{refused, Answer, ok, _>>=_}
+use Rattle.steps.specs.History.{Step, State, step, run, refundAt}
 use Rattle.steps.proofs.Standing.{Stands}
 use Rattle.steps.proofs.Remaining.{given}
 use Rattle.steps.proofs.Refunds.{refund-append, refund-under, refunds-same}
@@ -30,7 +30,12 @@ pub record Ran (st : State) (xs : List Step) (f : Flags) (more : List At) : Type
 pub run-none : (st : State) (f : Flags) (more : List At) → Stands (st .flags) f → ((d : ℕ) → given d more ≡ 0) → Ran st [] f more
 unfolding run
 run-none st f more s z =
-    record { final = st; accepted = refl; stands = s; refunds = λ i d. omega (arith, refund-under i d (idOf (f .owner)) more, by (same (idOf (f .owner)) i) (given d more) (z d)) }
+    record {
+      final = st;
+      accepted = refl;
+      stands = s;
+      refunds = λ i d. omega (arith, refund-under i d (idOf (f .owner)) more, by (same (idOf (f .owner)) i) (given d more) (z d));
+    }
   where
     by : (b : Bool) (n : ℕ) → n ≡ 0 → cond b n 0 ≡ 0
     by true n e = e
@@ -44,7 +49,7 @@ module _ (st : State) (x : Step) (xs : List Step) (f : Flags) (us vs ws : List A
   run-step a r h q =
       record {
         final = q .final;
-        accepted = ap (λ (y : Answer State). onward y (λ st′. run st′ xs)) a ∙ q .accepted;
+        accepted = ap (λ (y : Answer State). _>>=_ y (λ st′. run st′ xs)) a ∙ q .accepted;
         stands = q .stands;
         refunds = λ i d. omega (
           arith,
@@ -55,23 +60,24 @@ module _ (st : State) (x : Step) (xs : List Step) (f : Flags) (us vs ws : List A
       }
 
 -- a run of steps and others is a run of the others where the steps ended
-run-append : (st : State) (xs ys : List Step) → run st (xs ++ ys) ≡ onward (run st xs) (λ st′. run st′ ys)
+run-append : (st : State) (xs ys : List Step) → run st (xs ++ ys) ≡ _>>=_ (run st xs) (λ st′. run st′ ys)
 unfolding run
 run-append st [] ys = refl
 run-append st (x ∷ xs) ys = by (step st x) (λ st′. run-append st′ xs ys)
   where
-    by : (a : Answer State) → ((st′ : State) → run st′ (xs ++ ys) ≡ onward (run st′ xs) (λ st″. run st″ ys))
-        → onward a (λ st′. run st′ (xs ++ ys)) ≡ onward (onward a (λ st′. run st′ xs)) (λ st′. run st′ ys)
+    by : (a : Answer State) → ((st′ : State) → run st′ (xs ++ ys) ≡ _>>=_ (run st′ xs) (λ st″. run st″ ys))
+        → _>>=_ a (λ st′. run st′ (xs ++ ys)) ≡ _>>=_ (_>>=_ a (λ st′. run st′ xs)) (λ st′. run st′ ys)
     by (ok st′) go = go st′
     by (refused n) go = refl
 
 -- steps, then others
-pub run-then : (st : State) (xs ys : List Step) (base : ℕ) (o : Option (List ℕ)) (rs rs′ us vs ws : List At) → ((d : ℕ) → given d us + given d vs ≡ given d ws)
+pub run-then : (st : State) (xs ys : List Step) (base : ℕ) (o : Option (List ℕ)) (rs rs′ us vs ws : List At)
+    → ((d : ℕ) → given d us + given d vs ≡ given d ws)
     → (q : Ran st xs (flags base o rs) us) → Ran (q .final) ys (flags base o rs′) vs → Ran st (xs ++ ys) (flags base o rs′) ws
 run-then st xs ys base o rs rs′ us vs ws h q p =
     record {
       final = p .final;
-      accepted = run-append st xs ys ∙ ap (λ (y : Answer State). onward y (λ st′. run st′ ys)) (q .accepted) ∙ p .accepted;
+      accepted = run-append st xs ys ∙ ap (λ (y : Answer State). _>>=_ y (λ st′. run st′ ys)) (q .accepted) ∙ p .accepted;
       stands = p .stands;
       refunds = λ i d. omega (arith, p .refunds i d, q .refunds i d, refunds-same i d (idOf o) us vs ws (h d));
     }

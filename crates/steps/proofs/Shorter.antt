@@ -23,5 +23,6 @@ counts-less (r ∷ rs) ss =
     lessened-cases (λ (l : List At). countsSize (countsOf (l ++ minus rs ss)) ≤ countsSize (countsOf (r ∷ rs))) ss r
     (omega arith) (λ n p. omega (arith, length-mono n (r .bytes) p))
 
-pub bytes-less : (base : ℕ) (o : Option (List ℕ)) (rs ss : List At) → length (bytesOf (flags base o (minus rs ss))) ≤ length (bytesOf (flags base o rs))
+pub bytes-less : (base : ℕ) (o : Option (List ℕ)) (rs ss : List At)
+    → length (bytesOf (flags base o (minus rs ss))) ≤ length (bytesOf (flags base o rs))
 bytes-less base o rs ss = omega (arith, length-bytes base o (minus rs ss), length-bytes base o rs, counts-less rs ss)

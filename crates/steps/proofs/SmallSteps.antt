@@ -7,14 +7,15 @@ use Prim.Native.Nat.{ℕ, _+_, _-_, _≤_}
 use native.Mathlib.Omega.{arith}
 use lib.ListN.{length}
 use Rattle.records_spec.specs.Tables.{At, _⦂_, over}
-use Rattle.records_spec.specs.Flags.{Flags, ownerOf}
-use Rattle.records_spec.specs.Answers.{ok, writing}
+use Rattle.records_spec.specs.Flags.{Flags, ownerOf, Held}
+use Rattle.records_spec.specs.Answers.{writing}
 use Rattle.records_spec.proofs.Answers.{writing-fits}
 use Rattle.codec_spec.specs.Bytes.{bytesOf}
 use Rattle.codec_spec.proofs.Writings.{serialized-proper}
 use Rattle.rows_spec.specs.Rows.{rowsUnder}
 use Rattle.splitting_spec.specs.Sections.{split}
-use Rattle.steps.specs.Held.{Held, bytesInto}
+use Rattle.records_spec.specs.Outcomes.{ok, after}
+use Rattle.codec_spec.specs.Calls.{serialized}
 use Rattle.steps.specs.History.{Edit, Step, add, remove, state, allAdded, allRemoved, refundAt}
 use Rattle.steps.specs.Demand.{First, Premises, Refunds}
 use Rattle.steps.proofs.Standing.{Stands, stands-ascend, stands-long}
@@ -42,9 +43,9 @@ removed-added f e c A R (remove x ∷ xs) p l = omega (arith, removed-added f e 
 -- ---- the bytes
 
 pub stands-bytes : (h : Held) (f : Flags) (out : List ℕ) → Stands h f → length (bytesOf f) ≤ length out
-    → bytesInto h out ≡ record { answer = ok (length (bytesOf f)); out = over (bytesOf f) out }
+    → serialized h out ≡ after (ok (length (bytesOf f))) (over (bytesOf f) out)
 stands-bytes h f out s l =
-    serialized-proper (h .head) (h .epochs) (h .counts) out (s .are-proper)
+    serialized-proper h out (s .are-proper)
     ∙ ap (λ (g : Flags). writing (bytesOf g) out) (s .are)
     ∙ writing-fits (bytesOf f) out l
 
@@ -91,14 +92,18 @@ module _ (f : Held) (e c : ℕ) (first later : List Step) (one : Edit) (out : Li
   later-ran =
       let k : c + A - back ≡ c + (A - back) = omega (arith, net) in
       let l : length (upTo (p .earlier) e (c + A - back)) ≤ f .head .records = omega (arith, few, length-up (p .earlier) e (c + A - back)) in
-      let q = then-runs f (first-ran .final .flags) (upTo (p .earlier) e (c + A - back)) (first-ran .final .rows) later (p .later-steps) (first-ran .stands) l in
+      let q = then-runs f (first-ran .final .flags) (upTo (p .earlier) e (c + A - back)) (first-ran .final .rows) later (p .later-steps)
+      (first-ran .stands) l in
       subst (λ (l : List At). Ran (first-ran .final) later (at f l) (split b (upTo (p .earlier) e (c + (A - back))) ((A - back) + one .amount)))
       (remaining-back (p .earlier) e c (A - back) (one .amount) four b (stands-ascend start))
-      (subst (λ (m : ℕ). Ran (first-ran .final) later (at f (remaining b (upTo (p .earlier) e m) ((A - back) + one .amount))) (split b (upTo (p .earlier) e m) ((A - back) + one .amount))) k
-      (subst (λ (n : ℕ). Ran (first-ran .final) later (at f (remaining b (upTo (p .earlier) e (c + A - back)) n)) (split b (upTo (p .earlier) e (c + A - back)) n)) rest q))
+      (subst (λ (m : ℕ). Ran (first-ran .final) later (at f (remaining b (upTo (p .earlier) e m) ((A - back) + one .amount)))
+      (split b (upTo (p .earlier) e m) ((A - back) + one .amount))) k
+      (subst (λ (n : ℕ). Ran (first-ran .final) later (at f (remaining b (upTo (p .earlier) e (c + A - back)) n))
+      (split b (upTo (p .earlier) e (c + A - back)) n)) rest q))
 
   -- what all sections come to: what was taken back first and later is what was added
-  all-given : (d : ℕ) → given d (e ⦂ back ∷ []) + given d (split b (upTo (p .earlier) e (c + (A - back))) ((A - back) + one .amount)) ≡ given d (e ⦂ A ∷ split b rs (one .amount))
+  all-given : (d : ℕ) → given d (e ⦂ back ∷ []) + given d (split b (upTo (p .earlier) e (c + (A - back))) ((A - back) + one .amount))
+      ≡ given d (e ⦂ A ∷ split b rs (one .amount))
   all-given d =
       let n : back + (A - back) ≡ A = omega (arith, net) in
       ap (λ (g : ℕ). given d (e ⦂ back ∷ []) + g) (given-back (p .earlier) e c (A - back) (one .amount) four d b)
@@ -106,7 +111,8 @@ module _ (f : Held) (e c : ℕ) (first later : List Step) (one : Edit) (out : Li
       ∙ ap (λ (m : ℕ). given d (e ⦂ m ∷ split b rs (one .amount))) n
 
   all-ran : Ran (state f []) (first ++ later) (at f left) (e ⦂ A ∷ split b rs (one .amount))
-  all-ran = run-then (state f []) first later b (ownerOf (f .head)) (upTo (p .earlier) e (c + A - back)) left (e ⦂ back ∷ []) _ (e ⦂ A ∷ split b rs (one .amount)) all-given first-ran later-ran
+  all-ran = run-then (state f []) first later b (ownerOf (f .head)) (upTo (p .earlier) e (c + A - back)) left (e ⦂ back ∷ []) _
+      (e ⦂ A ∷ split b rs (one .amount)) all-given first-ran later-ran
 
   one-ran : Ran (state f []) (remove one ∷ []) (at f left) (split b rs (one .amount))
   unfolding allRemoved

@@ -2,45 +2,39 @@
 -- Assumes nothing.
 use mathlib.Core.Path.{_≡_, sym, ap, _∙_}
 use mathlib.Core.Bool.{true}
-use mathlib.Core.List.{List}
 use Prim.Native.Nat.{ℕ}
 use native.Mathlib.Omega.{arith}
 use lib.ListN.{length, take}
 use Rattle.records_spec.specs.Tables.{epochsOf, countsOf, ascending, over}
-use Rattle.records_spec.specs.Flags.{Flags}
-use Rattle.records_spec.specs.Answers.{After, placed}
+use Rattle.records_spec.specs.Flags.{Flags, flagsOf, Held, proper, Lent}
+use Rattle.records_spec.specs.Answers.{inTables}
 use Rattle.records_spec.proofs.Tables.{over-first, over-holds, length-epochsOf, length-countsOf}
 use Rattle.records_spec.proofs.Proper.{proper-inv, proper-ascends, proper-long, stand-proper, stand-flags}
-use Rattle.steps.specs.Held.{Held, holding, properHeld, flagsIn}
 
 -- held flags are proper, and these
 pub record Stands (h : Held) (f : Flags) : Type 0 where
-  pub are-proper : properHeld h ≡ true
-  pub are : flagsIn h ≡ f
+  pub are-proper : proper h ≡ true
+  pub are : flagsOf h ≡ f
 
 -- ---- what was placed
 
--- the head and tables that a call left
-abbrev pub heldIn : After → Held
-heldIn a = holding (a .head) (a .epochs) (a .counts)
-
-module _ (f : Flags) (es cs : List ℕ) where
+module _ (f : Flags) (t : Lent) where
   abbrev n : ℕ
   n = length (f .records)
 
-  epochs-first : take n (over (epochsOf (f .records)) es) ≡ epochsOf (f .records)
-  epochs-first = over-first (epochsOf (f .records)) es n (length-epochsOf (f .records))
+  epochs-first : take n (over (epochsOf (f .records)) (t .epochs)) ≡ epochsOf (f .records)
+  epochs-first = over-first (epochsOf (f .records)) (t .epochs) n (length-epochsOf (f .records))
 
-  counts-first : take n (over (countsOf (f .records)) cs) ≡ countsOf (f .records)
-  counts-first = over-first (countsOf (f .records)) cs n (length-countsOf (f .records))
+  counts-first : take n (over (countsOf (f .records)) (t .counts)) ≡ countsOf (f .records)
+  counts-first = over-first (countsOf (f .records)) (t .counts) n (length-countsOf (f .records))
 
   -- FLAGS THAT WERE PLACED STAND IN THE TABLES
-  pub placed-stands : ascending (f .base) (epochsOf (f .records)) ≡ true → Stands (heldIn (placed f es cs)) f
+  pub placed-stands : ascending (f .base) (epochsOf (f .records)) ≡ true → Stands (inTables f t) f
   placed-stands h =
       record {
         are-proper =
-            stand-proper f _ _ epochs-first (omega (arith, length-epochsOf (f .records), over-holds (epochsOf (f .records)) es))
-            (omega (arith, length-countsOf (f .records), over-holds (countsOf (f .records)) cs)) h;
+            stand-proper f _ _ epochs-first (omega (arith, length-epochsOf (f .records), over-holds (epochsOf (f .records)) (t .epochs)))
+            (omega (arith, length-countsOf (f .records), over-holds (countsOf (f .records)) (t .counts))) h;
         are = stand-flags f _ _ epochs-first counts-first;
       }
 
@@ -50,7 +44,8 @@ module _ {h : Held} {f : Flags} (s : Stands h f) where
   -- the records ascend above the base, and the head tells their number
   pub stands-ascend : ascending (f .base) (epochsOf (f .records)) ≡ true
   stands-ascend =
-      ap (λ (g : Flags). ascending (g .base) (epochsOf (g .records))) (sym (s .are)) ∙ proper-ascends (proper-inv (h .head) (h .epochs) (h .counts) (s .are-proper))
+      ap (λ (g : Flags). ascending (g .base) (epochsOf (g .records))) (sym (s .are))
+      ∙ proper-ascends (proper-inv (h .head) (h .epochs) (h .counts) (s .are-proper))
 
   pub stands-long : length (f .records) ≡ h .head .records
   stands-long = ap (λ (g : Flags). length (g .records)) (sym (s .are)) ∙ proper-long (proper-inv (h .head) (h .epochs) (h .counts) (s .are-proper))

@@ -12,21 +12,19 @@ use lib.ListN.{replicate}
 use Rattle.fields_spec.specs.Big.{big}
 use Rattle.fields_spec.specs.Varint.{largest, groups, varint}
 use Rattle.records_spec.specs.Tables.{_⦂_, recordsOf, epochsOf, countsOf, ascending, has, held, put, union}
-use Rattle.records_spec.specs.Flags.{Flags, flags, same, headOf, proper}
-use Rattle.records_spec.specs.Answers.{Answer, ok, refused, after}
+use Rattle.records_spec.specs.Flags.{Flags, flags, same, headOf, proper, flagsOf, Held, holding, lending}
 use Rattle.codec_spec.specs.Bytes.{recordsBytes, bytesOf}
 use Rattle.flags_spec.specs.Merging.{added}
 use Rattle.flags_spec.specs.Calls.{combinedAdded}
+use Rattle.records_spec.specs.Outcomes.{refused, Answer, ok, leaving}
 use Rattle.flags_spec.specs.declared.owners.MergingOwnersStrategy.{MergingOwnersStrategy}
 use Rattle.flags_spec.specs.declared.owners.MergingOwnersStrategy.the-variants.{RaiseIssue, UseOurs, UseTheirs}
 use Rattle.rows_spec.specs.Order.{order}
 use Rattle.rows_spec.specs.Rows.{ascends, idsOf, partsOf, rowsUnder, Tables, tables, rowsOf, properRows}
-use Rattle.rows_spec.specs.Outcomes.{placing}
 use Rattle.splitting_spec.specs.Sections.{spare, section, sections, split}
 use Rattle.splitting_spec.specs.Calls.{splitValue}
-use Rattle.removal_spec.specs.Removing.{allUnder, fault, minus, removed}
+use Rattle.removal_spec.specs.Removing.{allUnder, allFine, minus, removed}
 use Rattle.removal_spec.specs.Calls.{combinedRemoved}
-use Rattle.steps.specs.Held.{Held, holding, flagsIn}
 use Rattle.steps.specs.History.{Edit, Step, add, remove, State, state, step, run, allAdded, allRemoved, refundAt}
 use Rattle.steps.specs.Demand.{Single, Adds, Removes, Premises, Refunds}
 use Rattle.steps.proofs.SmallSteps.{small-steps}
@@ -48,10 +46,11 @@ room n = tables (replicate n []) (replicate n 0) (replicate n 0)
 -- incoming flags of an owner or none, at an epoch; a strategy; an amount; room for two records and three rows
 abbrev edit : Option (List ℕ) → ℕ → MergingOwnersStrategy → ℕ → Edit
 edit o e s n =
-    record { incoming = exactly (flags e o []); strategy = s; amount = n; epochs = replicate 2 0; counts = replicate 2 0; row-tables = room 3 }
+    record { incoming = exactly (flags e o []); strategy = s; amount = n; out = lending (replicate 2 0) (replicate 2 0); row-tables = room 3 }
 
 abbrev firsts : List Step
-firsts = add (edit none 9 UseTheirs 5) ∷ remove (edit owner 6 RaiseIssue 3) ∷ add (edit owner 9 RaiseIssue 3) ∷ remove (edit none 65535 UseOurs 5) ∷ []
+firsts = add (edit none 9 UseTheirs 5) ∷ remove (edit owner 6 RaiseIssue 3) ∷ add (edit owner 9 RaiseIssue 3) ∷ remove
+    (edit none 65535 UseOurs 5) ∷ []
 
 abbrev laters : List Step
 laters = remove (edit none 9 RaiseIssue 1) ∷ remove (edit owner 7 UseOurs 6) ∷ []
@@ -72,7 +71,8 @@ ours e = record { are-proper = refl; kind-0-or-2 = refl; no-owner-or-ours = inr 
 adds : (o : Option (List ℕ)) (s : MergingOwnersStrategy) (n : ℕ) → Single start (exactly (flags 9 o [])) → Adds start 9 (edit o 9 s n)
 adds o s n i = record { single = i; at-e = refl; record-room = record { epochs-long = omega arith; counts-long = omega arith } }
 
-removes : (o : Option (List ℕ)) (e : ℕ) (s : MergingOwnersStrategy) (n : ℕ) → Single start (exactly (flags e o [])) → 5 < e → n ≤ largest → Removes start (edit o e s n)
+removes : (o : Option (List ℕ)) (e : ℕ) (s : MergingOwnersStrategy) (n : ℕ) → Single start (exactly (flags e o [])) → 5 < e → n ≤ largest
+    → Removes start (edit o e s n)
 removes o e s n i p q =
     record {
       single = i;
@@ -104,7 +104,10 @@ met =
           ),
         ),
       );
-      later-steps = (removes none 9 RaiseIssue 1 (unowned 9) (omega arith) (omega arith), (removes owner 7 UseOurs 6 (ours 7) (omega arith) (omega arith), tt));
+      later-steps = (
+        removes none 9 RaiseIssue 1 (unowned 9) (omega arith) (omega arith),
+        (removes owner 7 UseOurs 6 (ours 7) (omega arith) (omega arith), tt),
+      );
       not-below-0 = omega arith;
       one-amount = refl;
       one-removal = removes none 12 RaiseIssue 7 (unowned 12) (omega arith) (omega arith);
@@ -154,16 +157,23 @@ refunded-most = small-steps start 9 5 firsts-most laters-most one-most (replicat
 -- what a run ends in: the flags, and the refunds of the owner at the base, at 7 and at 9
 abbrev ended : Answer State → Option (Flags × ℕ × ℕ × ℕ)
 ended (refused n) = none
-ended (ok st) = some (flagsIn (st .flags), refundAt (replicate 32 1) 5 (st .rows), refundAt (replicate 32 1) 7 (st .rows), refundAt (replicate 32 1) 9 (st .rows))
+ended (ok st) = some (
+  flagsOf (st .flags),
+  refundAt (replicate 32 1) 5 (st .rows),
+  refundAt (replicate 32 1) 7 (st .rows),
+  refundAt (replicate 32 1) 9 (st .rows),
+)
 
 -- BOTH LEAVE {7:5}; ALL STEPS TOGETHER REFUND 8 MORE AT 9
 pub ended-alike : map ended (run (state start []) (firsts ++ laters) ∷ run (state start []) (remove one ∷ []) ∷ [])
     ≡ some (flags 5 owner (7 ⦂ 5 ∷ []), 0, 5, 10) ∷ some (flags 5 owner (7 ⦂ 5 ∷ []), 0, 5, 2) ∷ []
-unfolding run step allAdded allRemoved refundAt recordsOf epochsOf countsOf ascending has held put union same proper after added combinedAdded order ascends idsOf partsOf rowsUnder rowsOf properRows spare section sections split placing splitValue allUnder fault minus removed combinedRemoved
+unfolding run step allAdded allRemoved refundAt recordsOf epochsOf countsOf ascending has held put union same proper leaving added combinedAdded order
+    ascends idsOf partsOf rowsUnder rowsOf properRows spare section sections split splitValue allUnder allFine minus removed combinedRemoved
 ended-alike = refl
 
 -- BOTH LEAVE NO RECORD; ALL STEPS TOGETHER REFUND 4,294,967,290 MORE AT 9
 pub ended-most : map ended (run (state start []) (firsts-most ++ laters-most) ∷ run (state start []) (remove one-most ∷ []) ∷ [])
     ≡ some (flags 5 owner [], 4294967286, 7, 4294967292) ∷ some (flags 5 owner [], 4294967286, 7, 2) ∷ []
-unfolding run step allAdded allRemoved refundAt recordsOf epochsOf countsOf ascending has held put union same proper after added combinedAdded order ascends idsOf partsOf rowsUnder rowsOf properRows spare section sections split placing splitValue allUnder fault minus removed combinedRemoved
+unfolding run step allAdded allRemoved refundAt recordsOf epochsOf countsOf ascending has held put union same proper leaving added combinedAdded order
+    ascends idsOf partsOf rowsUnder rowsOf properRows spare section sections split splitValue allUnder allFine minus removed combinedRemoved
 ended-most = refl

@@ -4,13 +4,15 @@ use Prim.Native.Nat.{ℕ, _+_}
 use mathlib.Core.Bool.{cond, _&&_}
 use mathlib.Core.List.{List, [], _∷_, _++_}
 use lib.Dec.{eqb}
-use Rattle.records_spec.specs.Flags.{same}
-use Rattle.records_spec.specs.Answers.{Answer, ok, refused, After}
+use Rattle.records_spec.specs.Flags.{same, Held, Lent}
+use Rattle.records_spec.specs.Answers.{FlagsAfter}
+use Rattle.records_spec.specs.Outcomes.{Answer, ok, _>>=_}
+use Rattle.flags_spec.specs.Calls.{combinedAdded}
+use Rattle.removal_spec.specs.Calls.{combinedRemoved}
 use Rattle.flags_spec.specs.declared.owners.MergingOwnersStrategy.{MergingOwnersStrategy}
 use Rattle.rows_spec.specs.Rows.{Row, Tables}
-use Rattle.rows_spec.specs.Removals.{removalOf, rowsOfRemoval}
-use Rattle.splitting_spec.specs.Calls.{Told}
-use Rattle.steps.specs.Held.{Held, holding, addedInto, splitInto, removedInto}
+use Rattle.rows_spec.specs.Removals.{removalIn, rowsOfRemoval, holdingRows}
+use Rattle.splitting_spec.specs.Calls.{Told, splitValue}
 
 -- ---- steps
 
@@ -19,8 +21,7 @@ pub record Edit : Type 0 where
   pub incoming : Held
   pub strategy : MergingOwnersStrategy
   pub amount : ℕ
-  pub epochs : List ℕ
-  pub counts : List ℕ
+  pub out : Lent
   pub row-tables : Tables
 
 -- an addition, or a removal
@@ -36,40 +37,41 @@ pub record State : Type 0 where
 abbrev pub state : Held → List Row → State
 state f rows = record { flags = f; rows = rows }
 
--- the flags that a merge left, beside these rows; or its refusal
-abbrev pub leftBy : After → List Row → Answer State
-leftBy a rows = cond (a .present) (ok (state (holding (a .head) (a .epochs) (a .counts)) rows)) (refused (a .refusal))
+-- the flags that a merge left, beside these rows; or its refusal. A merge always answers flags where it is not refused
+abbrev pub leftBy : FlagsAfter → List Row → Answer State
+leftBy a rows = do
+  present ← a .answer
+  ok (state (a .lent) rows)
 
 -- an addition is an adding merge
 abbrev pub addition : State → Edit → Answer State
-addition st x = leftBy (addedInto (st .flags) (x .incoming) (x .amount) (x .strategy) (x .epochs) (x .counts)) (st .rows)
+addition st x = leftBy (combinedAdded (st .flags) (x .incoming) (x .amount) (x .strategy) (x .out)) (st .rows)
 
 -- the merge of what a value split left; its rows come to those of the earlier removals
-abbrev pub splitMerged : State → Edit → Answer Told → Tables → Answer State
-splitMerged st x (refused n) t = refused n
-splitMerged st x (ok u) t =
-    leftBy (removedInto (st .flags) (x .incoming) (u .removal) t (x .strategy) (x .epochs) (x .counts)) (st .rows ++ rowsOfRemoval (removalOf (u .removal) t))
+abbrev pub splitMerged : State → Edit → Told → Tables → Answer State
+splitMerged st x u t =
+    leftBy (combinedRemoved (st .flags) (x .incoming) (holdingRows (u .removal) t) (x .strategy) (x .out))
+    (st .rows ++ rowsOfRemoval (removalIn (u .removal) t))
 
 -- a removal is a value split, then its merge
 abbrev pub removal : State → Edit → Answer State
 removal st x =
-    let a = splitInto (st .flags) (x .amount) (x .row-tables) in
-    splitMerged st x (a .answer) (a .rows)
+    let a = splitValue (st .flags) (x .amount) (x .row-tables) in
+    do
+      u ← a .answer
+      splitMerged st x u (a .lent)
 
 -- a step
 unfoldable pub step : State → Step → Answer State
 step st (add x) = addition st x
 step st (remove x) = removal st x
 
--- an answer, and with it what follows
-abbrev pub onward : Answer State → (State → Answer State) → Answer State
-onward (refused n) rest = refused n
-onward (ok st) rest = rest st
-
 -- steps one after another; the first refusal ends them
 unfoldable pub run : State → List Step → Answer State
 run st [] = ok st
-run st (x ∷ xs) = onward (step st x) (λ st′. run st′ xs)
+run st (x ∷ xs) = do
+  then ← step st x
+  run then xs
 
 -- ---- what was added, removed and refunded
 

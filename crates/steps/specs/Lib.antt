@@ -1,5 +1,3 @@
-pub mod Held
 pub mod History
 pub mod Demand
 pub mod Marked
-pub mod Calls

@@ -1,22 +1,20 @@
 -- The marked examples P1 to P14 of document 01 as one table: what is asked of the calls, and what they are to tell. Unowned, base 5.
 -- Assumes nothing.
 use Prim.Native.Nat.{ℕ}
-use mathlib.Core.Bool.{cond}
+use mathlib.Core.Bool.{cond, Bool}
 use mathlib.Core.Option.{none}
 use mathlib.Core.List.{List, [], _∷_}
-use lib.Dec.{eqb}
 use lib.ListN.{replicate}
 use Rattle.records_spec.specs.Tables.{At, _⦂_, epochsOf, countsOf}
-use Rattle.records_spec.specs.Flags.{Flags, flags, zeros, headOf, flagsOf}
-use Rattle.records_spec.specs.Answers.{Answer, ok, refused, After}
+use Rattle.records_spec.specs.Flags.{Flags, flags, zeros, headOf, flagsOf, Held, holding, lending}
 use Rattle.codec_spec.specs.Calls.{deserialized}
+use Rattle.records_spec.specs.Outcomes.{refused, Answer, ok}
 use Rattle.flags_spec.specs.declared.owners.MergingOwnersStrategy.the-variants.{RaiseIssue}
 use Rattle.rows_spec.specs.Rows.{row, partsOf, Tables, tables, overRows}
-use Rattle.rows_spec.specs.Removals.{Removal, basic, sectioned, removalOf, rowsOfRemoval, stateOf}
+use Rattle.rows_spec.specs.Removals.{Removal, basic, sectioned, removalIn, rowsOfRemoval, stateOf, holdingRows, HeldRemoval}
 use Rattle.rows_spec.specs.declared.removed.Removed.{Removed}
 use Rattle.sums_spec.specs.Calls.{summed}
-use Rattle.splitting_spec.specs.Calls.{Told}
-use Rattle.steps.specs.Held.{Held, holding, flagsIn, splitInto}
+use Rattle.splitting_spec.specs.Calls.{Told, splitValue}
 use Rattle.steps.specs.History.{Edit, add, remove, State, state, step}
 
 -- what is asked: bytes to be read; a value split of records; its merge with incoming flags at 9; an amount added at an epoch; a sum at a version
@@ -51,40 +49,47 @@ unowned base rs = holding (headOf (flags base none rs)) (epochsOf rs) (countsOf 
 -- incoming flags of kind 0 at an epoch, and an amount
 abbrev pub edit : ℕ → ℕ → Edit
 edit e n =
-    record { incoming = unowned e []; strategy = RaiseIssue; amount = n; epochs = places; counts = places; row-tables = rowPlaces }
+    record { incoming = unowned e []; strategy = RaiseIssue; amount = n; out = lending places places; row-tables = rowPlaces }
 
 -- ---- what is told
 
 -- by a reader
-abbrev pub toldOfReader : After → Reply
-toldOfReader a = cond (a .present) (someFlags (flagsOf (a .head) (a .epochs) (a .counts))) (cond (eqb (a .refusal) 0) noFlags (refusal (a .refusal)))
+abbrev pub toldOfReader : Answer Bool → Held → Reply
+toldOfReader (refused n) f = refusal n
+toldOfReader (ok present) f = cond present (someFlags (flagsOf f)) noFlags
 
 -- by a split
 abbrev pub toldOfSplit : Answer Told → Tables → Reply
 toldOfSplit (refused n) t = refusal n
-toldOfSplit (ok u) t = inSections (partsOf (rowsOfRemoval (removalOf (u .removal) t))) (u .visited)
+toldOfSplit (ok u) t = inSections (partsOf (rowsOfRemoval (removalIn (u .removal) t))) (u .visited)
 
 -- by a step of a history
 abbrev pub toldOfStep : Answer State → Reply
 toldOfStep (refused n) = refusal n
-toldOfStep (ok st) = someFlags (flagsIn (st .flags))
+toldOfStep (ok st) = someFlags (flagsOf (st .flags))
 
 -- by a sum
 abbrev pub toldOfSum : Answer Removed → Tables → Reply
 toldOfSum (refused n) t = refusal n
-toldOfSum (ok x) t = someRemoval (removalOf x t)
+toldOfSum (ok x) t = someRemoval (removalIn x t)
+
+-- a removal, its rows at the start of lent tables
+abbrev pub inPlaces : Removal → HeldRemoval
+inPlaces x = holdingRows (stateOf x) (overRows (rowsOfRemoval x) rowPlaces)
 
 -- what the calls tell
 unfoldable pub tell : Question → Reply
-tell (reads bytes) = toldOfReader (deserialized bytes places places)
+tell (reads bytes) =
+    let a = deserialized bytes (lending places places) in
+    toldOfReader (a .answer) (a .lent)
 tell (splits rs n) =
-    let a = splitInto (unowned 5 rs) n rowPlaces in
-    toldOfSplit (a .answer) (a .rows)
+    let a = splitValue (unowned 5 rs) n rowPlaces in
+    toldOfSplit (a .answer) (a .lent)
 tell (merges rs n) = toldOfStep (step (state (unowned 5 rs) []) (remove (edit 9 n)))
 tell (adds rs e n) = toldOfStep (step (state (unowned 5 rs) []) (add (edit e n)))
 tell (sums version x y) =
-    let a = summed version (stateOf x) (overRows (rowsOfRemoval x) rowPlaces) (stateOf y) (overRows (rowsOfRemoval y) rowPlaces) in
-    toldOfSum (a .answer) (a .rows)
+    let a = summed version (inPlaces x) (inPlaces y) in
+    toldOfSum (a .answer) (a .lent)
 
 -- ---- the table
 

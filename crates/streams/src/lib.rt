@@ -1,7 +1,6 @@
 // Standard input read to its end, and what the programs say where a stream fails.
 ghost use mathlib.Core.Path.{_≡_};
-ghost use lib.ListN.{length};
-ghost use Rattle.libc.specs.Io.{Moved};
+ghost use Rattle.fields_spec.specs.Lending.{left};
 ghost use Rattle.streams.specs.Reading.{meaning, Within};
 use libc::STDERR_FILENO;
 use libc::STDIN_FILENO;
@@ -36,7 +35,7 @@ fn judge(got: isize) -> Step
 // Reads standard input until it ends, `buf` is full or a read fails. The first read that fails is told, whatever came before it and whatever
 // a next one would answer.
 pub fn read_all(buf: &mut [u8]) -> Input
-    ensures { λ r. ⌜ Within r (now (buf .exit)) ⌝ }
+    ensures { λ r. ⌜ Within r (left buf) ⌝ }
 {
     let mut done: usize = 0;
     while done < buf.len() {

@@ -1,9 +1,10 @@
 // The sum of two removals, in place: the left one's tables are lent, and have the sum's rows, if it has any, at their start.
 ghost use mathlib.Core.Path.{_≡_};
 ghost use mathlib.Core.Bool.{true};
-ghost use Rattle.rows_spec.specs.Rows.{tables, rowsIn, Proper};
-ghost use Rattle.rows_spec.specs.Removals.{nothing, basic, sectioned, removalOf, proper};
-ghost use Rattle.rows_spec.specs.Outcomes.{shown, placing};
+ghost use Rattle.rows_spec.specs.Rows.{tables, rowsIn, Proper, rowsWere, rowsLeft};
+ghost use Rattle.rows_spec.specs.Removals.{nothing, basic, sectioned, removalIn, properIn, holdingRows};
+ghost use Rattle.records_spec.specs.Outcomes.{after};
+ghost use Rattle.rows_spec.specs.Calls.{toldRemoval, placingRemoval};
 ghost use Rattle.sums_spec.specs.Joins.{addRow, joined};
 ghost use Rattle.sums_spec.specs.Sums.{unknown, basicPlus, sum, Lost};
 ghost use Rattle.sums_spec.specs.Calls.{summed};
@@ -30,7 +31,11 @@ fn add_rows(
 ) -> AnsweredRemoval
     requires { ⌜ Proper n (tables (now ids) (now epochs) (now bytes)) ⌝ }
     requires { ⌜ Proper m (tables (now «rhs_ids») (now «rhs_epochs») (now «rhs_bytes»)) ⌝ }
-    ensures { λ r. ⌜ shown r (tables (now (ids .exit)) (now (epochs .exit)) (now (bytes .exit))) ≡ placing (sectioned (joined (rowsIn n (tables (now (ids .entry)) (now (epochs .entry)) (now (bytes .entry)))) (rowsIn m (tables (now («rhs_ids» .entry)) (now («rhs_epochs» .entry)) (now («rhs_bytes» .entry)))))) (tables (now (ids .entry)) (now (epochs .entry)) (now (bytes .entry))) ⌝ }
+    ensures { λ r.
+        let rows-lent = rowsWere ids epochs bytes in
+        let rhs-rows = rowsWere «rhs_ids» «rhs_epochs» «rhs_bytes» in
+        ⌜ after (toldRemoval r) (rowsLeft ids epochs bytes)
+        ≡ placingRemoval (sectioned (joined (rowsIn n rows-lent) (rowsIn m rhs-rows))) rows-lent ⌝ }
 {
     let count = sums_joining::count_joined(
         ids,
@@ -70,7 +75,10 @@ fn add_basic(
     removed_bytes: u32,
 ) -> AnsweredRemoval
     requires { ⌜ Proper n (tables (now ids) (now epochs) (now bytes)) ⌝ }
-    ensures { λ r. ⌜ shown r (tables (now (ids .exit)) (now (epochs .exit)) (now (bytes .exit))) ≡ placing (sectioned (addRow (unknown «removed_bytes») (rowsIn n (tables (now (ids .entry)) (now (epochs .entry)) (now (bytes .entry)))))) (tables (now (ids .entry)) (now (epochs .entry)) (now (bytes .entry))) ⌝ }
+    ensures { λ r.
+        let rows-lent = rowsWere ids epochs bytes in
+        ⌜ after (toldRemoval r) (rowsLeft ids epochs bytes)
+        ≡ placingRemoval (sectioned (addRow (unknown «removed_bytes») (rowsIn n rows-lent))) rows-lent ⌝ }
 {
     let zeros = [0u8; OWNER_LENGTH];
     let row_id = [zeros; 1];
@@ -91,7 +99,11 @@ fn add_rows_to_basic(
     m: usize,
 ) -> AnsweredRemoval
     requires { ⌜ Proper m (tables (now «rhs_ids») (now «rhs_epochs») (now «rhs_bytes»)) ⌝ }
-    ensures { λ r. ⌜ shown r (tables (now (ids .exit)) (now (epochs .exit)) (now (bytes .exit))) ≡ placing (sectioned (addRow (unknown «removed_bytes») (rowsIn m (tables (now («rhs_ids» .entry)) (now («rhs_epochs» .entry)) (now («rhs_bytes» .entry)))))) (tables (now (ids .entry)) (now (epochs .entry)) (now (bytes .entry))) ⌝ }
+    ensures { λ r.
+        let rhs-rows = rowsWere «rhs_ids» «rhs_epochs» «rhs_bytes» in
+        let rows-lent = rowsWere ids epochs bytes in
+        ⌜ after (toldRemoval r) (rowsLeft ids epochs bytes)
+        ≡ placingRemoval (sectioned (addRow (unknown «removed_bytes») (rowsIn m rhs-rows))) rows-lent ⌝ }
 {
     let zeros = [0u8; OWNER_LENGTH];
     let row_id = [zeros; 1];
@@ -130,7 +142,7 @@ fn add_rows_to_basic(
 // How many of the first n rows have the zero identifier. They are the first.
 fn count_lost(ids: &[[u8; 32]], epochs: &[u16], bytes: &[u32], n: usize) -> usize
     requires { ⌜ Proper n (tables (now ids) (now epochs) (now bytes)) ⌝ }
-    ensures { λ r. ⌜ Lost (rowsIn n (tables (now (ids .entry)) (now (epochs .entry)) (now (bytes .entry)))) n r ⌝ }
+    ensures { λ r. ⌜ Lost (rowsIn n (rowsWere ids epochs bytes)) n r ⌝ }
 {
     let zeros = [0u8; OWNER_LENGTH];
     let mut i: usize = 0;
@@ -163,7 +175,11 @@ fn add_rows_to_basic_for_version(
     version: u16,
 ) -> AnsweredRemoval
     requires { ⌜ Proper m (tables (now «rhs_ids») (now «rhs_epochs») (now «rhs_bytes»)) ⌝ }
-    ensures { λ r. ⌜ shown r (tables (now (ids .exit)) (now (epochs .exit)) (now (bytes .exit))) ≡ placing (sectioned (basicPlus version «removed_bytes» (rowsIn m (tables (now («rhs_ids» .entry)) (now («rhs_epochs» .entry)) (now («rhs_bytes» .entry)))))) (tables (now (ids .entry)) (now (epochs .entry)) (now (bytes .entry))) ⌝ }
+    ensures { λ r.
+        let rhs-rows = rowsWere «rhs_ids» «rhs_epochs» «rhs_bytes» in
+        let rows-lent = rowsWere ids epochs bytes in
+        ⌜ after (toldRemoval r) (rowsLeft ids epochs bytes)
+        ≡ placingRemoval (sectioned (basicPlus version «removed_bytes» (rowsIn m rhs-rows))) rows-lent ⌝ }
 {
     if 0 < version {
         return add_rows_to_basic(
@@ -213,8 +229,11 @@ fn add_to_none(
     rhs_bytes: &[u32],
     version: u16,
 ) -> AnsweredRemoval
-    requires { ⌜ proper rhs (tables (now «rhs_ids») (now «rhs_epochs») (now «rhs_bytes»)) ≡ true ⌝ }
-    ensures { λ r. ⌜ shown r (tables (now (ids .exit)) (now (epochs .exit)) (now (bytes .exit))) ≡ placing (sum version nothing (removalOf rhs (tables (now («rhs_ids» .entry)) (now («rhs_epochs» .entry)) (now («rhs_bytes» .entry))))) (tables (now (ids .entry)) (now (epochs .entry)) (now (bytes .entry))) ⌝ }
+    requires { ⌜ properIn rhs (tables (now «rhs_ids») (now «rhs_epochs») (now «rhs_bytes»)) ≡ true ⌝ }
+    ensures { λ r.
+        let rhs-rows = rowsWere «rhs_ids» «rhs_epochs» «rhs_bytes» in
+        let rows-lent = rowsWere ids epochs bytes in
+        ⌜ after (toldRemoval r) (rowsLeft ids epochs bytes) ≡ placingRemoval (sum version nothing (removalIn rhs rhs-rows)) rows-lent ⌝ }
 {
     match rhs {
         Removed::None => AnsweredRemoval::Done(StorageRemovedBytes {
@@ -239,8 +258,12 @@ fn add_to_basic(
     rhs_bytes: &[u32],
     version: u16,
 ) -> AnsweredRemoval
-    requires { ⌜ proper rhs (tables (now «rhs_ids») (now «rhs_epochs») (now «rhs_bytes»)) ≡ true ⌝ }
-    ensures { λ r. ⌜ shown r (tables (now (ids .exit)) (now (epochs .exit)) (now (bytes .exit))) ≡ placing (sum version (basic «removed_bytes») (removalOf rhs (tables (now («rhs_ids» .entry)) (now («rhs_epochs» .entry)) (now («rhs_bytes» .entry))))) (tables (now (ids .entry)) (now (epochs .entry)) (now (bytes .entry))) ⌝ }
+    requires { ⌜ properIn rhs (tables (now «rhs_ids») (now «rhs_epochs») (now «rhs_bytes»)) ≡ true ⌝ }
+    ensures { λ r.
+        let rhs-rows = rowsWere «rhs_ids» «rhs_epochs» «rhs_bytes» in
+        let rows-lent = rowsWere ids epochs bytes in
+        ⌜ after (toldRemoval r) (rowsLeft ids epochs bytes)
+        ≡ placingRemoval (sum version (basic «removed_bytes») (removalIn rhs rhs-rows)) rows-lent ⌝ }
 {
     match rhs {
         Removed::None => AnsweredRemoval::Done(StorageRemovedBytes {
@@ -276,8 +299,12 @@ fn add_to_sectioned(
     version: u16,
 ) -> AnsweredRemoval
     requires { ⌜ Proper n (tables (now ids) (now epochs) (now bytes)) ⌝ }
-    requires { ⌜ proper rhs (tables (now «rhs_ids») (now «rhs_epochs») (now «rhs_bytes»)) ≡ true ⌝ }
-    ensures { λ r. ⌜ shown r (tables (now (ids .exit)) (now (epochs .exit)) (now (bytes .exit))) ≡ placing (sum version (sectioned (rowsIn n (tables (now (ids .entry)) (now (epochs .entry)) (now (bytes .entry))))) (removalOf rhs (tables (now («rhs_ids» .entry)) (now («rhs_epochs» .entry)) (now («rhs_bytes» .entry))))) (tables (now (ids .entry)) (now (epochs .entry)) (now (bytes .entry))) ⌝ }
+    requires { ⌜ properIn rhs (tables (now «rhs_ids») (now «rhs_epochs») (now «rhs_bytes»)) ≡ true ⌝ }
+    ensures { λ r.
+        let rows-lent = rowsWere ids epochs bytes in
+        let rhs-rows = rowsWere «rhs_ids» «rhs_epochs» «rhs_bytes» in
+        ⌜ after (toldRemoval r) (rowsLeft ids epochs bytes)
+        ≡ placingRemoval (sum version (sectioned (rowsIn n rows-lent)) (removalIn rhs rhs-rows)) rows-lent ⌝ }
 {
     match rhs {
         Removed::None => AnsweredRemoval::Done(StorageRemovedBytes {
@@ -300,9 +327,13 @@ fn add_proper(
     rhs_bytes: &[u32],
     version: u16,
 ) -> AnsweredRemoval
-    requires { ⌜ proper lhs (tables (now ids) (now epochs) (now bytes)) ≡ true ⌝ }
-    requires { ⌜ proper rhs (tables (now «rhs_ids») (now «rhs_epochs») (now «rhs_bytes»)) ≡ true ⌝ }
-    ensures { λ r. ⌜ shown r (tables (now (ids .exit)) (now (epochs .exit)) (now (bytes .exit))) ≡ placing (sum version (removalOf lhs (tables (now (ids .entry)) (now (epochs .entry)) (now (bytes .entry)))) (removalOf rhs (tables (now («rhs_ids» .entry)) (now («rhs_epochs» .entry)) (now («rhs_bytes» .entry))))) (tables (now (ids .entry)) (now (epochs .entry)) (now (bytes .entry))) ⌝ }
+    requires { ⌜ properIn lhs (tables (now ids) (now epochs) (now bytes)) ≡ true ⌝ }
+    requires { ⌜ properIn rhs (tables (now «rhs_ids») (now «rhs_epochs») (now «rhs_bytes»)) ≡ true ⌝ }
+    ensures { λ r.
+        let rows-lent = rowsWere ids epochs bytes in
+        let rhs-rows = rowsWere «rhs_ids» «rhs_epochs» «rhs_bytes» in
+        ⌜ after (toldRemoval r) (rowsLeft ids epochs bytes)
+        ≡ placingRemoval (sum version (removalIn lhs rows-lent) (removalIn rhs rhs-rows)) rows-lent ⌝ }
 {
     match lhs {
         Removed::None => add_to_none(
@@ -352,7 +383,12 @@ pub fn add_assign(
     rhs_bytes: &[u32],
     version: u16,
 ) -> AnsweredRemoval
-    ensures { λ r. ⌜ shown r (tables (now (ids .exit)) (now (epochs .exit)) (now (bytes .exit))) ≡ summed version (lhs .removed) (tables (now (ids .entry)) (now (epochs .entry)) (now (bytes .entry))) (rhs .removed) (tables (now («rhs_ids» .entry)) (now («rhs_epochs» .entry)) (now («rhs_bytes» .entry))) ⌝ }
+    ensures { λ r.
+        let rows-lent = rowsWere ids epochs bytes in
+        let rhs-rows = rowsWere «rhs_ids» «rhs_epochs» «rhs_bytes» in
+        let removal-given = holdingRows (lhs .removed) rows-lent in
+        let rhs-removal = holdingRows (rhs .removed) rhs-rows in
+        ⌜ after (toldRemoval r) (rowsLeft ids epochs bytes) ≡ summed version removal-given rhs-removal ⌝ }
 {
     let left = lhs.removed;
     let right = rhs.removed;

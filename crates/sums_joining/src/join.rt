@@ -2,7 +2,7 @@
 ghost use mathlib.Core.Path.{_≡_};
 ghost use Prim.Native.Nat.{_<_};
 ghost use lib.ListN.{length};
-ghost use Rattle.rows_spec.specs.Rows.{tables, rowsIn, overRows, Room, Proper};
+ghost use Rattle.rows_spec.specs.Rows.{tables, rowsIn, overRows, Room, Proper, rowsWere, rowsLeft};
 ghost use Rattle.sums_spec.specs.Joins.{capped, joined, Last};
 use fields::LARGEST;
 use rows_spec::Order;
@@ -32,7 +32,7 @@ fn last_row(
     requires { ⌜ Proper i (tables (now ids) (now epochs) (now bytes)) ⌝ }
     requires { ⌜ Proper j (tables (now «rhs_ids») (now «rhs_epochs») (now «rhs_bytes»)) ⌝ }
     requires { ⌜ 0 < j ⌝ }
-    ensures { λ r. ⌜ Last (tables (now (ids .entry)) (now (epochs .entry)) (now (bytes .entry))) (tables (now («rhs_ids» .entry)) (now («rhs_epochs» .entry)) (now («rhs_bytes» .entry))) i j r ⌝ }
+    ensures { λ r. ⌜ Last (rowsWere ids epochs bytes) (rowsWere «rhs_ids» «rhs_epochs» «rhs_bytes») i j r ⌝ }
 {
     let theirs = j - 1;
     if i == 0 {
@@ -83,7 +83,7 @@ pub fn count_joined(
 ) -> usize
     requires { ⌜ Proper n (tables (now ids) (now epochs) (now bytes)) ⌝ }
     requires { ⌜ Proper m (tables (now «rhs_ids») (now «rhs_epochs») (now «rhs_bytes»)) ⌝ }
-    ensures { λ r. ⌜ r ≡ length (joined (rowsIn n (tables (now (ids .entry)) (now (epochs .entry)) (now (bytes .entry)))) (rowsIn m (tables (now («rhs_ids» .entry)) (now («rhs_epochs» .entry)) (now («rhs_bytes» .entry))))) ⌝ }
+    ensures { λ r. ⌜ r ≡ length (joined (rowsIn n (rowsWere ids epochs bytes)) (rowsIn m (rowsWere «rhs_ids» «rhs_epochs» «rhs_bytes»))) ⌝ }
 {
     let mut i = n;
     let mut j = m;
@@ -111,9 +111,14 @@ pub fn join_in_place(
 )
     requires { ⌜ Proper n (tables (now ids) (now epochs) (now bytes)) ⌝ }
     requires { ⌜ Proper m (tables (now «rhs_ids») (now «rhs_epochs») (now «rhs_bytes»)) ⌝ }
-    requires { ⌜ count ≡ length (joined (rowsIn n (tables (now ids) (now epochs) (now bytes))) (rowsIn m (tables (now «rhs_ids») (now «rhs_epochs») (now «rhs_bytes»)))) ⌝ }
+    requires { let rows-lent = tables (now ids) (now epochs) (now bytes) in
+        let rhs-rows = tables (now «rhs_ids») (now «rhs_epochs») (now «rhs_bytes») in
+        ⌜ count ≡ length (joined (rowsIn n rows-lent) (rowsIn m rhs-rows)) ⌝ }
     requires { ⌜ Room count (tables (now ids) (now epochs) (now bytes)) ⌝ }
-    ensures { λ _. ⌜ tables (now (ids .exit)) (now (epochs .exit)) (now (bytes .exit)) ≡ overRows (joined (rowsIn n (tables (now (ids .entry)) (now (epochs .entry)) (now (bytes .entry)))) (rowsIn m (tables (now («rhs_ids» .entry)) (now («rhs_epochs» .entry)) (now («rhs_bytes» .entry))))) (tables (now (ids .entry)) (now (epochs .entry)) (now (bytes .entry))) ⌝ }
+    ensures { λ _.
+        let rows-lent = rowsWere ids epochs bytes in
+        let rhs-rows = rowsWere «rhs_ids» «rhs_epochs» «rhs_bytes» in
+        ⌜ rowsLeft ids epochs bytes ≡ overRows (joined (rowsIn n rows-lent) (rowsIn m rhs-rows)) rows-lent ⌝ }
 {
     let mut i = n;
     let mut j = m;

@@ -10,14 +10,14 @@ use Rattle.rows_spec.specs.declared.order.Order.{Order}
 use Rattle.rows_spec.specs.declared.order.Order.the-variants.{Less, Equal, Greater}
 use Rattle.rows_spec.proofs.Comparing.{flipped, less-trans, right-same, left-same, row-same}
 use Rattle.rows_spec.proofs.Rows.{Before, before-same, asc-before, asc-tail, asc-cons}
-use Rattle.sums_spec.specs.Joins.{capped, plus, placed, addRow}
+use Rattle.sums_spec.specs.Joins.{capped, plus, addBeside, addRow}
 
 -- ---- a row added
 
 -- by how it stands to the first
-pub add-at : (r b : Row) (l : List Row) (o : Order) → compared r b ≡ o → addRow r (b ∷ l) ≡ placed o r b l (addRow r l)
+pub add-at : (r b : Row) (l : List Row) (o : Order) → compared r b ≡ o → addRow r (b ∷ l) ≡ addBeside o r b l (addRow r l)
 unfolding addRow
-add-at r b l o h = ap (λ (p : Order). placed p r b l (addRow r l)) h
+add-at r b l o h = ap (λ (p : Order). addBeside p r b l (addRow r l)) h
 
 pub add-none : (r : Row) → addRow r [] ≡ r ∷ []
 unfolding addRow
@@ -66,7 +66,8 @@ module _ (a b x : Row) (l : List Row) where
       ap (addRow a) (add-at b x l Greater q) ∙ add-at a x (addRow b l) Equal p
       ∙ sym (ap (addRow b) (add-at a x l Equal p) ∙ add-at b (plus a x) l Greater (right-same b a x p ∙ q))
 
-  greater-greater : compared a x ≡ Greater → compared b x ≡ Greater → addRow a (addRow b l) ≡ addRow b (addRow a l) → addRow a (addRow b (x ∷ l)) ≡ addRow b (addRow a (x ∷ l))
+  greater-greater : compared a x ≡ Greater → compared b x ≡ Greater → addRow a (addRow b l) ≡ addRow b (addRow a l)
+      → addRow a (addRow b (x ∷ l)) ≡ addRow b (addRow a (x ∷ l))
   greater-greater p q ih =
       ap (addRow a) (add-at b x l Greater q) ∙ add-at a x (addRow b l) Greater p ∙ ap (λ (m : List Row). x ∷ m) ih
       ∙ sym (ap (addRow b) (add-at a x l Greater p) ∙ add-at b x (addRow a l) Greater q)
@@ -76,7 +77,8 @@ pub add-comm : (a b : Row) (l : List Row) → addRow a (addRow b l) ≡ addRow b
 add-comm a b [] = ap (addRow a) (add-none b) ∙ two a b [] (add-none a) (add-none b) ∙ ap (addRow b) (sym (add-none a))
 add-comm a b (x ∷ l) = go (compared a x) (compared b x) refl refl (add-comm a b l)
   where
-    go : (p q : Order) → compared a x ≡ p → compared b x ≡ q → addRow a (addRow b l) ≡ addRow b (addRow a l) → addRow a (addRow b (x ∷ l)) ≡ addRow b (addRow a (x ∷ l))
+    go : (p q : Order) → compared a x ≡ p → compared b x ≡ q → addRow a (addRow b l) ≡ addRow b (addRow a l)
+        → addRow a (addRow b (x ∷ l)) ≡ addRow b (addRow a (x ∷ l))
     go Less Less p q ih = less-less a b x l p q
     go Less Equal p q ih = less-equal a b x l p q
     go Less Greater p q ih = less-greater a b x l p q
@@ -96,7 +98,8 @@ add-fused a x (y ∷ m) e = go (compared x y) refl (add-fused a x m e)
     go Less p ih =
         ap (addRow a) (add-at x y m Less p) ∙ add-at a x (y ∷ m) Equal e ∙ sym (add-at (plus a x) y m Less (left-same y a x e ∙ p))
     go Equal p ih =
-        let s : capped (a .part .bytes) (capped (x .part .bytes) (y .part .bytes)) ≡ capped (capped (a .part .bytes) (x .part .bytes)) (y .part .bytes) = omega arith in
+        let s : capped (a .part .bytes) (capped (x .part .bytes) (y .part .bytes))
+        ≡ capped (capped (a .part .bytes) (x .part .bytes)) (y .part .bytes) = omega arith in
         ap (addRow a) (add-at x y m Equal p) ∙ add-at a (plus x y) m Equal e ∙ ap (λ (n : ℕ). row (a .identifier) (a .part .epoch) n ∷ m) s
         ∙ sym (add-at (plus a x) y m Equal (left-same y a x e ∙ p))
     go Greater p ih =
@@ -107,11 +110,12 @@ add-fused a x (y ∷ m) e = go (compared x y) refl (add-fused a x m e)
 
 -- by how the row stands to the first
 pub add-cases : (P : List Row → Type 0) (r b : Row) (l : List Row)
-    → (compared r b ≡ Less → P (r ∷ b ∷ l)) → (compared r b ≡ Equal → P (plus r b ∷ l)) → (compared r b ≡ Greater → P (b ∷ addRow r l)) → P (addRow r (b ∷ l))
+    → (compared r b ≡ Less → P (r ∷ b ∷ l)) → (compared r b ≡ Equal → P (plus r b ∷ l)) → (compared r b ≡ Greater → P (b ∷ addRow r l))
+    → P (addRow r (b ∷ l))
 unfolding addRow
 add-cases P r b l less equal greater = go (compared r b) refl
   where
-    go : (o : Order) → compared r b ≡ o → P (placed o r b l (addRow r l))
+    go : (o : Order) → compared r b ≡ o → P (addBeside o r b l (addRow r l))
     go Less e = less e
     go Equal e = equal e
     go Greater e = greater e

@@ -4,13 +4,12 @@ use mathlib.Core.Path.{_≡_, refl, sym, ap, _∙_}
 use mathlib.Core.List.{List}
 use Prim.Native.Nat.{ℕ, _≤_}
 use native.Mathlib.Omega.{arith}
-use Rattle.rows_spec.specs.Rows.{Row, compared}
+use Rattle.rows_spec.specs.Rows.{Row}
 use Rattle.rows_spec.specs.Removals.{Removal, nothing, basic, sectioned}
-use Rattle.rows_spec.specs.declared.order.Order.the-variants.{Equal}
 use Rattle.rows_spec.proofs.Comparing.{order-self}
 use Rattle.sums_spec.specs.Joins.{capped, addRow, joined}
 use Rattle.sums_spec.specs.Sums.{unknown, basicPlus, sum}
-use Rattle.sums_spec.specs.AnyOrder.{ProperRemoval, Commutative, NeutralNone, AnyOrder}
+use Rattle.sums_spec.specs.AnyOrder.{Commutative, NeutralNone, AnyOrder}
 use Rattle.sums_spec.proofs.Adding.{add-comm, add-fused}
 use Rattle.sums_spec.proofs.Joining.{joined-add, joined-add-right, joined-comm, joined-assoc}
 use Rattle.sums_spec.proofs.Losing.{basic-later}

@@ -9,6 +9,7 @@ use Rattle.records_spec.specs.Flags.{zeros}
 use Rattle.rows_spec.specs.Rows.{Row, ascends, Tables, tables, rowsIn, overRows, Room, Proper}
 use Rattle.rows_spec.proofs.Rows.{length-rows, room-less, rows-one, proper-one}
 use Rattle.rows_spec.proofs.Columns.{over-room, rows-back, over-over}
+use Rattle.records_spec.specs.Answers.{counted}
 use Rattle.sums_spec.specs.Joins.{addRow, joined}
 use Rattle.sums_spec.specs.Sums.{unknownEpoch, unknown}
 use Rattle.sums_spec.proofs.Joining.{joined-nothing, joined-one, more-left}
@@ -55,8 +56,11 @@ module _ (n : ℕ) {m : ℕ} {u : Tables} (p : Proper m u) where
       then-room = room-there room
 
       -- and the tables hold the sum
-      pub then-over : {t₂ : Tables} → t₂ ≡ overRows (joined (rowsIn m t₁) (rowsIn 1 (oneRow n))) t₁ → t₂ ≡ overRows (addRow (unknown n) (rowsIn m u)) t
+      pub then-over : {t₂ : Tables} → t₂ ≡ overRows (joined (rowsIn m t₁) (rowsIn 1 (oneRow n))) t₁
+          → t₂ ≡ overRows (addRow (unknown n) (rowsIn m u)) t
       then-over e =
-          let sum : joined (rowsIn m t₁) (rowsIn 1 (oneRow n)) ≡ addRow (unknown n) (rowsIn m u) = ap (λ (l : List Row). joined l (rowsIn 1 (oneRow n))) rows-there ∙ one-joined in
+          let sum : joined (rowsIn m t₁) (rowsIn 1 (oneRow n))
+          ≡ addRow (unknown n) (rowsIn m u) = ap (λ (l : List Row). joined l (rowsIn 1 (oneRow n))) rows-there ∙ one-joined in
           e ∙ ap (λ (l : List Row). overRows l t₁) sum ∙ ap (overRows (addRow (unknown n) (rowsIn m u))) there
-          ∙ over-over (rowsIn m u) (addRow (unknown n) (rowsIn m u)) t (omega (arith, length-rows (p .room), one-more, ap (length {A = Row}) one-joined))
+          ∙ over-over (rowsIn m u) (addRow (unknown n) (rowsIn m u)) t
+          (omega (arith, length-rows (p .room), one-more, ap (length {A = Row}) one-joined))

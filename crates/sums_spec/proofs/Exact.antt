@@ -13,13 +13,14 @@ use Rattle.records_spec.specs.Flags.{zeros, same}
 use Rattle.records_spec.proofs.Owners.{same-self}
 use Rattle.rows_spec.specs.Rows.{Row, compared, ascends}
 use Rattle.rows_spec.specs.Removals.{Removal, nothing, basic, sectioned, rowsOfRemoval, totalRows, total}
+use Rattle.rows_spec.specs.Order.{isEqual}
 use Rattle.rows_spec.specs.declared.order.Order.{Order}
 use Rattle.rows_spec.specs.declared.order.Order.the-variants.{Less, Equal, Greater}
 use Rattle.rows_spec.proofs.Comparing.{compared-same, right-same}
 use Rattle.rows_spec.proofs.Rows.{asc-tail}
 use Rattle.rows_spec.proofs.Removals.{total-cons, total-none}
 use Rattle.sums_spec.specs.Joins.{plus, addRow, joined}
-use Rattle.sums_spec.specs.Sums.{unknown, ofZeros, withoutZeros, sum, isEqual, bytesAt, fits, exact}
+use Rattle.sums_spec.specs.Sums.{unknown, ofZeros, withoutZeros, sum, bytesAt, sumFits, exact}
 use Rattle.sums_spec.proofs.Adding.{add-cases, add-none}
 use Rattle.sums_spec.proofs.Joining.{AllAfter, all-after}
 use Rattle.sums_spec.proofs.Losing.{basic-later, basic-cases}
@@ -60,13 +61,13 @@ total-added r (b ∷ l) h =
     (λ o. let e = bytes-at r b l Equal o in let p = total-cons (plus r b) l in omega arith)
     (λ o. let e = bytes-at r b l Greater o in let p = total-cons b (addRow r l) in let ih = total-added r l (omega arith) in omega arith)
 
-fits-first : (x : Row) (xs ys : List Row) → fits (x ∷ xs) ys ≡ true → (x .part .bytes + bytesAt x ys ≤ largest) × (fits xs ys ≡ true)
-unfolding fits
+fits-first : (x : Row) (xs ys : List Row) → sumFits (x ∷ xs) ys ≡ true → (x .part .bytes + bytesAt x ys ≤ largest) × (sumFits xs ys ≡ true)
+unfolding sumFits
 fits-first x xs ys h =
-    let a = and-eq-true-iff (leb (x .part .bytes + bytesAt x ys) largest) (fits xs ys) .0 h in
+    let a = and-eq-true-iff (leb (x .part .bytes + bytesAt x ys) largest) (sumFits xs ys) .0 h in
     (leb-true _ _ (a .0), a .1)
 
-pub total-joined : (xs ys : List Row) → ascends xs ≡ true → fits xs ys ≡ true → totalRows (joined xs ys) ≡ totalRows xs + totalRows ys
+pub total-joined : (xs ys : List Row) → ascends xs ≡ true → sumFits xs ys ≡ true → totalRows (joined xs ys) ≡ totalRows xs + totalRows ys
 unfolding joined
 total-joined [] ys s h = let t = total-none in omega arith
 total-joined (x ∷ xs) ys s h =

@@ -162,7 +162,8 @@ module _ (xs ys : List Row) where
   last-both x y e h k =
       joined-last xs x (ys ++ (y ∷ [])) ∙ ap (λ (l : List Row). addRow x (joined xs l)) (sym (add-last y ys k))
       ∙ ap (addRow x) (joined-add-right y xs ys) ∙ add-fused x y (joined xs ys) e
-      ∙ add-last (plus x y) (joined xs ys) (all-joined (plus x y) xs ys (all-summed x y xs h) (all-summed x y ys (all-same y x ys (flipped x y Equal e) k)))
+      ∙ add-last (plus x y) (joined xs ys) (all-joined (plus x y) xs ys (all-summed x y xs h)
+      (all-summed x y ys (all-same y x ys (flipped x y Equal e) k)))
     where
       all-summed : (x y : Row) (l : List Row) → AllBefore x l → AllBefore (plus x y) l
       all-summed x y [] h = tt

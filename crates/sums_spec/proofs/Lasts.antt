@@ -52,16 +52,19 @@ module _ {t u : Tables} {i j : ℕ} (ours : Proper i t) (theirs : Proper j u) (q
     step-theirs e =
         let a = rowAt t (i - 1) in
         let b = rowAt u (j - 1) in
-        their-step (subst (AllBefore b) (sym ours-last) (all-and-last a b (rowsIn (i - 1) t) e (all-later a b (rowsIn (i - 1) t) e (before-last ours p))))
+        their-step (subst (AllBefore b) (sym ours-last)
+        (all-and-last a b (rowsIn (i - 1) t) e (all-later a b (rowsIn (i - 1) t) e (before-last ours p))))
 
     -- both have one pair
-    pub step-both : (bytes : ℕ) → bytes ≡ capped (getD (t .bytes) (i - 1) 0) (getD (u .bytes) (j - 1) 0) → compared (rowAt t (i - 1)) (rowAt u (j - 1)) ≡ Equal
+    pub step-both : (bytes : ℕ) → bytes ≡ capped (getD (t .bytes) (i - 1) 0) (getD (u .bytes) (j - 1) 0)
+        → compared (rowAt t (i - 1)) (rowAt u (j - 1)) ≡ Equal
         → Last t u i j (before t (i - 1) bytes (i - 1) (j - 1))
     step-both bytes b e =
         record {
           step = ap (λ (l : List Row). joined l (rowsIn j u)) ours-last ∙ ap (joined (rowsIn (i - 1) t ++ (rowAt t (i - 1) ∷ []))) theirs-last
               ∙ last-both (rowsIn (i - 1) t) (rowsIn (j - 1) u) (rowAt t (i - 1)) (rowAt u (j - 1)) e (before-last ours p) (before-last theirs q)
-              ∙ ap (λ (x : ℕ). joined (rowsIn (i - 1) t) (rowsIn (j - 1) u) ++ (row (getD (t .ids) (i - 1) []) (getD (t .epochs) (i - 1) 0) x ∷ [])) (sym b);
+              ∙ ap (λ (x : ℕ). joined (rowsIn (i - 1) t) (rowsIn (j - 1) u) ++ (row (getD (t .ids) (i - 1) []) (getD (t .epochs) (i - 1) 0) x ∷ []))
+              (sym b);
           ours-before = omega arith;
           theirs-before = omega arith;
           falls = omega arith;
@@ -76,7 +79,8 @@ module _ {t u : Tables} {i j : ℕ} (ours : Proper i t) (theirs : Proper j u) (q
         record {
           step = ap (λ (l : List Row). joined l (rowsIn j u)) ours-last
               ∙ last-left (rowsIn (i - 1) t) (rowsIn j u) a (before-last ours p)
-              (subst (AllBefore a) (sym theirs-last) (all-and-last b a (rowsIn (j - 1) u) f (all-later b a (rowsIn (j - 1) u) f (before-last theirs q))));
+              (subst (AllBefore a) (sym theirs-last) (all-and-last b a (rowsIn (j - 1) u) f
+              (all-later b a (rowsIn (j - 1) u) f (before-last theirs q))));
           ours-before = omega arith;
           theirs-before = omega arith;
           falls = omega arith;
@@ -160,7 +164,8 @@ module _ {t₀ t u : Tables} {n m i j k : ℕ} (ours : Proper n t₀) (theirs : 
     same-step =
         let l = left-within in
         ap (λ (x : List Row). joined x (rowsIn j u)) (sym (backing-first (w .back) i l)) ∙ s .step
-        ∙ ap (λ (x : List Row). joined x (rowsIn (r .j) u) ++ (row (r .id) (r .epoch) (r .bytes) ∷ [])) (backing-first (w .back) (r .i) (omega (arith, s .ours-before)))
+        ∙ ap (λ (x : List Row). joined x (rowsIn (r .j) u) ++ (row (r .id) (r .epoch) (r .bytes) ∷ []))
+        (backing-first (w .back) (r .i) (omega (arith, s .ours-before)))
 
     pub walking-room : (0 < k) × Room (k - 1 + 1) t
     walking-room = backing-room (w .back) (joined (rowsIn (r .i) t₀) (rowsIn (r .j) u)) (row (r .id) (r .epoch) (r .bytes)) same-step

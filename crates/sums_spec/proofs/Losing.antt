@@ -39,7 +39,8 @@ later-other a b l h k = go (same (b .identifier) zeros) refl
     go false e = refl
     go true e =
         let z : b .identifier ≡ zeros = same-equal (b .identifier) zeros e in
-        let g : compared a b ≡ Greater = compared-parts Greater (a .identifier) (b .identifier) (a .part .epoch) (b .part .epoch) (a .part .bytes) (b .part .bytes) (l ∙ sym (ap (length {A = ℕ}) z)) (ap (order (a .identifier)) z ∙ h) in
+        let g : compared a b ≡ Greater = compared-parts Greater (a .identifier) (b .identifier) (a .part .epoch) (b .part .epoch) (a .part .bytes)
+        (b .part .bytes) (l ∙ sym (ap (length {A = ℕ}) z)) (ap (order (a .identifier)) z ∙ h) in
         absurd (greater-less (sym g ∙ k))
 
 -- ---- all rows
@@ -110,12 +111,18 @@ module _ {n : ℕ} {t : Tables} (p : Proper n t) (k : ℕ) (w : Losing (rowsIn n
       record {
         within = omega arith;
         others = w .others ∙ ap withoutZeros on ∙ without-other a rest z ∙ ap (λ (m : List Row). a ∷ m) (none-lost a l e rest after) ∙ sym on;
-        some-lost = w .some-lost ∙ ap (cond (ltb 0 k) true) (ap anyOfZeros on ∙ any-other a rest z ∙ none-there a l e rest after) ∙ or-false (ltb 0 k);
+        some-lost = w .some-lost ∙ ap (cond (ltb 0 k) true) (ap anyOfZeros on ∙ any-other a rest z ∙ none-there a l e rest after)
+            ∙ or-false (ltb 0 k);
       }
 
   pub losing-end : k ≤ n → n ≤ k → Lost (rowsIn n t) n k
   unfolding withoutZeros anyOfZeros
-  losing-end g h = record { within = g; others = w .others ∙ rw (rows-end (p .room) k h); some-lost = w .some-lost ∙ rw (rows-end (p .room) k h) (or-false (ltb 0 k)) }
+  losing-end g h = record {
+    within = g;
+    others = w .others ∙ rw (rows-end (p .room) k h);
+    some-lost = w .some-lost
+        ∙ rw (rows-end (p .room) k h) (or-false (ltb 0 k));
+  }
 
 -- ---- a basic number plus rows
 

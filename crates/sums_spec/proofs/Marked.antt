@@ -9,40 +9,41 @@ use mathlib.Core.List.{List, [], _∷_, _++_, map, reverse}
 use lib.ListN.{replicate}
 use Rattle.records_spec.specs.Tables.{recordsOf, epochsOf, countsOf}
 use Rattle.records_spec.specs.Flags.{zeros, same}
-use Rattle.records_spec.specs.Answers.{ok}
 use Rattle.rows_spec.specs.Order.{order}
 use Rattle.rows_spec.specs.Rows.{Row, row, ascends, idsOf, partsOf, Tables, tables, rowsOf, properRows, overRows}
-use Rattle.rows_spec.specs.Removals.{Removal, nothing, basic, sectioned, rowsOfRemoval, stateOf}
-use Rattle.rows_spec.specs.Outcomes.{After, kept, placing}
-use Rattle.rows_spec.specs.declared.removed.Removed.{Removed}
+use Rattle.rows_spec.specs.Removals.{Removal, nothing, basic, sectioned, rowsOfRemoval, stateOf, holdingRows, HeldRemoval}
+use Rattle.rows_spec.specs.Calls.{RemovalAfter}
+use Rattle.records_spec.specs.Outcomes.{kept, ok, after, leaving}
 use Rattle.rows_spec.specs.declared.removed.Removed.the-variants.{None}
 use Rattle.sums_spec.specs.Joins.{addRow, joined}
-use Rattle.sums_spec.specs.Sums.{anyOfZeros, withoutZeros, basicPlus, bytesAt, fits, exact}
+use Rattle.sums_spec.specs.Sums.{anyOfZeros, withoutZeros, basicPlus, bytesAt, sumFits, exact}
 use Rattle.sums_spec.specs.Calls.{summed}
-use Rattle.sums_spec.specs.Batches.{Operand, addAll}
+use Rattle.sums_spec.specs.Batches.{addAll}
 
 -- a version, two removals in their tables, and what is left
 pub record Example : Type 0 where
   pub version : ℕ
-  pub left : Removed
-  pub left-rows : Tables
-  pub right : Removed
-  pub right-rows : Tables
-  pub after : After
+  pub lhs : HeldRemoval
+  pub rhs : HeldRemoval
+  pub left : RemovalAfter
 
 -- tables that hold rows, and nothing else
-abbrev holding : List Row → Tables
-holding rs = overRows rs (tables [] [] [])
+abbrev tablesOf : List Row → Tables
+tablesOf rs = overRows rs (tables [] [] [])
+
+-- a removal in tables of its own
+abbrev alone : Removal → HeldRemoval
+alone r = holdingRows (stateOf r) (tablesOf (rowsOfRemoval r))
 
 -- an example by its parts: the left removal stands at the start of some rows' places
-abbrev example : ℕ → Removal → List Row → Removal → (Tables → After) → Example
-example v x places y answer =
-    let t = overRows (rowsOfRemoval x) (holding places) in
-    record { version = v; left = stateOf x; left-rows = t; right = stateOf y; right-rows = holding (rowsOfRemoval y); after = answer t }
+abbrev example : ℕ → Removal → List Row → Removal → (Tables → RemovalAfter) → Example
+example v x places y expected =
+    let t = overRows (rowsOfRemoval x) (tablesOf places) in
+    record { version = v; lhs = holdingRows (stateOf x) t; rhs = alone y; left = expected t }
 
 -- a removal is answered, and its rows stand at the start of the tables
-abbrev gives : Removal → Tables → After
-gives r t = record { answer = ok (stateOf r); rows = overRows (rowsOfRemoval r) t }
+abbrev gives : Removal → Tables → RemovalAfter
+gives r t = after (ok (stateOf r)) (overRows (rowsOfRemoval r) t)
 
 -- identifiers that differ in their last byte
 abbrev id : ℕ → List ℕ
@@ -84,25 +85,24 @@ examples =
     ∷ example 1 nothing two (sectioned (row (id 1) 3 10 ∷ row (id 1) 3 10 ∷ [])) (kept 11)
     ∷ []
 
-pub marked : map (λ (e : Example). summed (e .version) (e .left) (e .left-rows) (e .right) (e .right-rows)) examples ≡ map (λ (e : Example). e .after) examples
-unfolding examples summed placing properRows rowsOf recordsOf epochsOf countsOf idsOf partsOf ascends order addRow joined basicPlus anyOfZeros withoutZeros same
+pub marked : map (λ (e : Example). summed (e .version) (e .lhs) (e .rhs)) examples ≡ map (λ (e : Example). e .left) examples
+unfolding examples summed leaving properRows rowsOf recordsOf epochsOf countsOf idsOf partsOf ascends order addRow joined basicPlus anyOfZeros
+    withoutZeros same
 marked = refl
 
 -- ---- a batch
 
--- a removal in tables of its own
-abbrev lent : Removal → Operand
-lent r = record { state = stateOf r; rows = holding (rowsOfRemoval r) }
-
 -- four removals, one after another
-abbrev batch : List Operand
+abbrev batch : List HeldRemoval
 batch =
-    lent (basic 4294967295) ∷ lent (sectioned (row zeros 3 10 ∷ [])) ∷ lent (sectioned (row zeros 3 1 ∷ row (id 1) 3 7 ∷ [])) ∷ lent (basic 1) ∷ []
+    alone (basic 4294967295) ∷ alone (sectioned (row zeros 3 10 ∷ [])) ∷ alone (sectioned (row zeros 3 1 ∷ row (id 1) 3 7 ∷ [])) ∷ alone
+    (basic 1) ∷ []
 
 -- added up from the front and from the back, from version 1 on: the same rows, one of them saturated, in tables with just enough room
-pub added-up : map (λ (b : List Operand). addAll 1 b None (holding three)) (batch ∷ reverse batch ∷ [])
-    ≡ replicate 2 (gives (sectioned (row zeros 3 11 ∷ row zeros 65535 4294967295 ∷ row (id 1) 3 7 ∷ [])) (holding three))
-unfolding addAll summed placing properRows rowsOf recordsOf epochsOf countsOf idsOf partsOf ascends order addRow joined basicPlus anyOfZeros withoutZeros same
+pub added-up : map (λ (b : List HeldRemoval). addAll 1 b (holdingRows None (tablesOf three))) (batch ∷ reverse batch ∷ [])
+    ≡ replicate 2 (gives (sectioned (row zeros 3 11 ∷ row zeros 65535 4294967295 ∷ row (id 1) 3 7 ∷ [])) (tablesOf three))
+unfolding addAll summed leaving properRows rowsOf recordsOf epochsOf countsOf idsOf partsOf ascends order addRow joined basicPlus anyOfZeros
+    withoutZeros same
 added-up = refl
 
 -- ---- where nothing saturates
@@ -116,5 +116,5 @@ pub saturating :
     ∷ exact (basic 4294967295) (basic 1)
     ∷ []
     ≡ true ∷ true ∷ false ∷ false ∷ false ∷ []
-unfolding fits bytesAt order
+unfolding sumFits bytesAt order
 saturating = refl

@@ -9,12 +9,12 @@ use lib.Dec.{leb}
 use borrow.Author.Tests.{leb-true, leb-false}
 use Rattle.fields_spec.specs.Varint.{largest}
 use Rattle.rows_spec.specs.Rows.{Row, ascends}
-use Rattle.rows_spec.specs.Removals.{Removal, nothing, basic, sectioned, totalRows, total}
+use Rattle.rows_spec.specs.Removals.{nothing, basic, sectioned, totalRows}
 use Rattle.rows_spec.specs.declared.order.Order.the-variants.{Less, Equal, Greater}
 use Rattle.rows_spec.proofs.Rows.{asc-tail, asc-cons}
 use Rattle.rows_spec.proofs.Removals.{total-cons}
 use Rattle.sums_spec.specs.Joins.{plus, addRow, joined}
-use Rattle.sums_spec.specs.Sums.{unknown, sum, bytesAt, fits, exact}
+use Rattle.sums_spec.specs.Sums.{unknown, bytesAt, sumFits}
 use Rattle.sums_spec.specs.AnyOrder.{smallRows, small, SaturatedTotal}
 use Rattle.sums_spec.proofs.Adding.{add-cases}
 use Rattle.sums_spec.proofs.Joining.{AllAfter, all-after, joined-ascends}
@@ -36,26 +36,28 @@ less-added r (b ∷ l) s k h =
     add-cases (λ (m : List Row). totalRows m < r .part .bytes + totalRows (b ∷ l)) r b l
     (λ o. absurd (omega (arith, h, k, bytes-none r (b ∷ l) (all-after r (b ∷ l) (asc-cons r (b ∷ l) o s)))))
     (λ o. let e = bytes-at r b l Equal o in let p = total-cons (plus r b) l in omega arith)
-    (λ o. let e = bytes-at r b l Greater o in let p = total-cons b (addRow r l) in let ih = less-added r l (asc-tail b l s) k (omega arith) in omega arith)
+    (λ o. let e = bytes-at r b l Greater o in let p = total-cons b (addRow r l) in let ih = less-added r l (asc-tail b l s) k (omega arith) in
+    omega arith)
 
-less-joined : (xs ys : List Row) → ascends xs ≡ true → ascends ys ≡ true → smallRows xs ≡ true → fits xs ys ≡ false
+less-joined : (xs ys : List Row) → ascends xs ≡ true → ascends ys ≡ true → smallRows xs ≡ true → sumFits xs ys ≡ false
     → totalRows (joined xs ys) < totalRows xs + totalRows ys
-unfolding joined fits smallRows
+unfolding joined sumFits smallRows
 less-joined [] ys s u k h = absurd (true≢false h)
 less-joined (x ∷ xs) ys s u k h =
     let small = and-eq-true-iff (leb (x .part .bytes) largest) (smallRows xs) .0 k in
     go (leb (x .part .bytes + bytesAt x ys) largest) refl h (leb-true _ _ (small .0)) (λ f. less-joined xs ys (asc-tail x xs s) u (small .1) f)
   where
-    go : (b : Bool) → leb (x .part .bytes + bytesAt x ys) largest ≡ b → (b && fits xs ys) ≡ false → x .part .bytes ≤ largest
-        → (fits xs ys ≡ false → totalRows (joined xs ys) < totalRows xs + totalRows ys) → totalRows (addRow x (joined xs ys)) < totalRows (x ∷ xs) + totalRows ys
+    go : (b : Bool) → leb (x .part .bytes + bytesAt x ys) largest ≡ b → (b && sumFits xs ys) ≡ false → x .part .bytes ≤ largest
+        → (sumFits xs ys ≡ false → totalRows (joined xs ys) < totalRows xs + totalRows ys)
+        → totalRows (addRow x (joined xs ys)) < totalRows (x ∷ xs) + totalRows ys
     go true e f w ih = let l = ih f in omega (arith, most-added x (joined xs ys), total-cons x xs)
     go false e f w ih =
         let at = bytes-joined x xs ys (all-after x xs s) in
         let o = leb-false (x .part .bytes + bytesAt x ys) largest e in
         omega (arith, less-added x (joined xs ys) (joined-ascends xs ys u) w (omega arith), most-joined xs ys, total-cons x xs)
 
-fits-one : (r : Row) (l : List Row) → fits (r ∷ []) l ≡ false → largest < r .part .bytes + bytesAt r l
-unfolding fits
+fits-one : (r : Row) (l : List Row) → sumFits (r ∷ []) l ≡ false → largest < r .part .bytes + bytesAt r l
+unfolding sumFits
 fits-one r l h = leb-false _ _ (go (leb (r .part .bytes + bytesAt r l) largest) h)
   where
     go : (b : Bool) → (b && true) ≡ false → b ≡ false

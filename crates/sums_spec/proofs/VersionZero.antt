@@ -2,7 +2,7 @@
 -- Assumes nothing.
 use mathlib.Core.Path.{_≡_, refl, sym, ap, _∙_}
 use mathlib.Core.Bool.{true, false}
-use mathlib.Core.List.{List, [], _∷_}
+use mathlib.Core.List.{[], _∷_}
 use Prim.Native.Nat.{ℕ, _+_}
 use native.Mathlib.Omega.{arith}
 use Rattle.records_spec.specs.Flags.{zeros, same}
@@ -11,7 +11,7 @@ use Rattle.rows_spec.specs.Rows.{row}
 use Rattle.rows_spec.specs.Removals.{Removal, nothing, basic, sectioned, rowsOfRemoval, totalRows, total}
 use Rattle.rows_spec.proofs.Rows.{asc-none, asc-cons}
 use Rattle.sums_spec.specs.Joins.{addRow}
-use Rattle.sums_spec.specs.Sums.{unknown, anyOfZeros, withoutZeros, basicPlus, sum, bytesAt, fits, exact}
+use Rattle.sums_spec.specs.Sums.{unknown, anyOfZeros, withoutZeros, basicPlus, sum, bytesAt, sumFits, exact}
 use Rattle.sums_spec.specs.AnyOrder.{ProperRemoval, Commutative, Associative, ExactTotal}
 use Rattle.sums_spec.proofs.Losing.{basic-whole}
 use Rattle.sums_spec.proofs.Exact.{sum-exact}
@@ -34,7 +34,8 @@ two-orders = (refl, refl)
 
 pub not-commutative : Commutative 0 → ⊥
 not-commutative law =
-    let e : noRows ≡ sectioned (row zeros 0 0 ∷ unknown 0 ∷ []) = sym (two-orders .0) ∙ law (basic 0) (oneRow 0) asc-none (asc-cons _ [] tt asc-none) ∙ two-orders .1 in
+    let e : noRows ≡ sectioned (row zeros 0 0 ∷ unknown 0 ∷ []) = sym (two-orders .0) ∙ law (basic 0) (oneRow 0) asc-none (asc-cons _ [] tt asc-none)
+    ∙ two-orders .1 in
     let z : _≡_ {A = ℕ} 0 1 = cc in
     omega arith
 
@@ -47,7 +48,8 @@ two-groupings = (refl, refl)
 
 pub not-associative : Associative 0 → ⊥
 not-associative law =
-    let e : sectioned (unknown 0 ∷ []) ≡ noRows = sym (two-groupings .0) ∙ law (basic 0) (basic 0) noRows asc-none asc-none asc-none ∙ two-groupings .1 in
+    let e : sectioned (unknown 0 ∷ []) ≡ noRows = sym (two-groupings .0) ∙ law (basic 0) (basic 0) noRows asc-none asc-none asc-none
+    ∙ two-groupings .1 in
     let z : _≡_ {A = ℕ} 0 1 = cc in
     omega arith
 
@@ -55,7 +57,7 @@ not-associative law =
 
 -- a row of 1 byte is lost, though nothing saturates
 pub byte-lost : (exact (basic 0) (oneRow 1) ≡ true) × ((total (basic 0) + total (oneRow 1) ≡ 1) × (total (sum 0 (basic 0) (oneRow 1)) ≡ 0))
-unfolding fits bytesAt basicPlus anyOfZeros withoutZeros same addRow order totalRows
+unfolding sumFits bytesAt basicPlus anyOfZeros withoutZeros same addRow order totalRows
 byte-lost = (refl, (refl, refl))
 
 pub not-exact : ExactTotal 0 → ⊥

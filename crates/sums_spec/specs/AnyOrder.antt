@@ -46,7 +46,8 @@ small (sectioned rs) = smallRows rs
 -- and where something saturates the total is less, so that "where nothing saturates" leaves out no case
 abbrev pub SaturatedTotal : ℕ → Type 0
 SaturatedTotal version =
-    (x y : Removal) → ProperRemoval x → ProperRemoval y → small x ≡ true → small y ≡ true → exact x y ≡ false → total (sum version x y) < total x + total y
+    (x y : Removal) → ProperRemoval x → ProperRemoval y → small x ≡ true → small y ≡ true → exact x y ≡ false
+    → total (sum version x y) < total x + total y
 
 -- what the order of adding cannot change
 pub record AnyOrder (version : ℕ) : Type 0 where

@@ -4,10 +4,10 @@ use Prim.Native.Nat.{ℕ}
 use mathlib.Core.Path.{_≡_}
 use mathlib.Core.Bool.{true}
 use mathlib.Core.List.{List, [], _∷_, _++_, List·Permᴰ}
-use Rattle.records_spec.specs.Answers.{Answer, ok, refused}
+use Rattle.records_spec.specs.Outcomes.{Answer, ok, refused, after, kept}
 use Rattle.rows_spec.specs.Rows.{Tables}
-use Rattle.rows_spec.specs.Removals.{Removal, proper}
-use Rattle.rows_spec.specs.Outcomes.{After, kept}
+use Rattle.rows_spec.specs.Removals.{Removal, HeldRemoval, holdingRows, properRemoval}
+use Rattle.rows_spec.specs.Calls.{RemovalAfter}
 use Rattle.rows_spec.specs.declared.removed.Removed.{Removed}
 use Rattle.sums_spec.specs.Sums.{sum}
 use Rattle.sums_spec.specs.Calls.{summed}
@@ -20,37 +20,32 @@ Each P (x ∷ xs) = P x × Each P xs
 
 -- ---- one call after another
 
--- a removal as a call takes it: its state, and the tables that hold its rows
-pub record Operand : Type 0 where
-  pub state : Removed
-  pub rows : Tables
-
 -- a proper operand
-abbrev pub ProperOperand : Operand → Type 0
-ProperOperand y = proper (y .state) (y .rows) ≡ true
+abbrev pub ProperOperand : HeldRemoval → Type 0
+ProperOperand y = properRemoval y ≡ true
 
 -- an answer, and with it what follows; a refusal ends it
-abbrev pub onward : Answer Removed → Tables → (Removed → Tables → After) → After
-onward (ok s) t rest = rest s t
-onward (refused n) t rest = kept n t
+abbrev pub goingOn : Answer Removed → Tables → (HeldRemoval → RemovalAfter) → RemovalAfter
+goingOn (ok s) t rest = rest (holdingRows s t)
+goingOn (refused n) t rest = kept n t
 
 -- each in turn is added to the removal in the lent tables
-unfoldable pub addAll : ℕ → List Operand → Removed → Tables → After
-addAll version [] x t = record { answer = ok x; rows = t }
-addAll version (y ∷ ys) x t =
-    let a = summed version x t (y .state) (y .rows) in
-    onward (a .answer) (a .rows) (addAll version ys)
+unfoldable pub addAll : ℕ → List HeldRemoval → HeldRemoval → RemovalAfter
+addAll version [] x = after (ok (x .state)) (x .rows)
+addAll version (y ∷ ys) x =
+    let a = summed version x y in
+    goingOn (a .answer) (a .lent) (addAll version ys)
 
 -- two outcomes are one sheet: the same answer, and where it is no refusal the same tables, to the last place
-pub record SameSheet (a b : After) : Type 0 where
+pub record SameSheet (a b : RemovalAfter) : Type 0 where
   pub same-answer : a .answer ≡ b .answer
-  pub same-rows : (s : Removed) → a .answer ≡ ok s → a .rows ≡ b .rows
+  pub same-rows : (s : Removed) → a .answer ≡ ok s → a .lent ≡ b .lent
 
 -- the same removals added up in another order give the same sheet
 abbrev pub AnyBatch : ℕ → Type 0
 AnyBatch version =
-    (x : Removed) (t : Tables) → proper x t ≡ true → (ys zs : List Operand) → Each ProperOperand ys → List·Permᴰ ys zs
-    → SameSheet (addAll version ys x t) (addAll version zs x t)
+    (x : HeldRemoval) → properRemoval x ≡ true → (ys zs : List HeldRemoval) → Each ProperOperand ys → List·Permᴰ ys zs
+    → SameSheet (addAll version ys x) (addAll version zs x)
 
 -- ---- group by group
 

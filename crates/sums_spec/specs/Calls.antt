@@ -2,12 +2,14 @@
 -- Assumes nothing.
 use Prim.Native.Nat.{ℕ}
 use mathlib.Core.Bool.{_&&_}
-use Rattle.rows_spec.specs.Rows.{Tables}
-use Rattle.rows_spec.specs.Removals.{removalOf, proper}
-use Rattle.rows_spec.specs.Outcomes.{After, whereProper}
-use Rattle.rows_spec.specs.declared.removed.Removed.{Removed}
+use Rattle.records_spec.specs.Outcomes.{_unless_, _>>_, leaving}
+use Rattle.records_spec.specs.declared.refusal.Refusal.the-variants.{BadTable}
+use Rattle.rows_spec.specs.Removals.{HeldRemoval, removalOf, properRemoval}
+use Rattle.rows_spec.specs.Calls.{RemovalAfter, placedRemoval}
 use Rattle.sums_spec.specs.Sums.{sum}
 
--- `add_assign`: 11 where either operand is not proper, before all else
-unfoldable pub summed : ℕ → Removed → Tables → Removed → Tables → After
-summed version x t y u = whereProper (proper x t && proper y u) (sum version (removalOf x t) (removalOf y u)) t
+-- `add_assign`, in the tables of the left one
+unfoldable pub summed : ℕ → HeldRemoval → HeldRemoval → RemovalAfter
+summed version lhs rhs = leaving (lhs .rows) do
+  BadTable unless properRemoval lhs && properRemoval rhs
+  placedRemoval (sum version (removalOf lhs) (removalOf rhs)) (lhs .rows)

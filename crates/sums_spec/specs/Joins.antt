@@ -18,15 +18,15 @@ abbrev pub plus : Row → Row → Row
 plus a b = row (a .identifier) (a .part .epoch) (capped (a .part .bytes) (b .part .bytes))
 
 -- a row that stands so to the first of some rows: before it, into it, or behind it, among what the others are with the row
-abbrev pub placed : Order → Row → Row → List Row → List Row → List Row
-placed Less r first others more = r ∷ first ∷ others
-placed Equal r first others more = plus r first ∷ others
-placed Greater r first others more = first ∷ more
+abbrev pub addBeside : Order → Row → Row → List Row → List Row → List Row
+addBeside Less r first others more = r ∷ first ∷ others
+addBeside Equal r first others more = plus r first ∷ others
+addBeside Greater r first others more = first ∷ more
 
 -- a row added to ascending rows
 unfoldable pub addRow : Row → List Row → List Row
 addRow r [] = r ∷ []
-addRow r (b ∷ bs) = placed (compared r b) r b bs (addRow r bs)
+addRow r (b ∷ bs) = addBeside (compared r b) r b bs (addRow r bs)
 
 -- rows joined, equal pairs added
 unfoldable pub joined : List Row → List Row → List Row

@@ -10,8 +10,7 @@ use Rattle.fields_spec.specs.Varint.{largest}
 use Rattle.records_spec.specs.Flags.{zeros, same}
 use Rattle.rows_spec.specs.Rows.{Row, row, compared}
 use Rattle.rows_spec.specs.Removals.{Removal, nothing, basic, sectioned}
-use Rattle.rows_spec.specs.declared.order.Order.{Order}
-use Rattle.rows_spec.specs.declared.order.Order.the-variants.{Less, Equal, Greater}
+use Rattle.rows_spec.specs.Order.{isEqual}
 use Rattle.sums_spec.specs.Joins.{capped, addRow, joined}
 
 -- the epoch of bytes of which none is known
@@ -59,28 +58,22 @@ pub record Lost (rs : List Row) (n k : ℕ) : Type 0 where
 
 -- ---- where nothing saturates
 
--- whether two rows have one pair of identifier and epoch
-abbrev pub isEqual : Order → Bool
-isEqual Less = false
-isEqual Equal = true
-isEqual Greater = false
-
 -- the bytes that rows have at a row's pair; 0 where they have none
 unfoldable pub bytesAt : Row → List Row → ℕ
 bytesAt r [] = 0
 bytesAt r (b ∷ bs) = cond (isEqual (compared r b)) (b .part .bytes) (bytesAt r bs)
 
 -- rows of one pair do not pass 4,294,967,295 together
-unfoldable pub fits : List Row → List Row → Bool
-fits [] ys = true
-fits (x ∷ xs) ys = leb (x .part .bytes + bytesAt x ys) largest && fits xs ys
+unfoldable pub sumFits : List Row → List Row → Bool
+sumFits [] ys = true
+sumFits (x ∷ xs) ys = leb (x .part .bytes + bytesAt x ys) largest && sumFits xs ys
 
 -- nothing saturates in the sum of two removals
 abbrev pub exact : Removal → Removal → Bool
 exact nothing y = true
 exact (basic m) nothing = true
 exact (basic m) (basic n) = leb (m + n) largest
-exact (basic m) (sectioned ys) = fits (unknown m ∷ []) ys
+exact (basic m) (sectioned ys) = sumFits (unknown m ∷ []) ys
 exact (sectioned xs) nothing = true
-exact (sectioned xs) (basic n) = fits (unknown n ∷ []) xs
-exact (sectioned xs) (sectioned ys) = fits xs ys
+exact (sectioned xs) (basic n) = sumFits (unknown n ∷ []) xs
+exact (sectioned xs) (sectioned ys) = sumFits xs ys

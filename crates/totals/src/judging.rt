@@ -3,13 +3,16 @@
 ghost use mathlib.Core.Path.{_≡_};
 ghost use mathlib.Core.Bool.{true, cond, _&&_};
 ghost use Prim.Native.Nat.{_≤_};
+ghost use Rattle.fields_spec.specs.Lending.{was};
 ghost use Rattle.records_spec.specs.Tables.{Table};
-ghost use Rattle.rows_spec.specs.Rows.{row, tables, rowsIn};
+ghost use Rattle.rows_spec.specs.Rows.{row, tables, rowsIn, rowsWere};
+ghost use Rattle.records_spec.specs.Answers.{counted};
 ghost use Rattle.totals_spec.specs.Table.{totalAt};
 ghost use Rattle.totals_spec.specs.Replacing.{covered};
-ghost use Rattle.totals_spec.specs.Steps.{under, judged, judgedOld, judgedNew, Standing};
+ghost use Rattle.totals_spec.specs.Steps.{under, judgedOld, judgedNew, Standing};
+use records_spec::Counted;
+use records_spec::Refusal;
 use totals_rows::look_up;
-use totals_spec::Judged;
 
 // The largest total.
 pub const LARGEST_TOTAL: u64 = 18446744073709551615;
@@ -33,10 +36,10 @@ pub fn judge_old(
     owner: [u8; 32],
     old_epochs: &[u16],
     old_counts: &[u32],
-) -> Judged
+) -> Counted
     requires { ⌜ Standing 0 n (tables (now owners) (now epochs) (now totals)) ⌝ }
     requires { ⌜ Table (now «old_epochs») (now «old_counts») ⌝ }
-    ensures { λ r. ⌜ judged r ≡ judgedOld (under owner (now («old_epochs» .entry)) (now («old_counts» .entry))) (rowsIn n (tables (now (owners .entry)) (now (epochs .entry)) (now (totals .entry)))) ⌝ }
+    ensures { λ r. ⌜ counted r ≡ judgedOld (under owner (was «old_epochs») (was «old_counts»)) (rowsIn n (rowsWere owners epochs totals)) ⌝ }
 {
     let mut gone: usize = 0;
     let mut i: usize = 0;
@@ -44,12 +47,12 @@ pub fn judge_old(
         let count = old_counts[i] as u64;
         let total = look_up(owners, epochs, totals, 0, n, owner, old_epochs[i]).total;
         if total < count {
-            return Judged::Mismatch;
+            return Counted::Refused(Refusal::IndexMismatch);
         }
         gone += one_if(0 < count, total == count);
         i += 1;
     }
-    Judged::Number(gone)
+    Counted::Count(gone)
 }
 
 // The count that an owner's records have at an owner and epoch; 0 where the owners differ.
@@ -61,7 +64,7 @@ pub fn count_at(
     epoch: u16,
 ) -> u64
     requires { ⌜ Table (now epochs) (now counts) ⌝ }
-    ensures { λ r. ⌜ r ≡ totalAt (row owner epoch 0) (under «records_owner» (now (epochs .entry)) (now (counts .entry))) ⌝ }
+    ensures { λ r. ⌜ r ≡ totalAt (row owner epoch 0) (under «records_owner» (was epochs) (was counts)) ⌝ }
 {
     if records::same_owner(records_owner, owner) {
         return records::look_up(epochs, counts, epoch).count as u64;
@@ -81,12 +84,17 @@ pub fn judge_new(
     new_owner: [u8; 32],
     new_epochs: &[u16],
     new_counts: &[u32],
-) -> Judged
+) -> Counted
     requires { ⌜ Standing 0 n (tables (now owners) (now epochs) (now totals)) ⌝ }
     requires { ⌜ Table (now «old_epochs») (now «old_counts») ⌝ }
     requires { ⌜ Table (now «new_epochs») (now «new_counts») ⌝ }
-    requires { ⌜ covered (under «old_owner» (now «old_epochs») (now «old_counts»)) (rowsIn n (tables (now owners) (now epochs) (now totals))) ≡ true ⌝ }
-    ensures { λ r. ⌜ judged r ≡ judgedNew (under «old_owner» (now («old_epochs» .entry)) (now («old_counts» .entry))) (under «new_owner» (now («new_epochs» .entry)) (now («new_counts» .entry))) (rowsIn n (tables (now (owners .entry)) (now (epochs .entry)) (now (totals .entry)))) ⌝ }
+    requires { ⌜ covered (under «old_owner» (now «old_epochs») (now «old_counts»)) (rowsIn n (tables (now owners) (now epochs) (now totals)))
+        ≡ true ⌝ }
+    ensures { λ r.
+        let rows-lent = rowsWere owners epochs totals in
+        let old-rows = under «old_owner» (was «old_epochs») (was «old_counts») in
+        let new-rows = under «new_owner» (was «new_epochs») (was «new_counts») in
+        ⌜ counted r ≡ judgedNew old-rows new-rows (rowsIn n rows-lent) ⌝ }
 {
     let mut made: usize = 0;
     let mut i: usize = 0;
@@ -96,10 +104,10 @@ pub fn judge_new(
         let total = look_up(owners, epochs, totals, 0, n, new_owner, epoch).total;
         let left = total - count_at(old_owner, old_epochs, old_counts, new_owner, epoch);
         if LARGEST_TOTAL - left < count {
-            return Judged::TooLarge;
+            return Counted::Refused(Refusal::Overflow);
         }
         made += one_if(0 < count, left == 0);
         i += 1;
     }
-    Judged::Number(made)
+    Counted::Count(made)
 }

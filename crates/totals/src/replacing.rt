@@ -1,22 +1,23 @@
 // Replacing one element's flags: the table is judged and counted first, then written.
 ghost use mathlib.Core.Path.{_≡_};
 ghost use mathlib.Core.Bool.{true, _&&_};
+ghost use Rattle.fields_spec.specs.Lending.{was};
 ghost use Rattle.records_spec.specs.Tables.{Table};
-ghost use Rattle.rows_spec.specs.Rows.{tables, rowsIn};
+ghost use Rattle.rows_spec.specs.Rows.{tables, rowsIn, rowsWere, rowsLeft};
+ghost use Rattle.records_spec.specs.Outcomes.{ok, after};
+ghost use Rattle.records_spec.specs.Answers.{flagsWere, counted};
 ghost use Rattle.totals_spec.specs.Replacing.{changed};
-ghost use Rattle.records_spec.specs.Answers.{ok};
-ghost use Rattle.totals_spec.specs.Steps.{under, judged, countedRows, namedBy, Standing};
-ghost use Rattle.totals_spec.specs.Calls.{shown, placing, given, properGiven, replacing};
+ghost use Rattle.totals_spec.specs.Steps.{under, countedRows, namedBy, Standing};
+ghost use Rattle.totals_spec.specs.Calls.{given, properGiven, replacing, placingRows};
 use crate::judging::judge_new;
 use crate::judging::judge_old;
+use records_spec::Counted;
 use records_spec::Head;
 use records_spec::OWNER_LENGTH;
 use records_spec::Refusal;
 use totals_rows::add_rows;
 use totals_rows::take_rows;
-use totals_spec::Judged;
 use totals_spec::Named;
-use totals_spec::Replaced;
 
 // Judges a change of the first n rows: how many rows there are afterwards, or why it is refused.
 fn judge(
@@ -30,16 +31,19 @@ fn judge(
     new_owner: [u8; 32],
     new_epochs: &[u16],
     new_counts: &[u32],
-) -> Judged
+) -> Counted
     requires { ⌜ Standing 0 n (tables (now owners) (now epochs) (now totals)) ⌝ }
     requires { ⌜ Table (now «old_epochs») (now «old_counts») ⌝ }
     requires { ⌜ Table (now «new_epochs») (now «new_counts») ⌝ }
-    ensures { λ r. ⌜ judged r ≡ countedRows (changed (under «old_owner» (now («old_epochs» .entry)) (now («old_counts» .entry))) (under «new_owner» (now («new_epochs» .entry)) (now («new_counts» .entry))) (rowsIn n (tables (now (owners .entry)) (now (epochs .entry)) (now (totals .entry))))) ⌝ }
+    ensures { λ r.
+        let rows-lent = rowsWere owners epochs totals in
+        let old-rows = under «old_owner» (was «old_epochs») (was «old_counts») in
+        let new-rows = under «new_owner» (was «new_epochs») (was «new_counts») in
+        ⌜ counted r ≡ countedRows (changed old-rows new-rows (rowsIn n rows-lent)) ⌝ }
 {
     match judge_old(owners, epochs, totals, n, old_owner, old_epochs, old_counts) {
-        Judged::Mismatch => Judged::Mismatch,
-        Judged::TooLarge => Judged::TooLarge,
-        Judged::Number(gone) => match judge_new(
+        Counted::Refused(refusal) => Counted::Refused(refusal),
+        Counted::Count(gone) => match judge_new(
             owners,
             epochs,
             totals,
@@ -51,9 +55,8 @@ fn judge(
             new_epochs,
             new_counts,
         ) {
-            Judged::Mismatch => Judged::Mismatch,
-            Judged::TooLarge => Judged::TooLarge,
-            Judged::Number(made) => Judged::Number(n - gone + made),
+            Counted::Refused(refusal) => Counted::Refused(refusal),
+            Counted::Count(made) => Counted::Count(n - gone + made),
         },
     }
 }
@@ -71,12 +74,18 @@ fn write(
     new_epochs: &[u16],
     new_counts: &[u32],
     count: usize,
-) -> Replaced
+) -> Counted
     requires { ⌜ Standing 0 n (tables (now owners) (now epochs) (now totals)) ⌝ }
     requires { ⌜ Table (now «old_epochs») (now «old_counts») ⌝ }
     requires { ⌜ Table (now «new_epochs») (now «new_counts») ⌝ }
-    requires { ⌜ ok count ≡ countedRows (changed (under «old_owner» (now «old_epochs») (now «old_counts»)) (under «new_owner» (now «new_epochs») (now «new_counts»)) (rowsIn n (tables (now owners) (now epochs) (now totals)))) ⌝ }
-    ensures { λ r. ⌜ shown r (tables (now (owners .exit)) (now (epochs .exit)) (now (totals .exit))) ≡ placing (changed (under «old_owner» (now («old_epochs» .entry)) (now («old_counts» .entry))) (under «new_owner» (now («new_epochs» .entry)) (now («new_counts» .entry))) (rowsIn n (tables (now (owners .entry)) (now (epochs .entry)) (now (totals .entry))))) (tables (now (owners .entry)) (now (epochs .entry)) (now (totals .entry))) ⌝ }
+    requires { let old-rows = under «old_owner» (now «old_epochs») (now «old_counts») in
+        let new-rows = under «new_owner» (now «new_epochs») (now «new_counts») in
+        ⌜ ok count ≡ countedRows (changed old-rows new-rows (rowsIn n (tables (now owners) (now epochs) (now totals)))) ⌝ }
+    ensures { λ r.
+        let rows-lent = rowsWere owners epochs totals in
+        let old-rows = under «old_owner» (was «old_epochs») (was «old_counts») in
+        let new-rows = under «new_owner» (was «new_epochs») (was «new_counts») in
+        ⌜ after (counted r) (rowsLeft owners epochs totals) ≡ placingRows (changed old-rows new-rows (rowsIn n rows-lent)) rows-lent ⌝ }
 {
     if totals_rows::fit(count, owners, epochs, totals) {
         let left = take_rows(owners, epochs, totals, n, old_owner, old_epochs, old_counts);
@@ -90,9 +99,9 @@ fn write(
             new_counts,
             count,
         );
-        return Replaced::Rows(count);
+        return Counted::Count(count);
     }
-    Replaced::Refused(Refusal::NoRoom)
+    Counted::Refused(Refusal::NoRoom)
 }
 
 // Changes the first n rows: judged and counted first, then refused or written.
@@ -107,11 +116,15 @@ fn change(
     new_owner: [u8; 32],
     new_epochs: &[u16],
     new_counts: &[u32],
-) -> Replaced
+) -> Counted
     requires { ⌜ Standing 0 n (tables (now owners) (now epochs) (now totals)) ⌝ }
     requires { ⌜ Table (now «old_epochs») (now «old_counts») ⌝ }
     requires { ⌜ Table (now «new_epochs») (now «new_counts») ⌝ }
-    ensures { λ r. ⌜ shown r (tables (now (owners .exit)) (now (epochs .exit)) (now (totals .exit))) ≡ placing (changed (under «old_owner» (now («old_epochs» .entry)) (now («old_counts» .entry))) (under «new_owner» (now («new_epochs» .entry)) (now («new_counts» .entry))) (rowsIn n (tables (now (owners .entry)) (now (epochs .entry)) (now (totals .entry))))) (tables (now (owners .entry)) (now (epochs .entry)) (now (totals .entry))) ⌝ }
+    ensures { λ r.
+        let rows-lent = rowsWere owners epochs totals in
+        let old-rows = under «old_owner» (was «old_epochs») (was «old_counts») in
+        let new-rows = under «new_owner» (was «new_epochs») (was «new_counts») in
+        ⌜ after (counted r) (rowsLeft owners epochs totals) ≡ placingRows (changed old-rows new-rows (rowsIn n rows-lent)) rows-lent ⌝ }
 {
     match judge(
         owners,
@@ -125,9 +138,8 @@ fn change(
         new_epochs,
         new_counts,
     ) {
-        Judged::Mismatch => Replaced::IndexMismatch,
-        Judged::TooLarge => Replaced::Refused(Refusal::Overflow),
-        Judged::Number(count) => write(
+        Counted::Refused(refusal) => Counted::Refused(refusal),
+        Counted::Count(count) => write(
             owners,
             epochs,
             totals,
@@ -145,7 +157,7 @@ fn change(
 
 // Whether flags are absent or proper.
 pub fn is_good(present: bool, head: Head, epochs: &[u16], counts: &[u32]) -> bool
-    ensures { λ r. ⌜ r ≡ properGiven present head (now (epochs .entry)) (now (counts .entry)) ⌝ }
+    ensures { λ r. ⌜ r ≡ properGiven present (flagsWere head epochs counts) ⌝ }
 {
     if present {
         return records::is_proper(head, epochs, counts);
@@ -185,8 +197,15 @@ pub fn replace(
     new: Head,
     new_epochs: &[u16],
     new_counts: &[u32],
-) -> Replaced
-    ensures { λ r. ⌜ shown r (tables (now (owners .exit)) (now (epochs .exit)) (now (totals .exit))) ≡ replacing rows (tables (now (owners .entry)) (now (epochs .entry)) (now (totals .entry))) (properGiven «old_present» old (now («old_epochs» .entry)) (now («old_counts» .entry)) && properGiven «new_present» new (now («new_epochs» .entry)) (now («new_counts» .entry))) (given «old_present» old (now («old_epochs» .entry)) (now («old_counts» .entry))) (given «new_present» new (now («new_epochs» .entry)) (now («new_counts» .entry))) ⌝ }
+) -> Counted
+    ensures { λ r.
+        let old-flags = flagsWere old «old_epochs» «old_counts» in
+        let new-flags = flagsWere new «new_epochs» «new_counts» in
+        let rows-lent = rowsWere owners epochs totals in
+        let both-proper = properGiven «old_present» old-flags && properGiven «new_present» new-flags in
+        let old-given = given «old_present» old-flags in
+        let new-given = given «new_present» new-flags in
+        ⌜ after (counted r) (rowsLeft owners epochs totals) ≡ replacing rows rows-lent both-proper old-given new-given ⌝ }
 {
     if totals_rows::is_proper(rows, owners, epochs, totals) {
         if is_good(old_present, old, old_epochs, old_counts) {
@@ -210,5 +229,5 @@ pub fn replace(
             }
         }
     }
-    Replaced::Refused(Refusal::BadTable)
+    Counted::Refused(Refusal::BadTable)
 }

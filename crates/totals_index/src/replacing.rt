@@ -1,11 +1,16 @@
 // Replacing one element's flags in a table of structs: judged first, then taken apart, changed and put together.
 ghost use mathlib.Core.Path.{_≡_};
 ghost use mathlib.Core.Bool.{_&&_};
-ghost use Rattle.rows_spec.specs.Rows.{tables};
+ghost use Rattle.fields_spec.specs.Lending.{was, left};
+ghost use Rattle.rows_spec.specs.Rows.{rowsWere, rowsLeft};
 ghost use Rattle.totals_spec.specs.Calls.{given, properGiven};
 ghost use Rattle.totals_spec.specs.Steps.{countedRows};
-ghost use Rattle.totals_index_spec.specs.Calls.{shown, verdict, replacingStructs};
+ghost use Rattle.records_spec.specs.Flags.{holding};
+ghost use Rattle.records_spec.specs.Answers.{flagsWere, counted};
+ghost use Rattle.records_spec.specs.Outcomes.{after};
+ghost use Rattle.totals_index_spec.specs.Calls.{SaysStructs, verdict, replacingStructs, beside};
 ghost use Rattle.totals_index_spec.specs.Judging.{verdictOf};
+use records_spec::Counted;
 use records_spec::Head;
 use totals_index_judging::judge_rows;
 use totals_index_judging::rows_to_judge;
@@ -17,7 +22,6 @@ use totals_index_work::replace_in;
 use totals_index_work::rows_to_put;
 use totals_index_work::rows_to_take;
 use totals_index_work::take_apart;
-use totals_spec::Replaced;
 
 // Makes a change that was judged, where it is accepted and has room.
 fn replace_judged(
@@ -34,9 +38,21 @@ fn replace_judged(
     new: Head,
     new_epochs: &[u16],
     new_counts: &[u32],
-) -> Replaced
-    requires { ⌜ verdictOf judged ≡ countedRows (verdict (judged .rows) (now table) (properGiven «old_present» old (now «old_epochs») (now «old_counts») && properGiven «new_present» new (now «new_epochs») (now «new_counts»)) (given «old_present» old (now «old_epochs») (now «old_counts»)) (given «new_present» new (now «new_epochs») (now «new_counts»))) ⌝ }
-    ensures { λ r. ⌜ shown r (now (table .exit)) (tables (now (owners .exit)) (now (epochs .exit)) (now (totals .exit))) ≡ replacingStructs (judged .rows) (now (table .entry)) (tables (now (owners .entry)) (now (epochs .entry)) (now (totals .entry))) (properGiven «old_present» old (now («old_epochs» .entry)) (now («old_counts» .entry)) && properGiven «new_present» new (now («new_epochs» .entry)) (now («new_counts» .entry))) (given «old_present» old (now («old_epochs» .entry)) (now («old_counts» .entry))) (given «new_present» new (now («new_epochs» .entry)) (now («new_counts» .entry))) ⌝ }
+) -> Counted
+    requires { let old-flags = holding old (now «old_epochs») (now «old_counts») in
+        let new-flags = holding new (now «new_epochs») (now «new_counts») in
+        let both-proper = properGiven «old_present» old-flags && properGiven «new_present» new-flags in
+        let afterwards = verdict (judged .rows) (now table) both-proper (given «old_present» old-flags) (given «new_present» new-flags) in
+        ⌜ verdictOf judged ≡ countedRows afterwards ⌝ }
+    ensures { λ r.
+        let old-flags = flagsWere old «old_epochs» «old_counts» in
+        let new-flags = flagsWere new «new_epochs» «new_counts» in
+        let rows-lent = rowsWere owners epochs totals in
+        let both-proper = properGiven «old_present» old-flags && properGiven «new_present» new-flags in
+        let old-given = given «old_present» old-flags in
+        let new-given = given «new_present» new-flags in
+        ⌜ after (counted r) (beside (left table) (rowsLeft owners epochs totals))
+        ≡ replacingStructs (judged .rows) (was table) rows-lent both-proper old-given new-given ⌝ }
 {
     let size = table.len();
     let taken = rows_to_take(judged, size, owners.len(), epochs.len(), totals.len());
@@ -76,8 +92,16 @@ pub fn replace(
     new: Head,
     new_epochs: &[u16],
     new_counts: &[u32],
-) -> Replaced
-    ensures { λ r. ⌜ shown r (now (table .exit)) (tables (now (owners .exit)) (now (epochs .exit)) (now (totals .exit))) ≡ replacingStructs rows (now (table .entry)) (tables (now (owners .entry)) (now (epochs .entry)) (now (totals .entry))) (properGiven «old_present» old (now («old_epochs» .entry)) (now («old_counts» .entry)) && properGiven «new_present» new (now («new_epochs» .entry)) (now («new_counts» .entry))) (given «old_present» old (now («old_epochs» .entry)) (now («old_counts» .entry))) (given «new_present» new (now («new_epochs» .entry)) (now («new_counts» .entry))) ⌝ }
+) -> Counted
+    ensures { λ r.
+        let old-flags = flagsWere old «old_epochs» «old_counts» in
+        let new-flags = flagsWere new «new_epochs» «new_counts» in
+        let rows-lent = rowsWere owners epochs totals in
+        let both-proper = properGiven «old_present» old-flags && properGiven «new_present» new-flags in
+        let old-given = given «old_present» old-flags in
+        let new-given = given «new_present» new-flags in
+        let lent-left = beside (left table) (rowsLeft owners epochs totals) in
+        ⌜ SaysStructs rows (was table) rows-lent both-proper old-given new-given r lent-left ⌝ }
 {
     let first = start(
         rows,

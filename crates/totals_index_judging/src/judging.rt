@@ -1,13 +1,16 @@
 // Judging a change over the table as it stands, row by row, before anything is written.
 ghost use mathlib.Core.Path.{_≡_};
-ghost use mathlib.Core.Bool.{Bool, true, cond};
+ghost use mathlib.Core.Bool.{true, cond};
 ghost use Prim.Native.Nat.{_-_, _≤_};
-ghost use lib.ListN.{length, take};
+ghost use lib.ListN.{length};
+ghost use Rattle.records_spec.specs.Answers.{flagsWere};
+ghost use Rattle.fields_spec.specs.Lending.{was};
 ghost use Rattle.rows_spec.specs.Order.{isLess};
 ghost use Rattle.rows_spec.specs.Rows.{row, rowsIn, compared};
 ghost use Rattle.totals_spec.specs.Table.{totalAt};
 ghost use Rattle.totals_index_spec.specs.Structs.{columns};
-ghost use Rattle.totals_index_spec.specs.Judging.{one, positives, beginning, unjudged, started, rowOf, rowsNamed, next, judged, AskedOf, Asked, Small};
+ghost use Rattle.totals_index_spec.specs.Judging.{one, positives, beginning, unjudged, started, rowOf};
+ghost use Rattle.totals_index_spec.specs.Judging.{rowsNamed, judgedNext, judgedAll, AskedOf, Asked, Small};
 use records_spec::Head;
 use records_spec::OWNER_LENGTH;
 use totals::LARGEST_TOTAL;
@@ -17,7 +20,7 @@ use totals_spec::Named;
 
 // How many counts are above 0.
 fn count_positives(counts: &[u32]) -> usize
-    ensures { λ r. ⌜ r ≡ positives (now (counts .entry)) ⌝ }
+    ensures { λ r. ⌜ r ≡ positives (was counts) ⌝ }
 {
     let mut n: usize = 0;
     let mut i: usize = 0;
@@ -87,8 +90,11 @@ pub fn start(
     new_epochs: &[u16],
     new_counts: &[u32],
 ) -> Judging
-    ensures { λ r. ⌜ r ≡ started n size «old_present» old (now («old_epochs» .entry)) (now («old_counts» .entry)) «new_present» new (now («new_epochs» .entry)) (now («new_counts» .entry)) ⌝ }
-    ensures { λ _. ⌜ Small (now («new_counts» .entry)) ⌝ }
+    ensures { λ r.
+        let old-flags = flagsWere old «old_epochs» «old_counts» in
+        let new-flags = flagsWere new «new_epochs» «new_counts» in
+        ⌜ r ≡ started n size «old_present» old-flags «new_present» new-flags ⌝ }
+    ensures { λ _. ⌜ Small (was «new_counts») ⌝ }
 {
     if n <= size {
         if totals::is_good(old_present, old, old_epochs, old_counts) {
@@ -145,7 +151,7 @@ fn left_of(total: u64, old_count: u64) -> u64
 // The count that named records have at an owner and epoch; 0 where they have none there.
 fn count_named(named: Named, epochs: &[u16], counts: &[u32], owner: [u8; 32], epoch: u16) -> u64
     requires { ⌜ AskedOf named (now epochs) (now counts) ⌝ }
-    ensures { λ r. ⌜ r ≡ totalAt (row owner epoch 0) (rowsNamed named (now (epochs .entry)) (now (counts .entry))) ⌝ }
+    ensures { λ r. ⌜ r ≡ totalAt (row owner epoch 0) (rowsNamed named (was epochs) (was counts)) ⌝ }
 {
     let n = named.records;
     let records_owner = named.owner;
@@ -162,7 +168,10 @@ pub fn judge_row(
     new_counts: &[u32],
 ) -> Judging
     requires { ⌜ Asked seen (now «old_epochs») (now «old_counts») (now «new_epochs») (now «new_counts») ⌝ }
-    ensures { λ r. ⌜ r ≡ next (rowsNamed (seen .old) (now («old_epochs» .entry)) (now («old_counts» .entry))) (rowsNamed (seen .new) (now («new_epochs» .entry)) (now («new_counts» .entry))) seen (rowOf row) ⌝ }
+    ensures { λ r.
+        let old-rows = rowsNamed (seen .old) (was «old_epochs») (was «old_counts») in
+        let new-rows = rowsNamed (seen .new) (was «new_epochs») (was «new_counts») in
+        ⌜ r ≡ judgedNext old-rows new-rows seen (rowOf row) ⌝ }
 {
     let old = seen.old;
     let new = seen.new;
@@ -209,7 +218,10 @@ pub fn judge_rows(
     new_counts: &[u32],
 ) -> Judging
     requires { ⌜ (n ≤ length (now table)) × Asked seen (now «old_epochs») (now «old_counts») (now «new_epochs») (now «new_counts») ⌝ }
-    ensures { λ r. ⌜ r ≡ judged (rowsNamed (seen .old) (now («old_epochs» .entry)) (now («old_counts» .entry))) (rowsNamed (seen .new) (now («new_epochs» .entry)) (now («new_counts» .entry))) seen (rowsIn n (columns (now (table .entry)))) ⌝ }
+    ensures { λ r.
+        let old-rows = rowsNamed (seen .old) (was «old_epochs») (was «old_counts») in
+        let new-rows = rowsNamed (seen .new) (was «new_epochs») (was «new_counts») in
+        ⌜ r ≡ judgedAll old-rows new-rows seen (rowsIn n (columns (was table))) ⌝ }
 {
     let mut i: usize = 0;
     while i < n {

@@ -11,7 +11,7 @@ use Rattle.records_spec.proofs.Tables.{length-column}
 use Rattle.rows_spec.specs.Rows.{Row, Tables, tables, rowsOf, rowsIn, overRows, Room}
 use Rattle.rows_spec.proofs.Columns.{three, columns as columns-first}
 use Rattle.rows_spec.proofs.Rows.{length-rows}
-use Rattle.totals_index_spec.specs.Structs.{ownersOf, epochsOf, totalsOf, columns, structs}
+use Rattle.totals_index_spec.specs.Structs.{ownersOf, totalEpochsOf, totalsOf, columns, structs}
 use Rattle.totals_index_spec.specs.declared.structs.Total.{Total}
 use Rattle.totals_index_spec.proofs.Filling.{filled, filled-next, filled-all}
 
@@ -25,9 +25,9 @@ pub length-owners : (ts : List Total) → length (ownersOf ts) ≡ length ts
 unfolding ownersOf
 length-owners = length-column ownersOf (λ (t : Total). t .owner) refl (λ t ts. refl)
 
-pub length-epochs : (ts : List Total) → length (epochsOf ts) ≡ length ts
-unfolding epochsOf
-length-epochs = length-column epochsOf (λ (t : Total). t .epoch) refl (λ t ts. refl)
+pub length-epochs : (ts : List Total) → length (totalEpochsOf ts) ≡ length ts
+unfolding totalEpochsOf
+length-epochs = length-column totalEpochsOf (λ (t : Total). t .epoch) refl (λ t ts. refl)
 
 pub length-totals : (ts : List Total) → length (totalsOf ts) ≡ length ts
 unfolding totalsOf
@@ -42,7 +42,8 @@ columns-room ts h =
       bytes-long = omega (arith, h, length-totals ts);
     }
 
-module _ {B : Type 0} (column : List Total → List B) (give : Total → B) (none : column [] ≡ []) (each : (t : Total) (ts : List Total) → column (t ∷ ts) ≡ give t ∷ column ts) where
+module _ {B : Type 0} (column : List Total → List B) (give : Total → B) (none : column [] ≡ [])
+    (each : (t : Total) (ts : List Total) → column (t ∷ ts) ≡ give t ∷ column ts) where
   column-at : (ts : List Total) (i : ℕ) (d : B) → i < length ts → getD (column ts) i d ≡ give (getD ts i no-total)
   column-at [] i d h = absurd (not-suc-le-zero h)
   column-at (t ∷ ts) zero d h = ap (λ (l : List B). getD l zero d) (each t ts)
@@ -56,13 +57,15 @@ module _ {B : Type 0} (column : List Total → List B) (give : Total → B) (non
 
 -- one place more of each column
 module _ (ts : List Total) (i : ℕ) (h : i < length ts) where
-  pub owner-next : (os : List (List ℕ)) → i < length os → set (filled i (ownersOf ts) os) i (getD ts i no-total .owner) ≡ filled (suc i) (ownersOf ts) os
+  pub owner-next : (os : List (List ℕ)) → i < length os
+      → set (filled i (ownersOf ts) os) i (getD ts i no-total .owner) ≡ filled (suc i) (ownersOf ts) os
   unfolding ownersOf
   owner-next os = column-next ownersOf (λ (t : Total). t .owner) refl (λ t ts. refl) ts i os [] h
 
-  pub epoch-next : (es : List ℕ) → i < length es → set (filled i (epochsOf ts) es) i (getD ts i no-total .epoch) ≡ filled (suc i) (epochsOf ts) es
-  unfolding epochsOf
-  epoch-next es = column-next epochsOf (λ (t : Total). t .epoch) refl (λ t ts. refl) ts i es 0 h
+  pub epoch-next : (es : List ℕ) → i < length es
+      → set (filled i (totalEpochsOf ts) es) i (getD ts i no-total .epoch) ≡ filled (suc i) (totalEpochsOf ts) es
+  unfolding totalEpochsOf
+  epoch-next es = column-next totalEpochsOf (λ (t : Total). t .epoch) refl (λ t ts. refl) ts i es 0 h
 
   pub total-next : (us : List ℕ) → i < length us → set (filled i (totalsOf ts) us) i (getD ts i no-total .total) ≡ filled (suc i) (totalsOf ts) us
   unfolding totalsOf
@@ -70,7 +73,8 @@ module _ (ts : List Total) (i : ℕ) (h : i < length ts) where
 
 -- the first n places of all columns are the first n rows
 pub all-taken : (n : ℕ) (ts : List Total) → n ≤ length ts → (w : Tables)
-    → tables (filled n (ownersOf ts) (w .ids)) (filled n (epochsOf ts) (w .epochs)) (filled n (totalsOf ts) (w .bytes)) ≡ overRows (rowsIn n (columns ts)) w
+    → tables (filled n (ownersOf ts) (w .ids)) (filled n (totalEpochsOf ts) (w .epochs)) (filled n (totalsOf ts) (w .bytes))
+    ≡ overRows (rowsIn n (columns ts)) w
 all-taken n ts h w =
     let c = columns-first (columns-room {n = n} ts h) in
     three
@@ -105,9 +109,11 @@ module _ {n : ℕ} {t : Tables} (r : Room n t) (ts : List Total) where
   length-first = length-structs (rowsIn n t) ∙ length-rows r
 
   -- one place more of the table
-  pub struct-next : (i : ℕ) → i < n → i < length ts → set (filled i (structs (rowsIn n t)) ts) i (structAt t i) ≡ filled (suc i) (structs (rowsIn n t)) ts
+  pub struct-next : (i : ℕ) → i < n → i < length ts
+      → set (filled i (structs (rowsIn n t)) ts) i (structAt t i) ≡ filled (suc i) (structs (rowsIn n t)) ts
   struct-next i h k =
-      ap (set (filled i (structs (rowsIn n t)) ts) i) (sym (struct-at n i (t .ids) (t .epochs) (t .bytes) h (r .ids-long) (r .epochs-long) (r .bytes-long)))
+      ap (set (filled i (structs (rowsIn n t)) ts) i)
+      (sym (struct-at n i (t .ids) (t .epochs) (t .bytes) h (r .ids-long) (r .epochs-long) (r .bytes-long)))
       ∙ filled-next i (structs (rowsIn n t)) ts no-total (omega (arith, h, length-first)) k
 
   pub all-put : filled n (structs (rowsIn n t)) ts ≡ over (structs (rowsIn n t)) ts

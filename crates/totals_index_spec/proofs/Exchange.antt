@@ -7,11 +7,12 @@ use mathlib.Core.List.{List, [], _∷_}
 use Prim.Native.Nat.{ℕ, _+_}
 use native.Mathlib.Omega.{arith}
 use Rattle.rows_spec.specs.Rows.{Row, compared, ascends}
+use Rattle.rows_spec.specs.Order.{isEqual}
 use Rattle.rows_spec.specs.declared.order.Order.{Order}
 use Rattle.rows_spec.specs.declared.order.Order.the-variants.{Less, Equal, Greater}
 use Rattle.rows_spec.proofs.Comparing.{flipped}
 use Rattle.rows_spec.proofs.Rows.{asc-tail}
-use Rattle.totals_spec.specs.Table.{isEqual, totalAt}
+use Rattle.totals_spec.specs.Table.{totalAt}
 use Rattle.totals_spec.proofs.Totals.{total-none, total-at, total-behind}
 use Rattle.totals_index_spec.specs.Judging.{one}
 

@@ -8,11 +8,9 @@ use lib.Dec.{eqb}
 use lib.ListN.{length, take}
 use lib.Seq.{length-take-le}
 use borrow.Author.Tests.{le-leb, lt-leb, ne-eqb}
-use Rattle.records_spec.specs.Answers.{Answer, refused, roomFor}
-use Rattle.rows_spec.specs.Rows.{Tables}
-use Rattle.totals_spec.specs.Calls.{told, shown, kept}
-use Rattle.totals_spec.specs.declared.replacing.Replaced.{Replaced}
-use Rattle.totals_index_spec.specs.Judging.{refusalOf, roomOf, fitted}
+use Rattle.records_spec.specs.Answers.{roomFor}
+use Rattle.records_spec.specs.declared.refusal.Refusal.the-variants.{NoRoom, Overflow, IndexMismatch}
+use Rattle.totals_index_spec.specs.Judging.{refusalFor, roomOf, fitted}
 use Rattle.totals_index_spec.specs.declared.judging.Judging.{Judging}
 
 module _ {A : Type 0} (b : Bool) (x y : A) {z : A} where
@@ -53,15 +51,11 @@ module _ (j : Judging) (size o e u : ℕ) where
 
 module _ (j : Judging) (good : j .good ≡ true) where
   module _ (held : j .owed ≡ 0) where
-    pub refusal-10 : j .fits ≡ true → 10 ≡ refusalOf j
-    refusal-10 f = rw (good, held, f)
+    pub refusal-room : j .fits ≡ true → NoRoom ≡ refusalFor j
+    refusal-room f = rw (good, held, f)
 
-    pub refusal-6 : j .fits ≡ false → 6 ≡ refusalOf j
-    refusal-6 f = rw (good, held, f)
+    pub refusal-overflow : j .fits ≡ false → Overflow ≡ refusalFor j
+    refusal-overflow f = rw (good, held, f)
 
-  pub refusal-14 : (j .owed ≡ 0 → ⊥) → 14 ≡ refusalOf j
-  refusal-14 h = rw (good, ne-eqb (j .owed) 0 h)
-
--- a refusal as the code tells it, over a table that has not changed
-pub told-kept : (r : Replaced) {n : ℕ} (t : Tables) → told r ≡ refused n → shown r t ≡ kept n t
-told-kept r t e = ap (λ (a : Answer ℕ). record { answer = a; rows = t }) e
+  pub refusal-mismatch : (j .owed ≡ 0 → ⊥) → IndexMismatch ≡ refusalFor j
+  refusal-mismatch h = rw (good, ne-eqb (j .owed) 0 h)

@@ -1,29 +1,33 @@
--- Taking apart, changing and putting together is what the statement of `replace` says, once the table was judged. By whether the change is accepted and
+-- Taking apart, changing and putting together is what the statement of `replace` says, once the table was judged. By whether the change is accepted
+-- and
 -- has room: then the work area holds the table's rows, and `totals::replace` accepts there too; else nothing is written.
 -- Assumes nothing.
 use mathlib.Core.Path.{_≡_, refl, sym, ap, _∙_}
 use mathlib.Core.Bool.{Bool, true, false, cond, _&&_, and-eq-true-iff}
 use mathlib.Core.Option.{Option}
-use mathlib.Core.List.{List, []}
+use mathlib.Core.List.{List}
 use Prim.Native.Nat.{ℕ, _+_, _≤_}
 use native.Mathlib.Omega.{arith}
 use lib.Dec.{leb, eqb}
 use lib.ListN.{length}
 use borrow.Author.Tests.{leb-true}
 use Rattle.records_spec.specs.Tables.{over}
-use Rattle.records_spec.specs.Answers.{Answer, ok, refused}
 use Rattle.records_spec.specs.Flags.{Flags}
 use Rattle.records_spec.proofs.Answers.{refused-not-ok}
 use Rattle.rows_spec.specs.Rows.{Row, Tables, rowsIn, roomIn, properRows, overRows, Room}
 use Rattle.rows_spec.proofs.Columns.{rows-back, over-rows, room-over, over-nothing}
 use Rattle.rows_spec.proofs.Rows.{length-rows, room-in}
-use Rattle.totals_spec.specs.Calls.{After, told, shown, kept, placing as placingRows, properTable, replacing}
+use Rattle.totals_spec.specs.Calls.{RowsAfter, properTable, replacing}
 use Rattle.totals_spec.specs.Replacing.{replaced}
 use Rattle.totals_spec.specs.Steps.{countedRows}
-use Rattle.totals_spec.specs.declared.replacing.Replaced.{Replaced}
+use Rattle.records_spec.specs.Outcomes.{refused, Answer, ok, refusing, leaving, kept, after}
+use Rattle.records_spec.specs.Refusals.{number}
+use Rattle.records_spec.specs.Answers.{counted}
+use Rattle.records_spec.specs.declared.refusal.Refusal.the-variants.{BadTable, NoRoom, Overflow, IndexMismatch}
+use Rattle.records_spec.specs.declared.answer.Counted.{Counted}
 use Rattle.totals_index_spec.specs.Structs.{columns, structs}
-use Rattle.totals_index_spec.specs.Calls.{After as Left, shown as left, kept as keptAll, verdict, roomBoth, placing, replacingStructs}
-use Rattle.totals_index_spec.specs.Judging.{verdictOf, refusalOf, roomOf}
+use Rattle.totals_index_spec.specs.Calls.{beside, verdict, placingStructs, replacingStructs}
+use Rattle.totals_index_spec.specs.Judging.{verdictOf, refusalFor}
 use Rattle.totals_index_spec.specs.Steps.{rowsTold, fittedIn, replacingIn}
 use Rattle.totals_index_spec.specs.declared.judging.Judging.{Judging}
 use Rattle.totals_index_spec.specs.declared.structs.Total.{Total}
@@ -56,10 +60,11 @@ module _ (n : ℕ) (ts : List Total) (good : Bool) (old new : Option Flags) wher
   unfolding verdict
   verdict-good rs e = go (properTable n (columns ts)) refl good refl e
     where
-      go : (p : Bool) → properTable n (columns ts) ≡ p → (g : Bool) → good ≡ g → cond (p && g) (replaced old new (rowsIn n (columns ts))) (refused 11) ≡ ok rs → Good rs
+      go : (p : Bool) → properTable n (columns ts) ≡ p → (g : Bool) → good ≡ g
+          → cond (p && g) (replaced old new (rowsIn n (columns ts))) (refused (number BadTable)) ≡ ok rs → Good rs
       go true p true g h = record { table-proper = p; flags-proper = g; changes = h }
-      go true p false g h = absurd (refused-not-ok 11 rs h)
-      go false p g q h = absurd (refused-not-ok 11 rs h)
+      go true p false g h = absurd (refused-not-ok (number BadTable) rs h)
+      go false p g q h = absurd (refused-not-ok (number BadTable) rs h)
 
 -- the rows of a proper table stand in it
 proper-room : (n : ℕ) (t : Tables) → properTable n t ≡ true → Room n t
@@ -75,9 +80,10 @@ same-proper n s t r e h =
     rw (r, e, q .1, p .1) refl
 
 -- where the rows and the flags are proper and the new rows have room, `totals::replace` accepts
-accepts : (n : ℕ) (w : Tables) (good : Bool) (old new : Option Flags) (rs : List Row) → properTable n w ≡ true → good ≡ true → replaced old new (rowsIn n w) ≡ ok rs → roomIn (length rs) w ≡ true
-    → replacing n w good old new ≡ record { answer = ok (length rs); rows = overRows rs w }
-unfolding replacing placingRows
+accepts : (n : ℕ) (w : Tables) (good : Bool) (old new : Option Flags) (rs : List Row) → properTable n w ≡ true → good ≡ true
+    → replaced old new (rowsIn n w) ≡ ok rs → roomIn (length rs) w ≡ true
+    → replacing n w good old new ≡ after (ok (length rs)) (overRows rs w)
+unfolding replacing leaving
 accepts n w good old new rs p g c r = rw (p, g, c, r) refl
 
 -- no rows over a table leave it
@@ -87,7 +93,8 @@ nothing-over ts m t z = ap (λ (x : ℕ). over (structs (rowsIn x t)) ts) z
 
 -- ---- the call
 
-module _ (j : Judging) (ts : List Total) (work : Tables) (good : Bool) (old new : Option Flags) (judged : verdictOf j ≡ countedRows (verdict (j .rows) ts good old new)) where
+module _ (j : Judging) (ts : List Total) (work : Tables) (good : Bool) (old new : Option Flags)
+    (judged : verdictOf j ≡ countedRows (verdict (j .rows) ts good old new)) where
   abbrev n : ℕ
   n = j .rows
 
@@ -153,7 +160,7 @@ module _ (j : Judging) (ts : List Total) (work : Tables) (good : Bool) (old new 
     room-after = same-room (length rs) ∙ ap (λ (m : ℕ). roomIn m work) (sym (rows-after .counted)) ∙ accepted .after
 
     -- `totals::replace` accepts there too
-    done : replacing n stood good old new ≡ record { answer = ok (length rs); rows = overRows rs stood }
+    done : replacing n stood good old new ≡ after (ok (length rs)) (overRows rs stood)
     done =
         accepts n stood good old new rs
         (same-proper n stood (columns ts) (same-room n ∙ accepted .before) rows-stand (is-good .table-proper))
@@ -162,30 +169,32 @@ module _ (j : Judging) (ts : List Total) (work : Tables) (good : Bool) (old new 
         room-after
 
     -- and so does the statement
-    stated : replacingStructs n ts work good old new ≡ record { answer = ok (length rs); table = over (structs rs) ts; work = overRows rs stood }
-    unfolding replacingStructs placing
+    stated : replacingStructs n ts work good old new ≡ after (ok (length rs)) (beside (over (structs rs) ts) (overRows rs stood))
+    unfolding replacingStructs placingStructs leaving
     stated = rw (rows-after .is-ok, ← rows-after .counted, accepted .in-table, accepted .before, accepted .after) refl
 
   -- ---- where it is not
 
   module _ (h : fittedIn j (length ts) work ≡ false) where
-    no-room : (v : Answer (List Row)) → ok k ≡ countedRows v → (leb k (length ts) && (roomIn n work && roomIn k work)) ≡ false → placing n v ts work ≡ keptAll 10 ts work
-    unfolding placing
+    no-room : (v : Answer (List Row)) → ok k ≡ countedRows v → (leb k (length ts) && (roomIn n work && roomIn k work)) ≡ false
+        → placingStructs n v ts work ≡ refusing NoRoom (beside ts work)
+    unfolding placingStructs leaving
     no-room v e f = let r = has-rows v k e in rw (r .is-ok, ← r .counted, f) refl
 
-    refused-so : (v : Answer (List Row)) (m : ℕ) → refused m ≡ countedRows v → placing n v ts work ≡ keptAll m ts work
-    unfolding placing
+    refused-so : (v : Answer (List Row)) (m : ℕ) → refused m ≡ countedRows v → placingStructs n v ts work ≡ kept m (beside ts work)
+    unfolding placingStructs leaving
     refused-so v m e = rw (has-none v m e) refl
 
-    stated-not : replacingStructs n ts work good old new ≡ keptAll (refusalOf j) ts work
+    stated-not : replacingStructs n ts work good old new ≡ refusing (refusalFor j) (beside ts work)
     unfolding replacingStructs
     stated-not = go (j .good) refl (eqb (j .owed) 0) refl (j .fits) refl
       where
-        go : (g : Bool) → j .good ≡ g → (o : Bool) → eqb (j .owed) 0 ≡ o → (f : Bool) → j .fits ≡ f → placing n (verdict n ts good old new) ts work ≡ keptAll (refusalOf j) ts work
+        go : (g : Bool) → j .good ≡ g → (o : Bool) → eqb (j .owed) 0 ≡ o → (f : Bool) → j .fits ≡ f
+            → placingStructs n (verdict n ts good old new) ts work ≡ refusing (refusalFor j) (beside ts work)
         go true p true q true r = rw (p, q, r) (no-room _ (rw (p, q, r) at judged) (rw (p, q, r) at h))
-        go true p true q false r = rw (p, q, r) (refused-so _ 6 (rw (p, q, r) at judged))
-        go true p false q f r = rw (p, q) (refused-so _ 14 (rw (p, q) at judged))
-        go false p o q f r = rw p (refused-so _ 11 (rw p at judged))
+        go true p true q false r = rw (p, q, r) (refused-so _ (number Overflow) (rw (p, q, r) at judged))
+        go true p false q f r = rw (p, q) (refused-so _ (number IndexMismatch) (rw (p, q) at judged))
+        go false p o q f r = rw p (refused-so _ (number BadTable) (rw p at judged))
 
   -- ---- what the functions ask, and what they leave
 
@@ -201,40 +210,43 @@ module _ (j : Judging) (ts : List Total) (work : Tables) (good : Bool) (old new 
   pub can-take : (taken ≤ length ts) × Room taken work
   can-take = taking (fittedIn j (length ts) work) refl
 
-  module _ (r : Replaced) (after : Tables) where
+  module _ (r : Counted) (then : Tables) where
     -- what `put_together` asks, and what is left behind it
     pub record Put : Type 0 where
-      pub count-fits : rowsTold (told r) ≤ length ts
-      pub rows-there : Room (rowsTold (told r)) after
-      pub all-left : left r (over (structs (rowsIn (rowsTold (told r)) after)) ts) after ≡ replacingStructs n ts work good old new
+      pub count-fits : rowsTold (counted r) ≤ length ts
+      pub rows-there : Room (rowsTold (counted r)) then
+      pub all-left : after (counted r) (beside (over (structs (rowsIn (rowsTold (counted r)) then)) ts) then)
+          ≡ replacingStructs n ts work good old new
 
-    put-by : (b : Bool) → fittedIn j (length ts) work ≡ b → shown r after ≡ replacingIn (length ts) j apart good old new → Put
+    put-by : (b : Bool) → fittedIn j (length ts) work ≡ b → after (counted r) then ≡ replacingIn (length ts) j apart good old new → Put
     put-by true h e =
         let all : apart ≡ stood h = ap (λ (b : Bool). overRows (rowsIn (cond b n 0) (columns ts)) work) h in
         let fits : fittedIn j (length ts) (stood h) ≡ true = rw (same-room h n, same-room h k) h in
-        let end : shown r after ≡ record { answer = ok (length (rs h)); rows = overRows (rs h) (stood h) } =
+        let end : after (counted r) then ≡ after (ok (length (rs h))) (overRows (rs h) (stood h)) =
         e ∙ ap (λ (w : Tables). replacingIn (length ts) j w good old new) all ∙ rw fits (done h) in
-        let p : told r ≡ ok (length (rs h)) = ap (λ (a : After). a .answer) end in
-        let q : after ≡ overRows (rs h) (stood h) = ap (λ (a : After). a .rows) end in
-        let z : rowsTold (told r) ≡ length (rs h) = ap rowsTold p in
-        let back : rowsIn (rowsTold (told r)) after ≡ rs h = ap (λ (m : ℕ). rowsIn m after) z ∙ ap (rowsIn (length (rs h))) q ∙ rows-back (rs h) (stood h) in
+        let p : counted r ≡ ok (length (rs h)) = ap (λ (a : RowsAfter). a .answer) end in
+        let q : then ≡ overRows (rs h) (stood h) = ap (λ (a : RowsAfter). a .lent) end in
+        let z : rowsTold (counted r) ≡ length (rs h) = ap rowsTold p in
+        let back : rowsIn (rowsTold (counted r)) then ≡ rs h = ap (λ (m : ℕ). rowsIn m then) z ∙ ap (rowsIn (length (rs h))) q
+        ∙ rows-back (rs h) (stood h) in
         record {
           count-fits = omega (arith, z, rows-after h .counted, leb-true k (length ts) (accepted h .in-table));
           rows-there = rw (z, q) (over-rows (rs h) (stood h));
-          all-left = (λ i. record { answer = p i; table = over (structs (back i)) ts; work = q i }) ∙ sym (stated h);
+          all-left = (λ i. after (p i) (beside (over (structs (back i)) ts) (q i))) ∙ sym (stated h);
         }
     put-by false h e =
         let none : apart ≡ work = ap (λ (b : Bool). overRows (rowsIn (cond b n 0) (columns ts)) work) h ∙ over-nothing work in
-        let end : shown r after ≡ kept (refusalOf j) work = e ∙ ap (λ (w : Tables). replacingIn (length ts) j w good old new) none ∙ rw h refl in
-        let p : told r ≡ refused (refusalOf j) = ap (λ (a : After). a .answer) end in
-        let q : after ≡ work = ap (λ (a : After). a .rows) end in
-        let z : rowsTold (told r) ≡ 0 = ap rowsTold p in
+        let end : after (counted r) then ≡ refusing (refusalFor j) work = e ∙ ap (λ (w : Tables). replacingIn (length ts) j w good old new) none
+        ∙ rw h refl in
+        let p : counted r ≡ refused (number (refusalFor j)) = ap (λ (a : RowsAfter). a .answer) end in
+        let q : then ≡ work = ap (λ (a : RowsAfter). a .lent) end in
+        let z : rowsTold (counted r) ≡ 0 = ap rowsTold p in
         record {
           count-fits = omega (arith, z);
           rows-there = record { ids-long = omega (arith, z); epochs-long = omega (arith, z); bytes-long = omega (arith, z) };
-          all-left = (λ i. record { answer = p i; table = nothing-over ts (rowsTold (told r)) after z i; work = q i }) ∙ sym (stated-not h);
+          all-left = (λ i. after (p i) (beside (nothing-over ts (rowsTold (counted r)) then z i) (q i))) ∙ sym (stated-not h);
         }
 
     -- WHAT WAS TAKEN APART AND CHANGED CAN BE PUT TOGETHER, AND IS WHAT THE STATEMENT SAYS
-    pub can-put : shown r after ≡ replacingIn (length ts) j apart good old new → Put
+    pub can-put : after (counted r) then ≡ replacingIn (length ts) j apart good old new → Put
     can-put = put-by (fittedIn j (length ts) work) refl

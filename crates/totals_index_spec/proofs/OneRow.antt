@@ -14,7 +14,7 @@ use Rattle.rows_spec.proofs.Comparing.{self-same}
 use Rattle.totals_spec.specs.Table.{totalAt}
 use Rattle.totals_spec.specs.Replacing.{largestTotal}
 use Rattle.totals_spec.proofs.Totals.{total-same}
-use Rattle.totals_index_spec.specs.Judging.{one, rowOf, next}
+use Rattle.totals_index_spec.specs.Judging.{one, rowOf, judgedNext}
 use Rattle.totals_index_spec.specs.declared.judging.Judging.{Judging}
 use Rattle.totals_index_spec.specs.declared.structs.Total.{Total}
 
@@ -37,7 +37,8 @@ pub record Found (os ns : List Row) (j : Judging) (t : Total) (o n l : ℕ) (beh
   pub left-rows : left ≡ j .left - one (ltb 0 o && eqb (t .total) o)
   pub made-rows : made ≡ j .made - one (ltb 0 n && ltb 0 l)
 
-module _ {os ns : List Row} {j : Judging} {t : Total} {o n l : ℕ} {behind : Bool} {owed left made : ℕ} (f : Found os ns j t o n l behind owed left made) where
+module _ {os ns : List Row} {j : Judging} {t : Total} {o n l : ℕ} {behind : Bool} {owed left made : ℕ}
+    (f : Found os ns j t o n l behind owed left made) where
   abbrev found : Judging
   found =
       record {
@@ -61,6 +62,6 @@ module _ {os ns : List Row} {j : Judging} {t : Total} {o n l : ℕ} {behind : Bo
   new-is : n ≡ totalAt (rowOf t) ns
   new-is = f .new-found ∙ total-same (row (t .owner) (t .epoch) 0) (rowOf t) ns (self-same (rowOf t))
 
-  pub found-next : found ≡ next os ns j (rowOf t)
+  pub found-next : found ≡ judgedNext os ns j (rowOf t)
   found-next =
       rw (f .owed-found, f .left-rows, f .made-rows, fits-left l n largestTotal (f .small), f .left-found, f .behind-found, old-is, new-is, and-assoc)

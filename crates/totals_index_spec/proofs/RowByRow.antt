@@ -7,8 +7,8 @@ use Prim.Native.Nat.{_-_}
 use native.Mathlib.Omega.{arith}
 use lib.Dec.{ltb}
 use Rattle.rows_spec.specs.Rows.{Row, row, leads, ascends}
-use Rattle.totals_spec.specs.Table.{above}
-use Rattle.totals_index_spec.specs.Judging.{follows, next, judged}
+use Rattle.totals_spec.specs.Table.{allPositive}
+use Rattle.totals_index_spec.specs.Judging.{follows, judgedNext, judgedAll}
 use Rattle.totals_index_spec.specs.declared.judging.Judging.{Judging}
 use Rattle.totals_index_spec.proofs.Exchange.{countOf}
 use Rattle.totals_index_spec.proofs.Tallies.{held, going, meeting}
@@ -35,30 +35,30 @@ regrouped true true false true z = refl
 regrouped true true false false z = refl
 
 module _ (os ns : List Row) where
-  pub judged-good : (t : List Row) (j : Judging) → judged os ns j t .good ≡ (j .good && (goesOn j t && above t))
-  unfolding judged ascends above
+  pub judged-good : (t : List Row) (j : Judging) → judgedAll os ns j t .good ≡ (j .good && (goesOn j t && allPositive t))
+  unfolding judgedAll ascends allPositive
   judged-good [] j = sym (rw (always (j .any)) (and-true (j .good)))
   judged-good (b ∷ t) j =
-      judged-good t (next os ns j b)
-      ∙ ap (λ (l : Bool). (j .good && (follows j b && ltb 0 (b .part .bytes))) && ((l && ascends t) && above t)) (leads-pair b t)
-      ∙ regrouped (j .good) (follows j b) (ltb 0 (b .part .bytes)) (leads b t && ascends t) (above t)
+      judged-good t (judgedNext os ns j b)
+      ∙ ap (λ (l : Bool). (j .good && (follows j b && ltb 0 (b .part .bytes))) && ((l && ascends t) && allPositive t)) (leads-pair b t)
+      ∙ regrouped (j .good) (follows j b) (ltb 0 (b .part .bytes)) (leads b t && ascends t) (allPositive t)
 
-  pub judged-fits : (t : List Row) (j : Judging) → judged os ns j t .fits ≡ (j .fits && rowsFit os ns t)
-  unfolding judged rowsFit
+  pub judged-fits : (t : List Row) (j : Judging) → judgedAll os ns j t .fits ≡ (j .fits && rowsFit os ns t)
+  unfolding judgedAll rowsFit
   judged-fits [] j = sym (and-true (j .fits))
-  judged-fits (b ∷ t) j = judged-fits t (next os ns j b) ∙ and-assoc (j .fits) _ (rowsFit os ns t)
+  judged-fits (b ∷ t) j = judged-fits t (judgedNext os ns j b) ∙ and-assoc (j .fits) _ (rowsFit os ns t)
 
-  pub judged-owed : (t : List Row) (j : Judging) → judged os ns j t .owed ≡ j .owed - countOf held os t
-  unfolding judged countOf
+  pub judged-owed : (t : List Row) (j : Judging) → judgedAll os ns j t .owed ≡ j .owed - countOf held os t
+  unfolding judgedAll countOf
   judged-owed [] j = omega arith
-  judged-owed (b ∷ t) j = judged-owed t (next os ns j b) ∙ omega arith
+  judged-owed (b ∷ t) j = judged-owed t (judgedNext os ns j b) ∙ omega arith
 
-  pub judged-left : (t : List Row) (j : Judging) → judged os ns j t .left ≡ j .left - countOf going os t
-  unfolding judged countOf
+  pub judged-left : (t : List Row) (j : Judging) → judgedAll os ns j t .left ≡ j .left - countOf going os t
+  unfolding judgedAll countOf
   judged-left [] j = omega arith
-  judged-left (b ∷ t) j = judged-left t (next os ns j b) ∙ omega arith
+  judged-left (b ∷ t) j = judged-left t (judgedNext os ns j b) ∙ omega arith
 
-  pub judged-made : (t : List Row) (j : Judging) → judged os ns j t .made ≡ j .made - countOf (meeting os) ns t
-  unfolding judged countOf
+  pub judged-made : (t : List Row) (j : Judging) → judgedAll os ns j t .made ≡ j .made - countOf (meeting os) ns t
+  unfolding judgedAll countOf
   judged-made [] j = omega arith
-  judged-made (b ∷ t) j = judged-made t (next os ns j b) ∙ omega arith
+  judged-made (b ∷ t) j = judged-made t (judgedNext os ns j b) ∙ omega arith

@@ -11,19 +11,20 @@ use lib.ListN.{length, take, getD}
 use borrow.Author.Tests.{leb-true, le-leb}
 use Rattle.records_spec.specs.Tables.{recordsOf}
 use Rattle.rows_spec.specs.Rows.{Row, compared, ascends, rowsOf, rowsIn, rowsUnder}
+use Rattle.rows_spec.specs.Order.{isEqual}
 use Rattle.rows_spec.specs.declared.order.Order.{Order}
 use Rattle.rows_spec.specs.declared.order.Order.the-variants.{Less, Equal, Greater}
 use Rattle.rows_spec.proofs.Comparing.{self-same}
 use Rattle.rows_spec.proofs.Rows.{asc-tail}
-use Rattle.totals_spec.specs.Table.{isEqual, totalAt}
-use Rattle.totals_spec.specs.Replacing.{largestTotal, fits}
+use Rattle.totals_spec.specs.Table.{totalAt}
+use Rattle.totals_spec.specs.Replacing.{largestTotal, allFit}
 use Rattle.totals_spec.specs.Steps.{under}
 use Rattle.totals_spec.specs.Theorems.{In64Bits}
 use Rattle.totals_spec.proofs.Totals.{total-none, total-at, total-same, total-behind}
 use Rattle.totals_spec.proofs.Counts.{count-total}
 use Rattle.totals_spec.proofs.Fitting.{fits-at, fits-all}
 use Rattle.totals_index_spec.specs.Judging.{Small}
-use Rattle.totals_index_spec.specs.Structs.{ownersOf, epochsOf, totalsOf, columns}
+use Rattle.totals_index_spec.specs.Structs.{ownersOf, totalEpochsOf, totalsOf, columns}
 use Rattle.totals_index_spec.specs.declared.structs.Total.{Total}
 use Rattle.totals_index_spec.proofs.Columns.{no-total}
 
@@ -70,16 +71,16 @@ module _ (os ns : List Row) where
 
   -- THE ROWS FIT EXACTLY WHERE THE NEW COUNTS DO
   pub rows-fit : (t : List Row) → ascends os ≡ true → ascends ns ≡ true → ascends t ≡ true → In64Bits t → In64Bits ns
-      → rowsFit os ns t ≡ fits os ns t
-  rows-fit t a b s m l = go (rowsFit os ns t) (fits os ns t) refl refl
+      → rowsFit os ns t ≡ allFit os ns t
+  rows-fit t a b s m l = go (rowsFit os ns t) (allFit os ns t) refl refl
     where
-      passes : rowsFit os ns t ≡ true → fits os ns t ≡ true
+      passes : rowsFit os ns t ≡ true → allFit os ns t ≡ true
       passes h = fits-all os t a ns (λ k. omega (arith, fit-at t h l k, count-total k os a, count-total k ns b))
 
-      back : fits os ns t ≡ true → rowsFit os ns t ≡ true
+      back : allFit os ns t ≡ true → rowsFit os ns t ≡ true
       back h = fit-rows t s (λ k. omega (arith, fits-at os t a ns b h k (m k), count-total k os a, count-total k ns b))
 
-      go : (x y : Bool) → rowsFit os ns t ≡ x → fits os ns t ≡ y → x ≡ y
+      go : (x y : Bool) → rowsFit os ns t ≡ x → allFit os ns t ≡ y → x ≡ y
       go true y e f = sym (passes e) ∙ f
       go false true e f = sym e ∙ back f
       go false false e f = refl
@@ -107,7 +108,7 @@ small-under (suc n) o (e ∷ es) (c ∷ cs) h = small-cons _ _ (h zero) (small-u
 
 -- of the first rows of a table of structs
 pub small-rows : (n : ℕ) (ts : List Total) → ((i : ℕ) → i < length ts → getD ts i no-total .total < 2 ^ 64) → In64Bits (rowsIn n (columns ts))
-unfolding rowsOf recordsOf ownersOf epochsOf totalsOf
+unfolding rowsOf recordsOf ownersOf totalEpochsOf totalsOf
 small-rows zero ts h = small-none
 small-rows (suc n) [] h = small-none
 small-rows (suc n) (t ∷ ts) h =

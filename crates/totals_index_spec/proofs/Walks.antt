@@ -83,7 +83,8 @@ module _ (t : Total) where
   pub total-fits : IsTotal → t .total < 2 ^ 64
   total-fits g = LL.owed T.the-type T′.the-laws t _ g .1 .1 .0 .1
 
-  pub total-typed : {M : Type 1} (𝓤 : URA M) (H : Heap 𝓤) (A : Atoms 𝓤) → Given 𝓤 H A → IsTotal → Holds (hasTy T′.mir (LL.val T.the-type T′.the-laws t)) × WT (LL.val T.the-type T′.the-laws t)
+  pub total-typed : {M : Type 1} (𝓤 : URA M) (H : Heap 𝓤) (A : Atoms 𝓤) → Given 𝓤 H A → IsTotal
+      → Holds (hasTy T′.mir (LL.val T.the-type T′.the-laws t)) × WT (LL.val T.the-type T′.the-laws t)
   total-typed 𝓤 H A W g = LL.lawful T.the-type T′.the-laws 𝓤 H A W .typed t _ g .0
 
   pub owner-typed : {M : Type 1} (𝓤 : URA M) (H : Heap 𝓤) (A : Atoms 𝓤) → Given 𝓤 H A → IsTotal → IdTyped (map (λ v. v) (t .owner))
@@ -119,7 +120,8 @@ module _ (j : Judging) where
 
 -- ---- every element of a row tells its relation; the row stays
 module _ {M : Type 1} {𝓤 : URA M} {H : Heap 𝓤} {A : Atoms 𝓤} {K : Type 0} {W : Given 𝓤 H A} {Γ : List (Item 𝓤)} {G : Goal 𝓤 H} where
-  pub all-tell : K → (R : RattleType) (P : Rel R) → Shows 𝓤 H A R P → (vals : R .Denot → List Val) → Tells R P vals → (q : Share) (ys : List (R .Denot)) (d : R .Denot) (b o : ℕ) (m : ℕ) → m ≤ length ys
+  pub all-tell : K → (R : RattleType) (P : Rel R) → Shows 𝓤 H A R P → (vals : R .Denot → List Val) → Tells R P vals
+      → (q : Share) (ys : List (R .Denot)) (d : R .Denot) (b o : ℕ) (m : ℕ) → m ≤ length ys
       → (((i : ℕ) → i < m → P (getD ys i d) (vals (getD ys i d))) → Seq K W (‵ (row R q ys b o) ∷ Γ) G)
       → Seq K W (‵ (row R q ys b o) ∷ Γ) G
   all-tell t R P sh vals tl q ys d b o zero h k = k (λ i l. absurd (not-suc-le-zero l))
@@ -130,5 +132,6 @@ module _ {M : Type 1} {𝓤 : URA M} {H : Heap 𝓤} {A : Atoms 𝓤} {K : Type 
       last-or : (i : ℕ) → i < suc m → (i ≡ m) ⊎ (i < m)
       last-or i l = elim (native.Mathlib.Decide.decLt i m) [ yes p ↦ inr p | no p ↦ inl (omega (arith, l, p)) ]
 
-      one-more : (i : ℕ) → i < suc m → ((i : ℕ) → i < m → P (getD ys i d) (vals (getD ys i d))) → P (getD ys m d) (vals (getD ys m d)) → P (getD ys i d) (vals (getD ys i d))
+      one-more : (i : ℕ) → i < suc m → ((i : ℕ) → i < m → P (getD ys i d) (vals (getD ys i d))) → P (getD ys m d) (vals (getD ys m d))
+          → P (getD ys i d) (vals (getD ys i d))
       one-more i l f g = ⊎-elim (λ e. subst (λ (x : ℕ). P (getD ys x d) (vals (getD ys x d))) (sym e) g) (f i) (last-or i l)

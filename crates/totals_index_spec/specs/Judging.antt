@@ -5,10 +5,11 @@ use mathlib.Core.Bool.{Bool, true, false, cond, _&&_}
 use mathlib.Core.List.{List, [], _∷_}
 use lib.Dec.{leb, ltb, eqb}
 use lib.ListN.{length, take, getD}
-use Rattle.records_spec.specs.Answers.{Answer, ok, refused}
-use Rattle.records_spec.specs.Flags.{zeros}
+use Rattle.records_spec.specs.Flags.{zeros, Held}
 use Rattle.records_spec.specs.Tables.{Table}
-use Rattle.records_spec.specs.declared.head.Head.{Head}
+use Rattle.records_spec.specs.Outcomes.{Answer, ok, _unless_, _>>_}
+use Rattle.records_spec.specs.declared.refusal.Refusal.the-variants.{Overflow, BadTable, IndexMismatch, NoRoom}
+use Rattle.records_spec.specs.declared.refusal.Refusal.{Refusal}
 use Rattle.rows_spec.specs.Order.{isLess}
 use Rattle.rows_spec.specs.Rows.{Row, row, compared}
 use Rattle.totals_spec.specs.Table.{totalAt}
@@ -71,10 +72,11 @@ unjudged n =
     }
 
 -- n rows of a table of a size, by whether they stand in it and the flags are proper
-unfoldable pub started : ℕ → ℕ → Bool → Head → List ℕ → List ℕ → Bool → Head → List ℕ → List ℕ → Judging
-started n size op old oes ocs np new nes ncs =
-    cond (leb n size && (properGiven op old oes ocs && properGiven np new nes ncs))
-    (beginning n (namedBy op old) (namedBy np new) (positives (take (namedBy op old .records) ocs)) (positives (take (namedBy np new .records) ncs)))
+unfoldable pub started : ℕ → ℕ → Bool → Held → Bool → Held → Judging
+started n size op old np new =
+    cond (leb n size && (properGiven op old && properGiven np new))
+    (beginning n (namedBy op (old .head)) (namedBy np (new .head)) (positives (take (namedBy op (old .head) .records) (old .counts)))
+    (positives (take (namedBy np (new .head) .records) (new .counts))))
     (unjudged n)
 
 -- ---- one row more
@@ -104,8 +106,8 @@ abbrev pub meets : ℕ → ℕ → ℕ → Bool
 meets old count total = ltb 0 count && ltb 0 (total - old)
 
 -- what is known with one row more
-abbrev pub next : List Row → List Row → Judging → Row → Judging
-next os ns j b =
+abbrev pub judgedNext : List Row → List Row → Judging → Row → Judging
+judgedNext os ns j b =
     record {
       rows = j .rows;
       upto = j .upto;
@@ -122,19 +124,23 @@ next os ns j b =
     }
 
 -- and with all of some rows
-unfoldable pub judged : List Row → List Row → Judging → List Row → Judging
-judged os ns j [] = j
-judged os ns j (b ∷ t) = judged os ns (next os ns j b) t
+unfoldable pub judgedAll : List Row → List Row → Judging → List Row → Judging
+judgedAll os ns j [] = j
+judgedAll os ns j (b ∷ t) = judgedAll os ns (judgedNext os ns j b) t
 
 -- ---- what follows from it
 
--- the number of rows afterwards, or 11, then 14, then 6
+-- the number of rows afterwards, or a refusal
 abbrev pub verdictOf : Judging → Answer ℕ
-verdictOf j = cond (j .good) (cond (eqb (j .owed) 0) (cond (j .fits) (ok (j .left + j .made)) (refused 6)) (refused 14)) (refused 11)
+verdictOf j = do
+  BadTable unless j .good
+  IndexMismatch unless eqb (j .owed) 0
+  Overflow unless j .fits
+  ok (j .left + j .made)
 
--- the refusal where the change is not made: 11, then 14, then 6, then 10
-abbrev pub refusalOf : Judging → ℕ
-refusalOf j = cond (j .good) (cond (eqb (j .owed) 0) (cond (j .fits) 10 6) 14) 11
+-- the refusal where the change is not made: that of the verdict, or for room
+abbrev pub refusalFor : Judging → Refusal
+refusalFor j = cond (j .good) (cond (eqb (j .owed) 0) (cond (j .fits) NoRoom Overflow) IndexMismatch) BadTable
 
 -- whether three columns of these lengths have n places
 abbrev pub roomOf : ℕ → ℕ → ℕ → ℕ → Bool

@@ -4,11 +4,11 @@ use Prim.Native.Nat.{ℕ}
 use mathlib.Core.Bool.{Bool, cond}
 use mathlib.Core.Option.{Option}
 use lib.ListN.{length}
-use Rattle.records_spec.specs.Answers.{Answer, ok, refused}
 use Rattle.records_spec.specs.Flags.{Flags}
 use Rattle.rows_spec.specs.Rows.{Tables}
-use Rattle.totals_spec.specs.Calls.{After, kept, replacing}
-use Rattle.totals_index_spec.specs.Judging.{fitted, refusalOf}
+use Rattle.totals_spec.specs.Calls.{RowsAfter, replacing}
+use Rattle.records_spec.specs.Outcomes.{refused, Answer, ok, refusing}
+use Rattle.totals_index_spec.specs.Judging.{fitted, refusalFor}
 use Rattle.totals_index_spec.specs.declared.judging.Judging.{Judging}
 
 -- how many rows an answer tells of; none where it is a refusal
@@ -21,5 +21,5 @@ abbrev pub fittedIn : Judging → ℕ → Tables → Bool
 fittedIn j size w = fitted j size (length (w .ids)) (length (w .epochs)) (length (w .bytes))
 
 -- `totals::replace` in the work area where a change is accepted and has room, else its refusal
-abbrev pub replacingIn : ℕ → Judging → Tables → Bool → Option Flags → Option Flags → After
-replacingIn size j w good old new = cond (fittedIn j size w) (replacing (j .rows) w good old new) (kept (refusalOf j) w)
+abbrev pub replacingIn : ℕ → Judging → Tables → Bool → Option Flags → Option Flags → RowsAfter
+replacingIn size j w good old new = cond (fittedIn j size w) (replacing (j .rows) w good old new) (refusing (refusalFor j) w)

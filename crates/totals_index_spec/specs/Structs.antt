@@ -11,9 +11,9 @@ ownersOf [] = []
 ownersOf (t ∷ ts) = t .owner ∷ ownersOf ts
 
 -- its epochs
-unfoldable pub epochsOf : List Total → List ℕ
-epochsOf [] = []
-epochsOf (t ∷ ts) = t .epoch ∷ epochsOf ts
+unfoldable pub totalEpochsOf : List Total → List ℕ
+totalEpochsOf [] = []
+totalEpochsOf (t ∷ ts) = t .epoch ∷ totalEpochsOf ts
 
 -- its totals
 unfoldable pub totalsOf : List Total → List ℕ
@@ -22,7 +22,7 @@ totalsOf (t ∷ ts) = t .total ∷ totalsOf ts
 
 -- its three columns
 abbrev pub columns : List Total → Tables
-columns ts = tables (ownersOf ts) (epochsOf ts) (totalsOf ts)
+columns ts = tables (ownersOf ts) (totalEpochsOf ts) (totalsOf ts)
 
 -- rows as structs
 unfoldable pub structs : List Row → List Total

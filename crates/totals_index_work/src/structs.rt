@@ -2,8 +2,9 @@
 ghost use mathlib.Core.Path.{_≡_};
 ghost use Prim.Native.Nat.{_≤_};
 ghost use lib.ListN.{length};
+ghost use Rattle.fields_spec.specs.Lending.{was, left};
 ghost use Rattle.records_spec.specs.Tables.{over};
-ghost use Rattle.rows_spec.specs.Rows.{tables, rowsIn, overRows, Room};
+ghost use Rattle.rows_spec.specs.Rows.{tables, rowsIn, overRows, Room, rowsWere, rowsLeft};
 ghost use Rattle.totals_index_spec.specs.Structs.{columns, structs};
 use totals_index_spec::Total;
 
@@ -16,7 +17,7 @@ pub fn take_apart(
     totals: &mut [u64],
 )
     requires { ⌜ (n ≤ length (now table)) × Room n (tables (now owners) (now epochs) (now totals)) ⌝ }
-    ensures { λ _. ⌜ tables (now (owners .exit)) (now (epochs .exit)) (now (totals .exit)) ≡ overRows (rowsIn n (columns (now (table .entry)))) (tables (now (owners .entry)) (now (epochs .entry)) (now (totals .entry))) ⌝ }
+    ensures { λ _. ⌜ rowsLeft owners epochs totals ≡ overRows (rowsIn n (columns (was table))) (rowsWere owners epochs totals) ⌝ }
 {
     let mut i: usize = 0;
     while i < n {
@@ -37,7 +38,7 @@ pub fn put_together(
     totals: &[u64],
 )
     requires { ⌜ (n ≤ length (now table)) × Room n (tables (now owners) (now epochs) (now totals)) ⌝ }
-    ensures { λ _. ⌜ now (table .exit) ≡ over (structs (rowsIn n (tables (now (owners .entry)) (now (epochs .entry)) (now (totals .entry))))) (now (table .entry)) ⌝ }
+    ensures { λ _. ⌜ left table ≡ over (structs (rowsIn n (rowsWere owners epochs totals))) (was table) ⌝ }
 {
     let mut at: usize = 0;
     while at < n {

@@ -1,15 +1,17 @@
 // What is done in the work area, once the table was judged.
 ghost use mathlib.Core.Path.{_≡_};
 ghost use mathlib.Core.Bool.{cond, _&&_};
-ghost use Rattle.records_spec.specs.Answers.{refused};
-ghost use Rattle.rows_spec.specs.Rows.{tables};
-ghost use Rattle.totals_spec.specs.Calls.{told, shown, given, properGiven};
-ghost use Rattle.totals_index_spec.specs.Judging.{refusalOf, roomOf, fitted};
+ghost use Rattle.rows_spec.specs.Rows.{rowsWere, rowsLeft};
+ghost use Rattle.totals_spec.specs.Calls.{given, properGiven};
+ghost use Rattle.totals_index_spec.specs.Judging.{roomOf, fitted, refusalFor};
 ghost use Rattle.totals_index_spec.specs.Steps.{rowsTold, replacingIn};
+ghost use Rattle.records_spec.specs.Refusals.{number};
+ghost use Rattle.records_spec.specs.Outcomes.{refused, after};
+ghost use Rattle.records_spec.specs.Answers.{flagsWere, counted};
+use records_spec::Counted;
 use records_spec::Head;
 use records_spec::Refusal;
 use totals_index_spec::Judging;
-use totals_spec::Replaced;
 
 // Whether three columns of these lengths have n places.
 fn has_room(n: usize, owners: usize, epochs: usize, totals: usize) -> bool
@@ -37,19 +39,19 @@ fn fits(judged: Judging, size: usize, owners: usize, epochs: usize, totals: usiz
 }
 
 // The refusal where a change is not made.
-fn refusal_for(judged: Judging) -> Replaced
-    ensures { λ r. ⌜ told r ≡ refused (refusalOf judged) ⌝ }
+fn refusal_for(judged: Judging) -> Counted
+    ensures { λ r. ⌜ counted r ≡ refused (number (refusalFor judged)) ⌝ }
 {
     if judged.good {
         if judged.owed == 0 {
             if judged.fits {
-                return Replaced::Refused(Refusal::NoRoom);
+                return Counted::Refused(Refusal::NoRoom);
             }
-            return Replaced::Refused(Refusal::Overflow);
+            return Counted::Refused(Refusal::Overflow);
         }
-        return Replaced::IndexMismatch;
+        return Counted::Refused(Refusal::IndexMismatch);
     }
-    Replaced::Refused(Refusal::BadTable)
+    Counted::Refused(Refusal::BadTable)
 }
 
 // Replaces flags in the work area where the change is accepted and has room.
@@ -67,8 +69,15 @@ pub fn replace_in(
     new: Head,
     new_epochs: &[u16],
     new_counts: &[u32],
-) -> Replaced
-    ensures { λ r. ⌜ shown r (tables (now (owners .exit)) (now (epochs .exit)) (now (totals .exit))) ≡ replacingIn size judged (tables (now (owners .entry)) (now (epochs .entry)) (now (totals .entry))) (properGiven «old_present» old (now («old_epochs» .entry)) (now («old_counts» .entry)) && properGiven «new_present» new (now («new_epochs» .entry)) (now («new_counts» .entry))) (given «old_present» old (now («old_epochs» .entry)) (now («old_counts» .entry))) (given «new_present» new (now («new_epochs» .entry)) (now («new_counts» .entry))) ⌝ }
+) -> Counted
+    ensures { λ r.
+        let old-flags = flagsWere old «old_epochs» «old_counts» in
+        let new-flags = flagsWere new «new_epochs» «new_counts» in
+        let rows-lent = rowsWere owners epochs totals in
+        let both-proper = properGiven «old_present» old-flags && properGiven «new_present» new-flags in
+        let old-given = given «old_present» old-flags in
+        let new-given = given «new_present» new-flags in
+        ⌜ after (counted r) (rowsLeft owners epochs totals) ≡ replacingIn size judged rows-lent both-proper old-given new-given ⌝ }
 {
     if fits(judged, size, owners.len(), epochs.len(), totals.len()) {
         return totals::replace(
@@ -106,12 +115,11 @@ pub fn rows_to_take(
 }
 
 // How many rows are put together: those of an answer.
-pub fn rows_to_put(answer: Replaced) -> usize
-    ensures { λ r. ⌜ r ≡ rowsTold (told answer) ⌝ }
+pub fn rows_to_put(answer: Counted) -> usize
+    ensures { λ r. ⌜ r ≡ rowsTold (counted answer) ⌝ }
 {
     match answer {
-        Replaced::Rows(count) => count,
-        Replaced::IndexMismatch => 0,
-        Replaced::Refused(_) => 0,
+        Counted::Count(count) => count,
+        Counted::Refused(_) => 0,
     }
 }

@@ -3,9 +3,10 @@ ghost use mathlib.Core.Path.{_≡_};
 ghost use mathlib.Core.List.{[]};
 ghost use Prim.Native.Nat.{_+_, _<_};
 ghost use lib.ListN.{length, getD};
+ghost use Rattle.fields_spec.specs.Lending.{was};
 ghost use Rattle.rows_spec.specs.Order.{isLess};
-ghost use Rattle.rows_spec.specs.Rows.{row, compared, tables};
-ghost use Rattle.totals_spec.specs.Steps.{placeIn, between, spotIn, Standing};
+ghost use Rattle.rows_spec.specs.Rows.{row, compared, tables, rowsWere};
+ghost use Rattle.totals_spec.specs.Steps.{placeIn, rowsBetween, spotIn, Standing};
 use crate::words::is_less;
 use rows_spec::Order;
 use totals_spec::Spot;
@@ -13,7 +14,7 @@ use totals_spec::Spot;
 // How row i stands to an owner and epoch.
 fn compare_row(owners: &[[u8; 32]], epochs: &[u16], i: usize, owner: [u8; 32], epoch: u16) -> Order
     requires { ⌜ (i < length (now owners)) × (i < length (now epochs)) ⌝ }
-    ensures { λ r. ⌜ r ≡ compared (row (getD (now (owners .entry)) i []) (getD (now (epochs .entry)) i 0) 0) (row owner epoch 0) ⌝ }
+    ensures { λ r. ⌜ r ≡ compared (row (getD (was owners) i []) (getD (was epochs) i 0) 0) (row owner epoch 0) ⌝ }
 {
     let one_owner = [owner; 1];
     let one_epoch = [epoch; 1];
@@ -23,7 +24,7 @@ fn compare_row(owners: &[[u8; 32]], epochs: &[u16], i: usize, owner: [u8; 32], e
 // Whether row i is below an owner and epoch.
 fn is_below(owners: &[[u8; 32]], epochs: &[u16], i: usize, owner: [u8; 32], epoch: u16) -> bool
     requires { ⌜ (i < length (now owners)) × (i < length (now epochs)) ⌝ }
-    ensures { λ r. ⌜ r ≡ isLess (compared (row (getD (now (owners .entry)) i []) (getD (now (epochs .entry)) i 0) 0) (row owner epoch 0)) ⌝ }
+    ensures { λ r. ⌜ r ≡ isLess (compared (row (getD (was owners) i []) (getD (was epochs) i 0) 0) (row owner epoch 0)) ⌝ }
 {
     is_less(&owners[i], epochs[i], &owner, epoch)
 }
@@ -40,7 +41,7 @@ fn find(
     epoch: u16,
 ) -> usize
     requires { ⌜ Standing from upto (tables (now owners) (now epochs) (now totals)) ⌝ }
-    ensures { λ r. ⌜ r ≡ from + placeIn (row owner epoch 0) (between from upto (tables (now (owners .entry)) (now (epochs .entry)) (now (totals .entry)))) ⌝ }
+    ensures { λ r. ⌜ r ≡ from + placeIn (row owner epoch 0) (rowsBetween from upto (rowsWere owners epochs totals)) ⌝ }
 {
     let mut at = from;
     let mut left = upto - from;
@@ -70,7 +71,7 @@ pub fn look_up(
     epoch: u16,
 ) -> Spot
     requires { ⌜ Standing from upto (tables (now owners) (now epochs) (now totals)) ⌝ }
-    ensures { λ r. ⌜ r ≡ spotIn from (row owner epoch 0) (between from upto (tables (now (owners .entry)) (now (epochs .entry)) (now (totals .entry)))) ⌝ }
+    ensures { λ r. ⌜ r ≡ spotIn from (row owner epoch 0) (rowsBetween from upto (rowsWere owners epochs totals)) ⌝ }
 {
     let place = find(owners, epochs, totals, from, upto, owner, epoch);
     if place < upto {

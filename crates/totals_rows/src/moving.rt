@@ -1,7 +1,7 @@
 // Moving rows inside the table. Loops of this shape can become vector code.
 ghost use mathlib.Core.Path.{_≡_};
 ghost use Prim.Native.Nat.{_+_, _-_, _≤_};
-ghost use Rattle.rows_spec.specs.Rows.{tables, Room};
+ghost use Rattle.rows_spec.specs.Rows.{tables, Room, rowsWere, rowsLeft};
 ghost use Rattle.totals_spec.specs.Steps.{moved};
 
 // Moves the rows from one place up to another down to the place `to`, the first of them first.
@@ -15,7 +15,7 @@ pub fn move_down(
 )
     requires { ⌜ (to ≤ from) × (from ≤ upto) ⌝ }
     requires { ⌜ Room upto (tables (now owners) (now epochs) (now totals)) ⌝ }
-    ensures { λ _. ⌜ tables (now (owners .exit)) (now (epochs .exit)) (now (totals .exit)) ≡ moved from upto to (tables (now (owners .entry)) (now (epochs .entry)) (now (totals .entry))) ⌝ }
+    ensures { λ _. ⌜ rowsLeft owners epochs totals ≡ moved from upto to (rowsWere owners epochs totals) ⌝ }
 {
     if to < from {
         let mut i = from;
@@ -41,7 +41,7 @@ pub fn move_up(
 )
     requires { ⌜ (from ≤ upto) × (upto ≤ end) ⌝ }
     requires { ⌜ Room end (tables (now owners) (now epochs) (now totals)) ⌝ }
-    ensures { λ _. ⌜ tables (now (owners .exit)) (now (epochs .exit)) (now (totals .exit)) ≡ moved from upto (end - (upto - from)) (tables (now (owners .entry)) (now (epochs .entry)) (now (totals .entry))) ⌝ }
+    ensures { λ _. ⌜ rowsLeft owners epochs totals ≡ moved from upto (end - (upto - from)) (rowsWere owners epochs totals) ⌝ }
 {
     if upto < end {
         let mut i = upto;

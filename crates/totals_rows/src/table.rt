@@ -3,15 +3,16 @@ ghost use mathlib.Core.Path.{_≡_};
 ghost use mathlib.Core.List.{[]};
 ghost use Prim.Native.Nat.{_+_, _<_};
 ghost use lib.ListN.{length, getD};
+ghost use Rattle.fields_spec.specs.Lending.{was};
 ghost use Rattle.rows_spec.specs.Order.{isLess};
-ghost use Rattle.rows_spec.specs.Rows.{row, compared, ascends, tables, rowsIn, roomIn, setRow, Room};
-ghost use Rattle.totals_spec.specs.Table.{above};
+ghost use Rattle.rows_spec.specs.Rows.{row, compared, ascends, tables, rowsIn, roomIn, setRow, Room, rowsWere, rowsLeft};
+ghost use Rattle.totals_spec.specs.Table.{allPositive};
 ghost use Rattle.totals_spec.specs.Calls.{properTable};
 use crate::words::is_less;
 
 // Whether n rows have room in all three slices.
 pub fn fit(n: usize, owners: &[[u8; 32]], epochs: &[u16], totals: &[u64]) -> bool
-    ensures { λ r. ⌜ r ≡ roomIn n (tables (now (owners .entry)) (now (epochs .entry)) (now (totals .entry))) ⌝ }
+    ensures { λ r. ⌜ r ≡ roomIn n (rowsWere owners epochs totals) ⌝ }
 {
     if owners.len() < n {
         return false;
@@ -22,7 +23,10 @@ pub fn fit(n: usize, owners: &[[u8; 32]], epochs: &[u16], totals: &[u64]) -> boo
 // Whether row i stands before the next one.
 fn is_before(owners: &[[u8; 32]], epochs: &[u16], i: usize) -> bool
     requires { ⌜ (i + 1 < length (now owners)) × (i + 1 < length (now epochs)) ⌝ }
-    ensures { λ r. ⌜ r ≡ isLess (compared (row (getD (now (owners .entry)) i []) (getD (now (epochs .entry)) i 0) 0) (row (getD (now (owners .entry)) (i + 1) []) (getD (now (epochs .entry)) (i + 1) 0) 0)) ⌝ }
+    ensures { λ r.
+        let here = row (getD (was owners) i []) (getD (was epochs) i 0) 0 in
+        let next = row (getD (was owners) (i + 1) []) (getD (was epochs) (i + 1) 0) 0 in
+        ⌜ r ≡ isLess (compared here next) ⌝ }
 {
     is_less(&owners[i], epochs[i], &owners[i + 1], epochs[i + 1])
 }
@@ -30,7 +34,7 @@ fn is_before(owners: &[[u8; 32]], epochs: &[u16], i: usize) -> bool
 // Whether the first n rows ascend and have no pair twice.
 fn ascend(n: usize, owners: &[[u8; 32]], epochs: &[u16], totals: &[u64]) -> bool
     requires { ⌜ Room n (tables (now owners) (now epochs) (now totals)) ⌝ }
-    ensures { λ r. ⌜ r ≡ ascends (rowsIn n (tables (now (owners .entry)) (now (epochs .entry)) (now (totals .entry)))) ⌝ }
+    ensures { λ r. ⌜ r ≡ ascends (rowsIn n (rowsWere owners epochs totals)) ⌝ }
 {
     let mut i: usize = 0;
     while i + 1 < n {
@@ -46,7 +50,7 @@ fn ascend(n: usize, owners: &[[u8; 32]], epochs: &[u16], totals: &[u64]) -> bool
 // Whether none of the first n totals is 0. No early exit: a loop of this shape can become vector code.
 fn none_is_zero(n: usize, owners: &[[u8; 32]], epochs: &[u16], totals: &[u64]) -> bool
     requires { ⌜ Room n (tables (now owners) (now epochs) (now totals)) ⌝ }
-    ensures { λ r. ⌜ r ≡ above (rowsIn n (tables (now (owners .entry)) (now (epochs .entry)) (now (totals .entry)))) ⌝ }
+    ensures { λ r. ⌜ r ≡ allPositive (rowsIn n (rowsWere owners epochs totals)) ⌝ }
 {
     let mut good = true;
     let mut i: usize = 0;
@@ -59,7 +63,7 @@ fn none_is_zero(n: usize, owners: &[[u8; 32]], epochs: &[u16], totals: &[u64]) -
 
 // Whether the first n rows stand in the slices, ascend, have no pair twice and no total 0.
 pub fn is_proper(n: usize, owners: &[[u8; 32]], epochs: &[u16], totals: &[u64]) -> bool
-    ensures { λ r. ⌜ r ≡ properTable n (tables (now (owners .entry)) (now (epochs .entry)) (now (totals .entry))) ⌝ }
+    ensures { λ r. ⌜ r ≡ properTable n (rowsWere owners epochs totals) ⌝ }
 {
     if fit(n, owners, epochs, totals) {
         if ascend(n, owners, epochs, totals) {
@@ -80,7 +84,7 @@ pub fn put_row(
     total: u64,
 )
     requires { ⌜ Room (at + 1) (tables (now owners) (now epochs) (now totals)) ⌝ }
-    ensures { λ _. ⌜ tables (now (owners .exit)) (now (epochs .exit)) (now (totals .exit)) ≡ setRow (tables (now (owners .entry)) (now (epochs .entry)) (now (totals .entry))) at (row owner epoch total) ⌝ }
+    ensures { λ _. ⌜ rowsLeft owners epochs totals ≡ setRow (rowsWere owners epochs totals) at (row owner epoch total) ⌝ }
 {
     owners[at] = owner;
     epochs[at] = epoch;

@@ -4,6 +4,7 @@ ghost use mathlib.Core.Bool.{true, false, cond};
 ghost use Prim.Native.Nat.{_+_, _≤_};
 ghost use lib.Dec.{ltb};
 ghost use lib.ListN.{length, take, drop};
+ghost use Rattle.fields_spec.specs.Lending.{was};
 ghost use Rattle.fields_spec.specs.Big.{said};
 ghost use Rattle.records_spec.specs.Flags.{ownerLength};
 ghost use Rattle.rows_spec.specs.Order.{isLess};
@@ -12,7 +13,7 @@ ghost use Rattle.rows_spec.specs.Rows.{row, compared};
 // The number that the eight bytes at `at` say. By pairs of bytes, because that shape becomes one load.
 fn word(id: &[u8], at: usize) -> u64
     requires { ⌜ at + 8 ≤ length (now id) ⌝ }
-    ensures { λ r. ⌜ r ≡ said (take 8 (drop at (now (id .entry)))) ⌝ }
+    ensures { λ r. ⌜ r ≡ said (take 8 (drop at (was id))) ⌝ }
 {
     let a = fields::be16_at(id, at) as u64;
     let b = fields::be16_at(id, at + 2) as u64;
@@ -31,7 +32,7 @@ fn is_below_or(x: u64, y: u64, next: bool) -> bool
 // Whether a row of owner a and epoch x stands before one of owner b and epoch y. The first words decide for most owners.
 pub fn is_less(a: &[u8], x: u16, b: &[u8], y: u16) -> bool
     requires { ⌜ (length (now a) ≡ ownerLength) × (length (now b) ≡ ownerLength) ⌝ }
-    ensures { λ r. ⌜ r ≡ isLess (compared (row (now (a .entry)) x 0) (row (now (b .entry)) y 0)) ⌝ }
+    ensures { λ r. ⌜ r ≡ isLess (compared (row (was a) x 0) (row (was b) y 0)) ⌝ }
 {
     let first = word(a, 0);
     let other = word(b, 0);

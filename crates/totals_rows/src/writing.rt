@@ -6,10 +6,11 @@ ghost use Prim.Native.Nat.{_+_, _<_};
 ghost use lib.Dec.{ltb};
 ghost use mathlib.Core.List.{[]};
 ghost use lib.ListN.{length};
+ghost use Rattle.fields_spec.specs.Lending.{was};
 ghost use Rattle.records_spec.specs.Tables.{Table};
-ghost use Rattle.rows_spec.specs.Rows.{tables, rowsIn, overRows, Room};
+ghost use Rattle.rows_spec.specs.Rows.{tables, rowsIn, overRows, Room, rowsWere, rowsLeft};
 ghost use Rattle.totals_spec.specs.Table.{addCounts, takeCounts};
-ghost use Rattle.totals_spec.specs.Replacing.{covered, fits};
+ghost use Rattle.totals_spec.specs.Replacing.{covered, allFit};
 ghost use Rattle.totals_spec.specs.Steps.{under, Standing};
 use crate::finding::look_up;
 use crate::moving::move_down;
@@ -30,8 +31,11 @@ pub fn take_rows(
     requires { ⌜ Standing 0 n (tables (now owners) (now epochs) (now totals)) ⌝ }
     requires { ⌜ Table (now «old_epochs») (now «old_counts») ⌝ }
     requires { ⌜ covered (under owner (now «old_epochs») (now «old_counts»)) (rowsIn n (tables (now owners) (now epochs) (now totals))) ≡ true ⌝ }
-    ensures { λ r. ⌜ tables (now (owners .exit)) (now (epochs .exit)) (now (totals .exit)) ≡ overRows (takeCounts (under owner (now («old_epochs» .entry)) (now («old_counts» .entry))) (rowsIn n (tables (now (owners .entry)) (now (epochs .entry)) (now (totals .entry))))) (tables (now (owners .entry)) (now (epochs .entry)) (now (totals .entry))) ⌝ }
-    ensures { λ r. ⌜ r ≡ length (takeCounts (under owner (now («old_epochs» .entry)) (now («old_counts» .entry))) (rowsIn n (tables (now (owners .entry)) (now (epochs .entry)) (now (totals .entry))))) ⌝ }
+    ensures { λ r.
+        let rows-lent = rowsWere owners epochs totals in
+        let named-rows = under owner (was «old_epochs») (was «old_counts») in
+        ⌜ rowsLeft owners epochs totals ≡ overRows (takeCounts named-rows (rowsIn n rows-lent)) rows-lent ⌝ }
+    ensures { λ r. ⌜ r ≡ length (takeCounts (under owner (was «old_epochs») (was «old_counts»)) (rowsIn n (rowsWere owners epochs totals))) ⌝ }
 {
     let mut at: usize = 0;
     let mut to: usize = 0;
@@ -80,10 +84,14 @@ pub fn add_rows(
 )
     requires { ⌜ Standing 0 n (tables (now owners) (now epochs) (now totals)) ⌝ }
     requires { ⌜ Table (now «new_epochs») (now «new_counts») ⌝ }
-    requires { ⌜ fits [] (under owner (now «new_epochs») (now «new_counts»)) (rowsIn n (tables (now owners) (now epochs) (now totals))) ≡ true ⌝ }
-    requires { ⌜ count ≡ length (addCounts (under owner (now «new_epochs») (now «new_counts»)) (rowsIn n (tables (now owners) (now epochs) (now totals)))) ⌝ }
+    requires { ⌜ allFit [] (under owner (now «new_epochs») (now «new_counts»)) (rowsIn n (tables (now owners) (now epochs) (now totals))) ≡ true ⌝ }
+    requires { ⌜ count
+        ≡ length (addCounts (under owner (now «new_epochs») (now «new_counts»)) (rowsIn n (tables (now owners) (now epochs) (now totals)))) ⌝ }
     requires { ⌜ Room count (tables (now owners) (now epochs) (now totals)) ⌝ }
-    ensures { λ _. ⌜ tables (now (owners .exit)) (now (epochs .exit)) (now (totals .exit)) ≡ overRows (addCounts (under owner (now («new_epochs» .entry)) (now («new_counts» .entry))) (rowsIn n (tables (now (owners .entry)) (now (epochs .entry)) (now (totals .entry))))) (tables (now (owners .entry)) (now (epochs .entry)) (now (totals .entry))) ⌝ }
+    ensures { λ _.
+        let rows-lent = rowsWere owners epochs totals in
+        let named-rows = under owner (was «new_epochs») (was «new_counts») in
+        ⌜ rowsLeft owners epochs totals ≡ overRows (addCounts named-rows (rowsIn n rows-lent)) rows-lent ⌝ }
 {
     let mut upto = n;
     let mut end = count;

@@ -5,22 +5,24 @@ use mathlib.Core.Bool.{Bool, true, false, cond, and-eq-true-iff}
 use mathlib.Core.List.{List}
 use Prim.Native.Nat.{ℕ, _+_, _-_}
 use native.Mathlib.Omega.{arith}
-use Rattle.records_spec.specs.Answers.{Answer, ok, refused}
 use Rattle.records_spec.proofs.Answers.{refused-not-ok}
 use Rattle.rows_spec.specs.Rows.{Row, ascends}
-use Rattle.totals_spec.specs.Table.{above, properTotals, totalAt}
+use Rattle.records_spec.specs.Outcomes.{refused, Answer, ok}
+use Rattle.records_spec.specs.Refusals.{number}
+use Rattle.records_spec.specs.declared.refusal.Refusal.the-variants.{Overflow, IndexMismatch}
+use Rattle.totals_spec.specs.Table.{allPositive, properTotals, totalAt}
 use Rattle.totals_spec.specs.Recount.{countAt}
-use Rattle.totals_spec.specs.Replacing.{covered, fits, replacedRows, changed}
+use Rattle.totals_spec.specs.Replacing.{covered, allFit, replacedRows, changed}
 use Rattle.totals_spec.proofs.Counts.{add-ascends, take-ascends, add-above, take-above, total-added, total-taken, covered-at}
 
 -- ---- proper tables
 
 pub record IsProper (t : List Row) : Type 0 where
   pub rises : ascends t ≡ true
-  pub full : above t ≡ true
+  pub full : allPositive t ≡ true
 
 pub is-proper : (t : List Row) → properTotals t ≡ true → IsProper t
-is-proper t p = let q = and-eq-true-iff (ascends t) (above t) .0 p in record { rises = q .0; full = q .1 }
+is-proper t p = let q = and-eq-true-iff (ascends t) (allPositive t) .0 p in record { rises = q .0; full = q .1 }
 
 pub proper-is : (t : List Row) → IsProper t → properTotals t ≡ true
 proper-is t p = rw (p .rises, p .full)
@@ -43,19 +45,20 @@ module _ (os ns t : List Row) where
 
 pub record Accepted (os ns t u : List Row) : Type 0 where
   pub covers : covered os t ≡ true
-  pub room : fits os ns t ≡ true
+  pub room : allFit os ns t ≡ true
   pub is : u ≡ replacedRows os ns t
 
 ok-same : (x y : List Row) → _≡_ {A = Answer (List Row)} (ok x) (ok y) → x ≡ y
 ok-same x y e = cc
 
 pub accepted : (os ns t u : List Row) → changed os ns t ≡ ok u → Accepted os ns t u
-accepted os ns t u h = go (covered os t) refl (fits os ns t) refl h
+accepted os ns t u h = go (covered os t) refl (allFit os ns t) refl h
   where
-    go : (c : Bool) → covered os t ≡ c → (f : Bool) → fits os ns t ≡ f → cond c (cond f (ok (replacedRows os ns t)) (refused 6)) (refused 14) ≡ ok u → Accepted os ns t u
+    go : (c : Bool) → covered os t ≡ c → (f : Bool) → allFit os ns t ≡ f
+        → cond c (cond f (ok (replacedRows os ns t)) (refused (number Overflow))) (refused (number IndexMismatch)) ≡ ok u → Accepted os ns t u
     go true c true f e = record { covers = c; room = f; is = sym (ok-same (replacedRows os ns t) u e) }
-    go true c false f e = absurd (refused-not-ok 6 u e)
-    go false c f g e = absurd (refused-not-ok 14 u e)
+    go true c false f e = absurd (refused-not-ok (number Overflow) u e)
+    go false c f g e = absurd (refused-not-ok (number IndexMismatch) u e)
 
 module _ {os ns t u : List Row} (a : Accepted os ns t u) where
   pub accepted-proper : IsProper t → IsProper u

@@ -10,14 +10,16 @@ use lib.ListN.{length, take, drop}
 use lib.Seq.{length-take-le, drop-at}
 use borrow.Author.Tests.{lt-ltb}
 use Rattle.rows_spec.specs.Rows.{Row, compared, ascends}
+use Rattle.rows_spec.specs.Order.{isEqual}
 use Rattle.rows_spec.specs.declared.order.Order.{Order}
 use Rattle.rows_spec.specs.declared.order.Order.the-variants.{Less, Equal, Greater}
 use Rattle.rows_spec.proofs.Comparing.{less-trans, flipped, self-same}
 use Rattle.rows_spec.proofs.Rows.{asc-before, asc-tail, asc-drop}
-use Rattle.totals_spec.specs.Table.{above, isEqual, totalAt, rowIf, placed, putTotal, withTotal, addCount, addCounts}
-use Rattle.totals_spec.specs.Replacing.{largestTotal, fits}
+use Rattle.totals_spec.specs.Table.{allPositive, totalAt, rowIf, putBeside, putTotal, withTotal, addCount, addCounts}
+use Rattle.totals_spec.specs.Replacing.{largestTotal, allFit}
 use Rattle.totals_spec.specs.Steps.{placeIn}
-use Rattle.totals_spec.proofs.Totals.{total-none, total-at, total-before, total-same, above-none, above-cons, above-first, above-tail, put-none, put-at, put-ascends, put-back}
+use Rattle.totals_spec.proofs.Totals.{total-none, total-at, total-before, total-same, above-none, above-cons, above-first, above-tail}
+use Rattle.totals_spec.proofs.Totals.{put-none, put-at, put-ascends, put-back}
 use Rattle.totals_spec.proofs.Counts.{add-ascends, add-above}
 use Rattle.totals_spec.proofs.Places.{place-within}
 use Rattle.totals_spec.proofs.Fitting.{fits-first, fits-tail}
@@ -40,14 +42,16 @@ behind-within k (b ∷ l) = go (compared b k) refl (behind-within k l)
 -- ---- one count
 
 -- a total is put in its place: what is before and behind it stays
-put-split : (k : Row) (n : ℕ) → 0 < n → (l : List Row) → ascends l ≡ true → above l ≡ true
+put-split : (k : Row) (n : ℕ) → 0 < n → (l : List Row) → ascends l ≡ true → allPositive l ≡ true
     → putTotal (withTotal k n) l ≡ take (placeIn k l) l ++ (withTotal k n ∷ drop (behindIn k l) l)
 unfolding placeIn
 put-split k n p [] s a = put-none (withTotal k n) ∙ rw (lt-ltb 0 n p, total-none k)
-put-split k n p (b ∷ l) s a = put-at (withTotal k n) b l (compared k b) refl ∙ go (compared k b) refl (put-split k n p l (asc-tail b l s) (above-tail b l a))
+put-split k n p (b ∷ l) s a = put-at (withTotal k n) b l (compared k b) refl
+    ∙ go (compared k b) refl (put-split k n p l (asc-tail b l s) (above-tail b l a))
   where
     go : (o : Order) → compared k b ≡ o → putTotal (withTotal k n) l ≡ take (placeIn k l) l ++ (withTotal k n ∷ drop (behindIn k l) l)
-        → placed o (withTotal k n) b l (putTotal (withTotal k n) l) ≡ take (placeIn k (b ∷ l)) (b ∷ l) ++ (withTotal k n ∷ drop (behindIn k (b ∷ l)) (b ∷ l))
+        → putBeside o (withTotal k n) b l (putTotal (withTotal k n) l)
+        ≡ take (placeIn k (b ∷ l)) (b ∷ l) ++ (withTotal k n ∷ drop (behindIn k (b ∷ l)) (b ∷ l))
     go Less e ih = rw (lt-ltb 0 n p, flipped k b Less e, total-before k (b ∷ l) e s)
     go Equal e ih = rw (lt-ltb 0 n p, flipped k b Equal e, total-at k b l Equal e, lt-ltb 0 (b .part .bytes) (above-first b l a))
     go Greater e ih =
@@ -55,19 +59,19 @@ put-split k n p (b ∷ l) s a = put-at (withTotal k n) b l (compared k b) refl �
         rw (flipped k b Greater e, total-at k b l Greater e, next) (ap (λ (m : List Row). b ∷ m) ih)
 
 -- a count of 0 changes nothing
-pub count-nothing : (r : Row) (l : List Row) → ascends l ≡ true → above l ≡ true → r .part .bytes ≤ 0 → addCount r l ≡ l
+pub count-nothing : (r : Row) (l : List Row) → ascends l ≡ true → allPositive l ≡ true → r .part .bytes ≤ 0 → addCount r l ≡ l
 count-nothing r l s a h =
     let z : totalAt r l + r .part .bytes ≡ totalAt r l = omega arith in
     ap (λ (n : ℕ). putTotal (withTotal r n) l) z ∙ put-back r l s a
 
 -- no count makes rows fewer
-more-count : (r : Row) (l : List Row) → ascends l ≡ true → above l ≡ true → length l ≤ length (addCount r l)
+more-count : (r : Row) (l : List Row) → ascends l ≡ true → allPositive l ≡ true → length l ≤ length (addCount r l)
 more-count r l s a =
     let n = totalAt r l + r .part .bytes in
     let t = total-same (withTotal r n) r l (self-same r) in
     omega (arith, rw t at (length-put (withTotal r n) l s a), made-or-there (totalAt r l) (r .part .bytes))
 
-pub more-counts : (rs l : List Row) → ascends l ≡ true → above l ≡ true → length l ≤ length (addCounts rs l)
+pub more-counts : (rs l : List Row) → ascends l ≡ true → allPositive l ≡ true → length l ≤ length (addCounts rs l)
 unfolding addCounts
 more-counts [] l s a = omega arith
 more-counts (r ∷ rs) l s a = omega (arith, more-counts rs l s a, more-count r (addCounts rs l) (add-ascends l rs s) (add-above l rs a))
@@ -85,9 +89,11 @@ module _ (s : Row) (m : List Row) where
   put-front : (r : Row) → compared r s ≡ Less → (l : List Row) → putTotal r (l ++ (s ∷ m)) ≡ putTotal r l ++ (s ∷ m)
   put-front r e [] = put-at r s m Less e ∙ if-front r [] (s ∷ m) ∙ ap (λ (u : List Row). u ++ (s ∷ m)) (sym (put-none r))
   put-front r e (b ∷ l) =
-      put-at r b (l ++ (s ∷ m)) (compared r b) refl ∙ go (compared r b) (put-front r e l) ∙ ap (λ (u : List Row). u ++ (s ∷ m)) (sym (put-at r b l (compared r b) refl))
+      put-at r b (l ++ (s ∷ m)) (compared r b) refl ∙ go (compared r b) (put-front r e l)
+      ∙ ap (λ (u : List Row). u ++ (s ∷ m)) (sym (put-at r b l (compared r b) refl))
     where
-      go : (o : Order) → putTotal r (l ++ (s ∷ m)) ≡ putTotal r l ++ (s ∷ m) → placed o r b (l ++ (s ∷ m)) (putTotal r (l ++ (s ∷ m))) ≡ placed o r b l (putTotal r l) ++ (s ∷ m)
+      go : (o : Order) → putTotal r (l ++ (s ∷ m)) ≡ putTotal r l ++ (s ∷ m)
+          → putBeside o r b (l ++ (s ∷ m)) (putTotal r (l ++ (s ∷ m))) ≡ putBeside o r b l (putTotal r l) ++ (s ∷ m)
       go Less ih = if-front r (b ∷ l) (s ∷ m)
       go Equal ih = if-front r l (s ∷ m)
       go Greater ih = ap (λ (u : List Row). b ∷ u) ih
@@ -95,7 +101,8 @@ module _ (s : Row) (m : List Row) where
   total-front : ascends (s ∷ m) ≡ true → (k : Row) → compared k s ≡ Less → (l : List Row) → totalAt k (l ++ (s ∷ m)) ≡ totalAt k l
   total-front a k e [] = total-before k (s ∷ m) e a ∙ sym (total-none k)
   total-front a k e (b ∷ l) =
-      total-at k b (l ++ (s ∷ m)) (compared k b) refl ∙ ap (cond (isEqual (compared k b)) (b .part .bytes)) (total-front a k e l) ∙ sym (total-at k b l (compared k b) refl)
+      total-at k b (l ++ (s ∷ m)) (compared k b) refl ∙ ap (cond (isEqual (compared k b)) (b .part .bytes)) (total-front a k e l)
+      ∙ sym (total-at k b l (compared k b) refl)
 
 -- the first of ascending rows is before each behind it
 before-later : (n s : Row) (m ns : List Row) → ascends (n ∷ (ns ++ (s ∷ m))) ≡ true → compared n s ≡ Less
@@ -125,8 +132,9 @@ add-last r l [] = refl
 add-last r l (n ∷ ns) = ap (addCount n) (add-last r l ns)
 
 -- THE LAST COUNT IS PUT IN ITS PLACE, AND THE OTHERS ARE ADDED TO THE ROWS BEFORE IT
-pub adds-split : (k : Row) (n : ℕ) (ns z l : List Row) → ascends (ns ++ (withTotal k n ∷ z)) ≡ true → 0 < n → ascends l ≡ true → above l ≡ true
-    → addCounts (ns ++ (withTotal k n ∷ [])) l ≡ (addCounts ns (take (placeIn k l) l) ++ (withTotal k (totalAt k l + n) ∷ [])) ++ drop (behindIn k l) l
+pub adds-split : (k : Row) (n : ℕ) (ns z l : List Row) → ascends (ns ++ (withTotal k n ∷ z)) ≡ true → 0 < n → ascends l ≡ true → allPositive l ≡ true
+    → addCounts (ns ++ (withTotal k n ∷ [])) l
+    ≡ (addCounts ns (take (placeIn k l) l) ++ (withTotal k (totalAt k l + n) ∷ [])) ++ drop (behindIn k l) l
 adds-split k n ns z l h p s a =
     let c = totalAt k l + n in
     let first = take (placeIn k l) l in
@@ -154,13 +162,13 @@ total-first k (b ∷ l) (suc i) = go (isEqual (compared k b)) (total-first k l i
     go true ih = omega arith
     go false ih = ih
 
-pub first-above : (l : List Row) (i : ℕ) → above l ≡ true → above (take i l) ≡ true
+pub first-above : (l : List Row) (i : ℕ) → allPositive l ≡ true → allPositive (take i l) ≡ true
 first-above [] zero a = a
 first-above [] (suc i) a = a
 first-above (b ∷ l) zero a = above-none
 first-above (b ∷ l) (suc i) a = above-cons b (take i l) (above-first b l a) (first-above l i (above-tail b l a))
 
 -- where all counts fit, each does
-pub fits-one : (n : Row) (t z ns : List Row) → fits [] (ns ++ (n ∷ z)) t ≡ true → totalAt n t + n .part .bytes ≤ largestTotal
+pub fits-one : (n : Row) (t z ns : List Row) → allFit [] (ns ++ (n ∷ z)) t ≡ true → totalAt n t + n .part .bytes ≤ largestTotal
 fits-one n t z [] h = omega (arith, total-none n, fits-first [] t n z h)
 fits-one n t z (r ∷ ns) h = fits-one n t z ns (fits-tail [] t r (ns ++ (n ∷ z)) h)

@@ -1,4 +1,5 @@
--- What the loop that adds counts from the back keeps: the rows behind the last count added stand as they end, and before them the tables are as they began.
+-- What the loop that adds counts from the back keeps: the rows behind the last count added stand as they end, and before them the tables are as they
+-- began.
 -- Assumes nothing.
 use mathlib.Core.Path.{_≡_, refl, sym, ap, _∙_, subst}
 use mathlib.Core.Bool.{true, cond}
@@ -12,16 +13,19 @@ use Rattle.records_spec.specs.Tables.{Table}
 use Rattle.rows_spec.specs.Rows.{Row, row, ascends, idsOf, Tables, rowsIn, overRows, setRow, Room}
 use Rattle.rows_spec.proofs.Comparing.{self-same}
 use Rattle.rows_spec.proofs.Rows.{length-rows, room-less, proper-first}
-use Rattle.rows_spec.proofs.Columns.{epochsIn, bytesIn, length-ids, length-epochs, length-bytes, ids-append, epochs-in-append, bytes-in-append, three, columns}
-use Rattle.rows_spec.proofs.Backing.{Backing, setRows, backing-start, backing-fits, backing-first, backing-run, backing-room, backing-step, backing-stays}
-use Rattle.totals_spec.specs.Table.{above, totalAt, addCounts}
-use Rattle.totals_spec.specs.Replacing.{largestTotal, fits}
-use Rattle.totals_spec.specs.Steps.{under, placeIn, between, spotIn, Standing, moved}
+use Rattle.rows_spec.proofs.Columns.{epochsIn, bytesIn, length-ids, length-epochs, length-bytes, ids-append, epochs-in-append, bytes-in-append, three}
+use Rattle.rows_spec.proofs.Columns.{columns}
+use Rattle.rows_spec.proofs.Backing.{Backing, setRows, backing-start, backing-fits, backing-first, backing-run, backing-room, backing-step}
+use Rattle.rows_spec.proofs.Backing.{backing-stays}
+use Rattle.totals_spec.specs.Table.{allPositive, totalAt, addCounts}
+use Rattle.totals_spec.specs.Replacing.{largestTotal, allFit}
+use Rattle.totals_spec.specs.Steps.{under, placeIn, rowsBetween, spotIn, Standing, moved}
 use Rattle.totals_spec.specs.declared.finding.Spot.{Spot}
 use Rattle.totals_spec.proofs.Totals.{total-same}
 use Rattle.totals_spec.proofs.Places.{place-within}
 use Rattle.totals_spec.proofs.UnderOwner.{under-long, under-on, under-last, under-ascends}
-use Rattle.totals_spec.proofs.AddingCounts.{behindIn, behind-within, count-nothing, more-counts, add-none, add-last, adds-split, total-first, first-above, fits-one}
+use Rattle.totals_spec.proofs.AddingCounts.{behindIn, behind-within, count-nothing, more-counts, add-none, add-last, adds-split, total-first}
+use Rattle.totals_spec.proofs.AddingCounts.{first-above, fits-one}
 
 -- ---- the tables
 
@@ -29,10 +33,17 @@ use Rattle.totals_spec.proofs.AddingCounts.{behindIn, behind-within, co
 standing-first : {n : ℕ} {t : Tables} (m : ℕ) → m ≤ n → Standing 0 n t → Standing 0 m t
 standing-first {n} {t} m h s =
     let p = proper-first m h (record { room = s .room; rises = s .rises }) in
-    record { within = zero-le; room = p .room; rises = p .rises; full = ap above (sym (take-take m n _ h)) ∙ first-above (rowsIn n t) m (s .full) }
+    record {
+      within = zero-le;
+      room = p .room;
+      rises = p .rises;
+      full = ap allPositive (sym (take-take m n _ h))
+          ∙ first-above (rowsIn n t) m (s .full);
+    }
 
 -- a column of rows from a place on
-column-drop : {A : Type 0} {l : List A} (column : List Row → List A) → ((rs ss : List Row) → column (rs ++ ss) ≡ column rs ++ column ss) → ((rs : List Row) → length (column rs) ≡ length rs)
+column-drop : {A : Type 0} {l : List A} (column : List Row → List A) → ((rs ss : List Row) → column (rs ++ ss) ≡ column rs ++ column ss)
+    → ((rs : List Row) → length (column rs) ≡ length rs)
     → (from : ℕ) (rs : List Row) → from ≤ length rs → column rs ≡ l → drop from l ≡ column (drop from rs)
 column-drop column append long from rs h e =
     ap (drop from) (sym e ∙ ap column (sym (take-append-drop from rs)) ∙ append (take from rs) (drop from rs))
@@ -65,7 +76,8 @@ pub record Adding (o es cs : List ℕ) (t₀ t : Tables) (n upto end i : ℕ) : 
   pub back : Backing (addCounts (under o es cs) (rowsIn n t₀)) (added o es cs i upto t₀) end t₀ t
 
 module _ {es cs : List ℕ} (tb : Table es cs) (o : List ℕ) where
-  pub adding-start : (t : Tables) (n count : ℕ) → count ≡ length (addCounts (under o es cs) (rowsIn n t)) → Room count t → Adding o es cs t t n n count (length es)
+  pub adding-start : (t : Tables) (n count : ℕ) → count ≡ length (addCounts (under o es cs) (rowsIn n t)) → Room count t
+      → Adding o es cs t t n n count (length es)
   adding-start t n count e r =
       let ns = under o es cs in
       let all = addCounts ns (rowsIn n t) in
@@ -90,7 +102,13 @@ module _ {es cs : List ℕ} (tb : Table es cs) (o : List ℕ) where
     adding-stands =
         let p = left-stands in
         let e = backing-first (w .back) upto left-within in
-        record { within = zero-le; room = room-less upto left-within (backing-fits (w .back)); rises = ap ascends e ∙ p .rises; full = ap above e ∙ p .full }
+        record {
+          within = zero-le;
+          room = room-less upto left-within (backing-fits (w .back));
+          rises = ap ascends e
+              ∙ p .rises;
+          full = ap allPositive e ∙ p .full;
+        }
 
     -- no count is left
     pub adding-done : i ≤ 0 → t ≡ overRows (addCounts (under o es cs) (rowsIn n t₀)) t₀
@@ -121,7 +139,7 @@ module _ {es cs : List ℕ} (tb : Table es cs) (o : List ℕ) where
           sym (take-append-drop (i - 1) (under o es cs))
           ∙ ap (λ (l : List Row). take (i - 1) (under o es cs) ++ l) (under-on o tb (i - 1) (omega (arith, w .counts-left)))
 
-      module _ {q : Spot} (found : q ≡ spotIn 0 (lastOf o es i 0) (between 0 upto t)) where
+      module _ {q : Spot} (found : q ≡ spotIn 0 (lastOf o es i 0) (rowsBetween 0 upto t)) where
         place-is : q .place ≡ placeIn (lastOf o es i 0) (rowsIn upto t₀)
         place-is =
             let z : 0 + placeIn (lastOf o es i 0) (rowsIn upto t) ≡ placeIn (lastOf o es i 0) (rowsIn upto t) = omega arith in
@@ -134,7 +152,7 @@ module _ {es cs : List ℕ} (tb : Table es cs) (o : List ℕ) where
         place-left = omega (arith, place-is, place-within (lastOf o es i 0) (rowsIn upto t₀), length-rows (left-stands .room))
 
         -- the total with the count fits in 64 bits
-        pub adding-fits : fits [] (under o es cs) (rowsIn n t₀) ≡ true → q .total + getD cs (i - 1) 0 ≤ largestTotal
+        pub adding-fits : allFit [] (under o es cs) (rowsIn n t₀) ≡ true → q .total + getD cs (i - 1) 0 ≤ largestTotal
         adding-fits f =
             let r = lastOf o es i (getD cs (i - 1) 0) in
             let l = fits-one r (rowsIn n t₀) (drop (i - 1 + 1) (under o es cs)) (take (i - 1) (under o es cs)) (rw (← counts-are) f) in
@@ -149,7 +167,11 @@ module _ {es cs : List ℕ} (tb : Table es cs) (o : List ℕ) where
 
           -- the rows behind this count's place are moved up
           pub adding-move : (b ≤ upto) × (upto ≤ end) × Room end t
-          adding-move = (omega (arith, behind-is, behind-within (lastOf o es i 0) (rowsIn upto t₀), length-rows (left-stands .room)), left-within, backing-fits (w .back))
+          adding-move = (
+            omega (arith, behind-is, behind-within (lastOf o es i 0) (rowsIn upto t₀), length-rows (left-stands .room)),
+            left-within,
+            backing-fits (w .back),
+          )
 
           -- what is left, this count's row, and the rows behind it
           parts-left : 0 < getD cs (i - 1) 0 → added o es cs i upto t₀
@@ -163,13 +185,15 @@ module _ {es cs : List ℕ} (tb : Table es cs) (o : List ℕ) where
               ∙ rw (← behind-is, ← place-is, ← total-is, f)
 
           module _ (g : 0 < getD cs (i - 1) 0) {t′ : Tables} (m : t′ ≡ moved b upto (end - (upto - b)) t) where
-            behind-placed : Backing (addCounts (under o es cs) (rowsIn n t₀)) (added o es cs (i - 1) (q .place) t₀ ++ (lastOf o es i (q .total + getD cs (i - 1) 0) ∷ [])) (end - (upto - b)) t₀ t′
+            behind-placed : Backing (addCounts (under o es cs) (rowsIn n t₀))
+                (added o es cs (i - 1) (q .place) t₀ ++ (lastOf o es i (q .total + getD cs (i - 1) 0) ∷ [])) (end - (upto - b)) t₀ t′
             behind-placed =
                 let v = adding-move in
                 let p = adding-stands in
                 let f = backing-first (w .back) upto left-within in
                 let l : length (drop b (rowsIn upto t)) ≡ upto - b = length-drop b (rowsIn upto t) ∙ rw (length-rows (p .room)) in
-                backing-run (w .back) _ (drop b (rowsIn upto t)) (rw f (parts-left g)) (omega arith) (m ∙ moved-rows (p .room) b (end - (upto - b)) (v .0))
+                backing-run (w .back) _ (drop b (rowsIn upto t)) (rw f (parts-left g)) (omega arith)
+                (m ∙ moved-rows (p .room) b (end - (upto - b)) (v .0))
 
             -- there is a place before them
             pub adding-room : (upto - b ≤ end) × (0 < end - (upto - b)) × Room (end - (upto - b) - 1 + 1) t′

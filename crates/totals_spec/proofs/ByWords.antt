@@ -86,7 +86,8 @@ less-last x y = go (ltb x y) refl (ltb y x) refl
 by-byte : (n m x y : ℕ) (o : Order) → x < 256 → y < 256 → by n m (by x y o) ≡ by (n * 256 + x) (m * 256 + y) o
 by-byte n m x y o h k = go (ltb n m) refl (ltb m n) refl (ltb x y) refl (ltb y x) refl
   where
-    go : (p : Bool) → ltb n m ≡ p → (q : Bool) → ltb m n ≡ q → (r : Bool) → ltb x y ≡ r → (s : Bool) → ltb y x ≡ s → by n m (by x y o) ≡ by (n * 256 + x) (m * 256 + y) o
+    go : (p : Bool) → ltb n m ≡ p → (q : Bool) → ltb m n ≡ q → (r : Bool) → ltb x y ≡ r → (s : Bool) → ltb y x ≡ s
+        → by n m (by x y o) ≡ by (n * 256 + x) (m * 256 + y) o
     go true e q f r g s i = let a = ltb-true n m e in by-less n m _ a ∙ sym (by-less (n * 256 + x) (m * 256 + y) o (omega arith))
     go false e true f r g s i = let a = ltb-true m n f in by-greater n m _ a ∙ sym (by-greater (n * 256 + x) (m * 256 + y) o (omega arith))
     go false e false f true g s i =
@@ -106,7 +107,8 @@ by-said [] [] c d n m h p q = refl
 by-said [] (y ∷ ys) c d n m h p q = absurd (omega arith)
 by-said (x ∷ xs) [] c d n m h p q = absurd (omega arith)
 by-said (x ∷ xs) (y ∷ ys) c d n m h p q =
-    by-byte n m x y (order (xs ++ c) (ys ++ d)) (p 0) (q 0) ∙ by-said xs ys c d (n * 256 + x) (m * 256 + y) (omega arith) (λ i. p (suc i)) (λ i. q (suc i))
+    by-byte n m x y (order (xs ++ c) (ys ++ d)) (p 0) (q 0)
+    ∙ by-said xs ys c d (n * 256 + x) (m * 256 + y) (omega arith) (λ i. p (suc i)) (λ i. q (suc i))
 
 -- ---- the bytes of a word are bytes
 
@@ -134,7 +136,8 @@ module _ (a b : List ℕ) (p : (i : ℕ) → getD a i 0 < 256) (q : (i : ℕ) �
       let f = length-take-le 8 (drop k b) (omega (arith, length-drop k b)) in
       ap₂ order (split a c k) (split b d k)
       ∙ sym (by-next 0 0 _ (omega arith) (omega arith))
-      ∙ by-said (take 8 (drop k a)) (take 8 (drop k b)) (drop (k + 8) a ++ c) (drop (k + 8) b ++ d) 0 0 (e ∙ sym f) (word-byte a k p) (word-byte b k q)
+      ∙ by-said (take 8 (drop k a)) (take 8 (drop k b)) (drop (k + 8) a ++ c) (drop (k + 8) b ++ d) 0 0 (e ∙ sym f) (word-byte a k p)
+      (word-byte b k q)
 
   less-decides : (c d : List ℕ) (k : ℕ) → k + 8 ≤ length a → k + 8 ≤ length b
       → isLess (order (drop k a ++ c) (drop k b ++ d)) ≡ lessOr (wordAt a k) (wordAt b k) (isLess (order (drop (k + 8) a ++ c) (drop (k + 8) b ++ d)))
@@ -143,12 +146,14 @@ module _ (a b : List ℕ) (p : (i : ℕ) → getD a i 0 < 256) (q : (i : ℕ) �
 
   less-words : (x y : ℕ) → length a ≡ ownerLength → length b ≡ ownerLength
       → isLess (compared (row a x 0) (row b y 0))
-      ≡ lessOr (wordAt a 0) (wordAt b 0) (lessOr (wordAt a 8) (wordAt b 8) (lessOr (wordAt a 16) (wordAt b 16) (lessOr (wordAt a 24) (wordAt b 24) (ltb x y))))
+      ≡ lessOr (wordAt a 0) (wordAt b 0) (lessOr (wordAt a 8) (wordAt b 8)
+      (lessOr (wordAt a 16) (wordAt b 16) (lessOr (wordAt a 24) (wordAt b 24) (ltb x y))))
   less-words x y h k =
       let c = x ∷ [] in
       let d = y ∷ [] in
       let e : order (drop 32 a ++ c) (drop 32 b ++ d) ≡ by x y Equal =
-      ap₂ (λ (s t : List ℕ). order (s ++ c) (t ++ d)) (drop-of-length-le a {i = 32} (omega arith)) (drop-of-length-le b {i = 32} (omega arith)) ∙ order-one x y in
+      ap₂ (λ (s t : List ℕ). order (s ++ c) (t ++ d)) (drop-of-length-le a {i = 32} (omega arith)) (drop-of-length-le b {i = 32} (omega arith))
+      ∙ order-one x y in
       less-decides c d 0 (omega arith) (omega arith)
       ∙ ap (lessOr (wordAt a 0) (wordAt b 0)) (less-decides c d 8 (omega arith) (omega arith)
       ∙ ap (lessOr (wordAt a 8) (wordAt b 8)) (less-decides c d 16 (omega arith) (omega arith)
@@ -171,7 +176,8 @@ module _ (a b : List ℕ) (p : (i : ℕ) → getD a i 0 < 256) (q : (i : ℕ) �
 
   -- and else the others
   pub less-rest : (x y : ℕ) → length a ≡ ownerLength → length b ≡ ownerLength → (m n : ℕ) → m ≡ wordAt a 0 → n ≡ wordAt b 0 → m ≤ n → n ≤ m
-      → lessOr (wordAt a 8) (wordAt b 8) (lessOr (wordAt a 16) (wordAt b 16) (lessOr (wordAt a 24) (wordAt b 24) (ltb x y))) ≡ isLess (compared (row a x 0) (row b y 0))
+      → lessOr (wordAt a 8) (wordAt b 8) (lessOr (wordAt a 16) (wordAt b 16) (lessOr (wordAt a 24) (wordAt b 24) (ltb x y)))
+      ≡ isLess (compared (row a x 0) (row b y 0))
   less-rest x y h k m n e f l o =
       let u : wordAt a 0 ≤ wordAt b 0 = omega arith in
       let v : wordAt b 0 ≤ wordAt a 0 = omega arith in

@@ -6,8 +6,8 @@ use mathlib.Core.Option.{Option}
 use mathlib.Core.List.{List}
 use native.Mathlib.Omega.{arith}
 use Rattle.records_spec.specs.Flags.{Flags}
-use Rattle.records_spec.specs.Answers.{ok}
 use Rattle.rows_spec.specs.Rows.{Row, ascends}
+use Rattle.records_spec.specs.Outcomes.{ok}
 use Rattle.totals_spec.specs.Table.{properTotals}
 use Rattle.totals_spec.specs.Recount.{named}
 use Rattle.totals_spec.specs.Replacing.{changed, replaced}

@@ -11,12 +11,13 @@ use borrow.Author.Tests.{leb-true, le-leb}
 use Rattle.records_spec.specs.Tables.{epochsOf, rising}
 use Rattle.records_spec.specs.Flags.{Flags, idOf}
 use Rattle.rows_spec.specs.Rows.{Row, compared, ascends}
+use Rattle.rows_spec.specs.Order.{isEqual}
 use Rattle.rows_spec.specs.declared.order.Order.{Order}
 use Rattle.rows_spec.specs.declared.order.Order.the-variants.{Less, Equal, Greater}
 use Rattle.rows_spec.proofs.Comparing.{self-same}
 use Rattle.rows_spec.proofs.Rows.{asc-none, asc-tail}
 use Rattle.rows_spec.proofs.Under.{asc-under}
-use Rattle.totals_spec.specs.Table.{above, isEqual, totalAt, putTotal, withTotal, addCounts, takeCounts}
+use Rattle.totals_spec.specs.Table.{allPositive, totalAt, putTotal, withTotal, addCounts, takeCounts}
 use Rattle.totals_spec.specs.Recount.{named, countAt}
 use Rattle.totals_spec.specs.Replacing.{covered}
 use Rattle.totals_spec.specs.Theorems.{rises}
@@ -36,9 +37,11 @@ count-cons k r rs o h = ap (λ (p : Order). cond (isEqual p) (r .part .bytes) 0 
 -- of ascending rows, no pair of which stands twice, it is the total
 pub count-total : (k : Row) (rs : List Row) → ascends rs ≡ true → countAt k rs ≡ totalAt k rs
 count-total k [] s = count-none k ∙ sym (total-none k)
-count-total k (r ∷ rs) s = count-cons k r rs (compared k r) refl ∙ go (compared k r) refl (count-total k rs (asc-tail r rs s)) ∙ sym (total-at k r rs (compared k r) refl)
+count-total k (r ∷ rs) s = count-cons k r rs (compared k r) refl ∙ go (compared k r) refl (count-total k rs (asc-tail r rs s))
+    ∙ sym (total-at k r rs (compared k r) refl)
   where
-    go : (o : Order) → compared k r ≡ o → countAt k rs ≡ totalAt k rs → cond (isEqual o) (r .part .bytes) 0 + countAt k rs ≡ cond (isEqual o) (r .part .bytes) (totalAt k rs)
+    go : (o : Order) → compared k r ≡ o → countAt k rs ≡ totalAt k rs
+        → cond (isEqual o) (r .part .bytes) 0 + countAt k rs ≡ cond (isEqual o) (r .part .bytes) (totalAt k rs)
     go Less e ih = omega arith
     go Equal e ih = omega (arith, total-behind k r rs e s)
     go Greater e ih = omega arith
@@ -72,20 +75,22 @@ add-ascends = add-keeps (λ (l : List Row). ascends l ≡ true) put-ascends
 pub take-ascends : (t rs : List Row) → ascends t ≡ true → ascends (takeCounts rs t) ≡ true
 take-ascends = take-keeps (λ (l : List Row). ascends l ≡ true) put-ascends
 
-pub add-above : (t rs : List Row) → above t ≡ true → above (addCounts rs t) ≡ true
-add-above = add-keeps (λ (l : List Row). above l ≡ true) put-above
+pub add-above : (t rs : List Row) → allPositive t ≡ true → allPositive (addCounts rs t) ≡ true
+add-above = add-keeps (λ (l : List Row). allPositive l ≡ true) put-above
 
-pub take-above : (t rs : List Row) → above t ≡ true → above (takeCounts rs t) ≡ true
-take-above = take-keeps (λ (l : List Row). above l ≡ true) put-above
+pub take-above : (t rs : List Row) → allPositive t ≡ true → allPositive (takeCounts rs t) ≡ true
+take-above = take-keeps (λ (l : List Row). allPositive l ≡ true) put-above
 
 -- ---- the totals afterwards
 
 module _ (k r : Row) (u : List Row) (s : ascends u ≡ true) where
   -- a total put at r that f makes of the one there and a count, where a count of 0 changes none
-  put-by : (f : ℕ → ℕ → ℕ) → ((n : ℕ) → f n 0 ≡ n) → totalAt k (putTotal (withTotal r (f (totalAt r u) (r .part .bytes))) u) ≡ f (totalAt k u) (cond (isEqual (compared k r)) (r .part .bytes) 0)
+  put-by : (f : ℕ → ℕ → ℕ) → ((n : ℕ) → f n 0 ≡ n)
+      → totalAt k (putTotal (withTotal r (f (totalAt r u) (r .part .bytes))) u) ≡ f (totalAt k u) (cond (isEqual (compared k r)) (r .part .bytes) 0)
   put-by f z = total-put k (withTotal r (f (totalAt r u) (r .part .bytes))) u s ∙ go (compared k r) refl
     where
-      go : (o : Order) → compared k r ≡ o → cond (isEqual o) (f (totalAt r u) (r .part .bytes)) (totalAt k u) ≡ f (totalAt k u) (cond (isEqual o) (r .part .bytes) 0)
+      go : (o : Order) → compared k r ≡ o → cond (isEqual o) (f (totalAt r u) (r .part .bytes)) (totalAt k u)
+          ≡ f (totalAt k u) (cond (isEqual o) (r .part .bytes) 0)
       go Less e = sym (z (totalAt k u))
       go Equal e = ap (λ (n : ℕ). f n (r .part .bytes)) (sym (total-same k r u e))
       go Greater e = sym (z (totalAt k u))

@@ -13,11 +13,13 @@ use Rattle.rows_spec.specs.Rows.{Row, ascends}
 use Rattle.rows_spec.specs.declared.order.Order.the-variants.{Equal, Greater}
 use Rattle.rows_spec.proofs.Comparing.{self-same}
 use Rattle.rows_spec.proofs.Rows.{asc-tail}
-use Rattle.totals_spec.specs.Table.{above, totalAt, rowIf, putTotal, withTotal, addCounts, takeCounts}
+use Rattle.totals_spec.specs.Table.{allPositive, totalAt, rowIf, putTotal, withTotal, addCounts, takeCounts}
 use Rattle.totals_spec.specs.Replacing.{covered, replacedRows}
 use Rattle.totals_spec.specs.Steps.{gone, made}
-use Rattle.totals_spec.proofs.Totals.{total-none, total-at, total-same, total-before, total-behind, above-first, above-tail, put-none, put-cases}
-use Rattle.totals_spec.proofs.Counts.{count-total, covered-first, covered-tail, add-ascends, add-above, take-ascends, take-above, total-added, total-taken}
+use Rattle.totals_spec.proofs.Totals.{total-none, total-at, total-same, total-before, total-behind, above-first, above-tail, put-none}
+use Rattle.totals_spec.proofs.Totals.{put-cases}
+use Rattle.totals_spec.proofs.Counts.{count-total, covered-first, covered-tail, add-ascends, add-above, take-ascends, take-above, total-added}
+use Rattle.totals_spec.proofs.Counts.{total-taken}
 
 -- 1 where a number is above 0
 abbrev some : ℕ → ℕ
@@ -42,7 +44,8 @@ length-if r l =
       | no p ↦ rw (le-ltb 0 (r .part .bytes) (omega arith)) (omega arith)
     ]
 
-pub length-put : (r : Row) (l : List Row) → ascends l ≡ true → above l ≡ true → length (putTotal r l) + some (totalAt r l) ≡ length l + some (r .part .bytes)
+pub length-put : (r : Row) (l : List Row) → ascends l ≡ true → allPositive l ≡ true
+    → length (putTotal r l) + some (totalAt r l) ≡ length l + some (r .part .bytes)
 length-put r [] s a = rw (put-none r, total-none r) (omega (arith, length-if r []))
 length-put r (b ∷ l) s a =
     let ih = length-put r l (asc-tail b l s) (above-tail b l a) in
@@ -81,7 +84,7 @@ made-or-there t c =
 alone : (o : Row) (os : List Row) → ascends (o ∷ os) ≡ true → totalAt o os ≡ 0
 alone o os p = total-behind o o os (self-same o) p
 
-module _ (t : List Row) (s : ascends t ≡ true) (a : above t ≡ true) where
+module _ (t : List Row) (s : ascends t ≡ true) (a : allPositive t ≡ true) where
   pub length-taken : (os : List Row) → ascends os ≡ true → covered os t ≡ true → length (takeCounts os t) + gone os t ≡ length t
   unfolding takeCounts gone
   length-taken [] p h = omega arith
@@ -90,11 +93,12 @@ module _ (t : List Row) (s : ascends t ≡ true) (a : above t ≡ true) where
       let k = takeCounts os t in
       let same : totalAt o k ≡ totalAt o t = omega (arith, total-taken o t s os, count-total o os q, alone o os p) in
       let put = length-put (withTotal o (totalAt o k - o .part .bytes)) k (take-ascends t os s) (take-above t os a) in
-      let put′ : length (putTotal (withTotal o (totalAt o t - o .part .bytes)) k) + some (totalAt o t) ≡ length k + some (totalAt o t - o .part .bytes) =
+      let put′ : length (putTotal (withTotal o (totalAt o t - o .part .bytes)) k) + some (totalAt o t)
+      ≡ length k + some (totalAt o t - o .part .bytes) =
       rw (total-same (withTotal o (totalAt o k - o .part .bytes)) o k (self-same o), same) at put in
       rw same (omega (arith, put′, length-taken os q (covered-tail t o os h), left-or-gone (totalAt o t) (o .part .bytes) (covered-first t o os h)))
 
-  module _ (os k : List Row) (sk : ascends k ≡ true) (ak : above k ≡ true) (e : (r : Row) → totalAt r k ≡ totalAt r t - totalAt r os) where
+  module _ (os k : List Row) (sk : ascends k ≡ true) (ak : allPositive k ≡ true) (e : (r : Row) → totalAt r k ≡ totalAt r t - totalAt r os) where
     pub length-made : (ns : List Row) → ascends ns ≡ true → length (addCounts ns k) ≡ length k + made os ns t
     unfolding addCounts made
     length-made [] p = omega arith
@@ -103,12 +107,14 @@ module _ (t : List Row) (s : ascends t ≡ true) (a : above t ≡ true) where
         let m = addCounts ns k in
         let same : totalAt n m ≡ totalAt n t - totalAt n os = omega (arith, e n, total-added n k sk ns, count-total n ns q, alone n ns p) in
         let put = length-put (withTotal n (totalAt n m + n .part .bytes)) m (add-ascends k ns sk) (add-above k ns ak) in
-        let put′ : length (putTotal (withTotal n (totalAt n t - totalAt n os + n .part .bytes)) m) + some (totalAt n t - totalAt n os) ≡ length m + some (totalAt n t - totalAt n os + n .part .bytes) =
+        let put′ : length (putTotal (withTotal n (totalAt n t - totalAt n os + n .part .bytes)) m) + some (totalAt n t - totalAt n os)
+        ≡ length m + some (totalAt n t - totalAt n os + n .part .bytes) =
         rw (total-same (withTotal n (totalAt n m + n .part .bytes)) n m (self-same n), same) at put in
         rw same (omega (arith, put′, length-made ns q, made-or-there (totalAt n t - totalAt n os) (n .part .bytes)))
 
   -- THE ROWS AFTERWARDS ARE THOSE BEFORE, LESS THOSE THAT GO, AND THOSE THAT ARE MADE
-  pub length-replaced : (os ns : List Row) → ascends os ≡ true → ascends ns ≡ true → covered os t ≡ true → length (replacedRows os ns t) + gone os t ≡ length t + made os ns t
+  pub length-replaced : (os ns : List Row) → ascends os ≡ true → ascends ns ≡ true → covered os t ≡ true
+      → length (replacedRows os ns t) + gone os t ≡ length t + made os ns t
   length-replaced os ns p q h =
       let k = takeCounts os t in
       omega (

@@ -10,7 +10,6 @@ pub mod OnlyNamed
 pub mod Commuting
 pub mod Unchanged
 pub mod Reading
-pub mod Only
 pub mod Places
 pub mod Tabled
 pub mod UnderOwner

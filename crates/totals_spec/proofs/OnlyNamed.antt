@@ -6,8 +6,8 @@ use mathlib.Core.Option.{Option}
 use mathlib.Core.List.{List, _++_}
 use native.Mathlib.Omega.{arith}
 use Rattle.records_spec.specs.Flags.{Flags}
-use Rattle.records_spec.specs.Answers.{ok}
 use Rattle.rows_spec.specs.Rows.{Row, ascends}
+use Rattle.records_spec.specs.Outcomes.{ok}
 use Rattle.totals_spec.specs.Table.{properTotals, totalAt}
 use Rattle.totals_spec.specs.Recount.{named}
 use Rattle.totals_spec.specs.Replacing.{replacedRows, replaced}
@@ -33,7 +33,8 @@ module _ (os ns t : List Row) where
       (not-above both t (p .full))
       (λ k. not-total both k (replacedRows os ns t) ∙ go k (names k os) refl (names k ns) refl ∙ sym (not-total both k t))
     where
-      go : (k : Row) (x : Bool) → names k os ≡ x → (y : Bool) → names k ns ≡ y → cond (names k (os ++ ns)) 0 (totalAt k (replacedRows os ns t)) ≡ cond (names k (os ++ ns)) 0 (totalAt k t)
+      go : (k : Row) (x : Bool) → names k os ≡ x → (y : Bool) → names k ns ≡ y
+          → cond (names k (os ++ ns)) 0 (totalAt k (replacedRows os ns t)) ≡ cond (names k (os ++ ns)) 0 (totalAt k t)
       go k true e y f = rw (names-append k os ns, e)
       go k false e true f = rw (names-append k os ns, e, f)
       go k false e false f = ap (cond (names k (os ++ ns)) 0) (total-unnamed (p .rises) k e f)

@@ -14,7 +14,7 @@ use Rattle.rows_spec.specs.declared.order.Order.the-variants.{Less, Equal, Grea
 use Rattle.rows_spec.proofs.Comparing.{less-trans, flipped}
 use Rattle.rows_spec.proofs.Rows.{is-less, asc-before, asc-tail, asc-drop, length-rows, rows-on}
 use Rattle.totals_spec.specs.Table.{totalAt}
-use Rattle.totals_spec.specs.Steps.{placeIn, between, spotIn, Standing}
+use Rattle.totals_spec.specs.Steps.{placeIn, rowsBetween, spotIn, Standing}
 use Rattle.totals_spec.proofs.Totals.{total-none, total-at, total-before}
 
 -- ---- in a list
@@ -69,7 +69,8 @@ module _ (r : Row) where
   total-found [] = refl
   total-found (b ∷ l) = go (compared b r) refl (total-found l)
     where
-      go : (o : Order) → compared b r ≡ o → totalAt r l ≡ totalAt r (drop (placeIn r l) l) → totalAt r (b ∷ l) ≡ totalAt r (drop (placeIn r (b ∷ l)) (b ∷ l))
+      go : (o : Order) → compared b r ≡ o → totalAt r l ≡ totalAt r (drop (placeIn r l) l)
+          → totalAt r (b ∷ l) ≡ totalAt r (drop (placeIn r (b ∷ l)) (b ∷ l))
       go Less e ih = rw (flipped b r Less e, e) ih
       go Equal e ih = rw e
       go Greater e ih = rw e
@@ -77,50 +78,57 @@ module _ (r : Row) where
 -- ---- in tables
 
 module _ {from upto : ℕ} {t : Tables} (s : Standing from upto t) where
-  length-between : length (between from upto t) ≡ upto - from
+  length-between : length (rowsBetween from upto t) ≡ upto - from
   length-between = length-drop from (rowsIn upto t) ∙ rw (length-rows (s .room))
 
-  row-there : (i : ℕ) → from ≤ i → i < upto → drop (i - from) (between from upto t) ≡ rowAt t i ∷ drop (i + 1) (rowsIn upto t)
+  row-there : (i : ℕ) → from ≤ i → i < upto → drop (i - from) (rowsBetween from upto t) ≡ rowAt t i ∷ drop (i + 1) (rowsIn upto t)
   row-there i h k =
       let e : from + (i - from) ≡ i = omega arith in
       drop-drop (i - from) from (rowsIn upto t) ∙ rw e (rows-on (s .room) i k)
 
   module _ (r : Row) where
-    pub found-within : from + placeIn r (between from upto t) ≤ upto
-    found-within = omega (arith, s .within, length-between, place-within r (between from upto t))
+    pub found-within : from + placeIn r (rowsBetween from upto t) ≤ upto
+    found-within = omega (arith, s .within, length-between, place-within r (rowsBetween from upto t))
 
     -- the row at i is below it
-    pub found-past : (i : ℕ) → from ≤ i → i < upto → isLess (compared (rowAt t i) r) ≡ true → i < from + placeIn r (between from upto t)
+    pub found-past : (i : ℕ) → from ≤ i → i < upto → isLess (compared (rowAt t i) r) ≡ true → i < from + placeIn r (rowsBetween from upto t)
     found-past i h k e =
-        omega (arith, place-past r (rowAt t i) _ (between from upto t) (i - from) (s .rises) (row-there i h k) (is-less (compared (rowAt t i) r) e))
+        omega (
+          arith,
+          place-past r (rowAt t i) _ (rowsBetween from upto t) (i - from) (s .rises) (row-there i h k)
+              (is-less (compared (rowAt t i) r) e),
+        )
 
     -- it is not
-    pub found-upto : (i : ℕ) → from ≤ i → i < upto → isLess (compared (rowAt t i) r) ≡ false → from + placeIn r (between from upto t) ≤ i
-    found-upto i h k e = omega (arith, place-upto r (rowAt t i) _ (between from upto t) (i - from) (row-there i h k) e)
+    pub found-upto : (i : ℕ) → from ≤ i → i < upto → isLess (compared (rowAt t i) r) ≡ false → from + placeIn r (rowsBetween from upto t) ≤ i
+    found-upto i h k e = omega (arith, place-upto r (rowAt t i) _ (rowsBetween from upto t) (i - from) (row-there i h k) e)
 
     -- ---- the total at the place
 
-    module _ (p : ℕ) (e : p ≡ from + placeIn r (between from upto t)) where
-      spot : (n : ℕ) → n ≡ totalAt r (between from upto t) → record { place = p; total = n } ≡ spotIn from r (between from upto t)
+    module _ (p : ℕ) (e : p ≡ from + placeIn r (rowsBetween from upto t)) where
+      spot : (n : ℕ) → n ≡ totalAt r (rowsBetween from upto t) → record { place = p; total = n } ≡ spotIn from r (rowsBetween from upto t)
       spot n h = λ i. record { place = e i; total = h i }
 
-      total-there : p < upto → totalAt r (between from upto t) ≡ totalAt r (rowAt t p ∷ drop (p + 1) (rowsIn upto t))
+      total-there : p < upto → totalAt r (rowsBetween from upto t) ≡ totalAt r (rowAt t p ∷ drop (p + 1) (rowsIn upto t))
       total-there k =
-          let q : placeIn r (between from upto t) ≡ p - from = omega arith in
-          total-found r (between from upto t) ∙ rw (q, row-there p (omega arith) k)
+          let q : placeIn r (rowsBetween from upto t) ≡ p - from = omega arith in
+          total-found r (rowsBetween from upto t) ∙ rw (q, row-there p (omega arith) k)
 
-      pub spot-less : p < upto → compared (rowAt t p) r ≡ Less → record { place = p; total = 0 } ≡ spotIn from r (between from upto t)
+      pub spot-less : p < upto → compared (rowAt t p) r ≡ Less → record { place = p; total = 0 } ≡ spotIn from r (rowsBetween from upto t)
       spot-less k h = absurd (omega (arith, found-past p (omega arith) k (ap isLess h)))
 
-      pub spot-equal : p < upto → compared (rowAt t p) r ≡ Equal → record { place = p; total = getD (t .bytes) p 0 } ≡ spotIn from r (between from upto t)
-      spot-equal k h = spot (getD (t .bytes) p 0) (sym (total-there k ∙ total-at r (rowAt t p) (drop (p + 1) (rowsIn upto t)) Equal (flipped (rowAt t p) r Equal h)))
+      pub spot-equal : p < upto → compared (rowAt t p) r ≡ Equal
+          → record { place = p; total = getD (t .bytes) p 0 } ≡ spotIn from r (rowsBetween from upto t)
+      spot-equal k h = spot (getD (t .bytes) p 0)
+          (sym (total-there k ∙ total-at r (rowAt t p) (drop (p + 1) (rowsIn upto t)) Equal (flipped (rowAt t p) r Equal h)))
 
-      pub spot-greater : p < upto → compared (rowAt t p) r ≡ Greater → record { place = p; total = 0 } ≡ spotIn from r (between from upto t)
+      pub spot-greater : p < upto → compared (rowAt t p) r ≡ Greater → record { place = p; total = 0 } ≡ spotIn from r (rowsBetween from upto t)
       spot-greater k h =
-          let a : ascends (rowAt t p ∷ drop (p + 1) (rowsIn upto t)) ≡ true = rw (← row-there p (omega arith) k) (asc-drop (between from upto t) (p - from) (s .rises)) in
+          let a : ascends (rowAt t p ∷ drop (p + 1) (rowsIn upto t))
+          ≡ true = rw (← row-there p (omega arith) k) (asc-drop (rowsBetween from upto t) (p - from) (s .rises)) in
           spot 0 (sym (total-there k ∙ total-before r (rowAt t p ∷ drop (p + 1) (rowsIn upto t)) (flipped (rowAt t p) r Greater h) a))
 
-      pub spot-end : upto ≤ p → record { place = p; total = 0 } ≡ spotIn from r (between from upto t)
+      pub spot-end : upto ≤ p → record { place = p; total = 0 } ≡ spotIn from r (rowsBetween from upto t)
       spot-end k =
-          let l : length (between from upto t) ≤ placeIn r (between from upto t) = omega (arith, length-between) in
-          spot 0 (sym (total-found r (between from upto t) ∙ ap (totalAt r) (drop-of-length-le (between from upto t) l) ∙ total-none r))
+          let l : length (rowsBetween from upto t) ≤ placeIn r (rowsBetween from upto t) = omega (arith, length-between) in
+          spot 0 (sym (total-found r (rowsBetween from upto t) ∙ ap (totalAt r) (drop-of-length-le (rowsBetween from upto t) l) ∙ total-none r))

@@ -9,12 +9,14 @@ use Prim.Native.Nat.{_+_}
 use native.Mathlib.Omega.{arith}
 use lib.Dec.{ltb}
 use Rattle.records_spec.specs.Flags.{Flags}
-use Rattle.records_spec.specs.Answers.{ok, refused}
 use Rattle.rows_spec.specs.Rows.{Row, ascends}
 use Rattle.rows_spec.proofs.Rows.{asc-none}
-use Rattle.totals_spec.specs.Table.{above, properTotals, totalAt}
+use Rattle.records_spec.specs.Outcomes.{refused, ok}
+use Rattle.records_spec.specs.Refusals.{number}
+use Rattle.records_spec.specs.declared.refusal.Refusal.the-variants.{Overflow}
+use Rattle.totals_spec.specs.Table.{allPositive, properTotals, totalAt}
 use Rattle.totals_spec.specs.Recount.{named, recount, countAt, countOver}
-use Rattle.totals_spec.specs.Replacing.{covered, fits, replacedRows, replaced}
+use Rattle.totals_spec.specs.Replacing.{covered, allFit, replacedRows, replaced}
 use Rattle.totals_spec.specs.Theorems.{names}
 use Rattle.totals_spec.proofs.Totals.{total-none, above-none, same-totals}
 use Rattle.totals_spec.proofs.Counts.{add-ascends, add-above, total-added, covers}
@@ -28,7 +30,7 @@ unfolding recount
 recount-ascends [] = asc-none
 recount-ascends (e ∷ es) = add-ascends (recount es) (named e) (recount-ascends es)
 
-pub recount-above : (es : List (Option Flags)) → above (recount es) ≡ true
+pub recount-above : (es : List (Option Flags)) → allPositive (recount es) ≡ true
 unfolding recount
 recount-above [] = above-none
 recount-above (e ∷ es) = add-above (recount es) (named e) (recount-above es)
@@ -94,7 +96,7 @@ module _ (xs ys : List (Option Flags)) (old new : Option Flags) where
   -- THE RECOUNT WITH THE OLD FLAGS BECOMES THE RECOUNT WITH THE NEW; 14 never happens, and 6 only where a total would pass 64 bits
   pub replaced-recount :
       replaced old new (recount (xs ++ (old ∷ ys)))
-      ≡ cond (fits (named old) (named new) (recount (xs ++ (old ∷ ys)))) (ok (recount (xs ++ (new ∷ ys)))) (refused 6)
+      ≡ cond (allFit (named old) (named new) (recount (xs ++ (old ∷ ys)))) (ok (recount (xs ++ (new ∷ ys)))) (refused (number Overflow))
   replaced-recount = rw (recount-covers, recount-replaced)
 
   -- the same of a table that was the recount

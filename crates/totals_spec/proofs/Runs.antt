@@ -9,8 +9,9 @@ use lib.Seq.{length-take-le, take-append-seam, drop-append-add, drop-drop, drop-
 use Rattle.records_spec.specs.Tables.{epochsOf, countsOf, over}
 use Rattle.rows_spec.specs.Rows.{Row, idsOf, partsOf, Tables, rowsIn, overRows, setRow, Room}
 use Rattle.rows_spec.proofs.Rows.{length-rows}
-use Rattle.rows_spec.proofs.Columns.{epochsIn, bytesIn, length-ids, length-epochs, length-bytes, ids-append, epochs-in-append, bytes-in-append, three, columns, as-long-as, take-behind, part, part-rows}
-use Rattle.totals_spec.specs.Steps.{between, movedIn, moved}
+use Rattle.rows_spec.proofs.Columns.{epochsIn, bytesIn, length-ids, length-epochs, length-bytes, ids-append, epochs-in-append, bytes-in-append, three}
+use Rattle.rows_spec.proofs.Columns.{columns, as-long-as, take-behind, part, part-rows}
+use Rattle.totals_spec.specs.Steps.{rowsBetween, movedIn, moved}
 
 -- ---- a column
 
@@ -33,16 +34,20 @@ module _ {A : Type 0} (xs old : List A) where
   part-over k h l = rw (as-long-as xs old l, over-behind k h)
 
 -- what a column of rows gives, row by row
-module _ {A : Type 0} (column : List Row → List A) (long : (rs : List Row) → length (column rs) ≡ length rs) (parts : (rs ss : List Row) → column (rs ++ ss) ≡ column rs ++ column ss) where
+module _ {A : Type 0} (column : List Row → List A) (long : (rs : List Row) → length (column rs) ≡ length rs)
+    (parts : (rs ss : List Row) → column (rs ++ ss) ≡ column rs ++ column ss) where
   column-behind : (k : ℕ) (rs : List Row) → k ≤ length rs → drop k (column rs) ≡ column (drop k rs)
   column-behind k rs h =
-      ap (drop k) (ap column (sym (take-append-drop k rs)) ∙ parts (take k rs) (drop k rs)) ∙ drop-at (column (take k rs)) (column (drop k rs)) k (long (take k rs) ∙ length-take-le k rs h)
+      ap (drop k) (ap column (sym (take-append-drop k rs)) ∙ parts (take k rs) (drop k rs))
+      ∙ drop-at (column (take k rs)) (column (drop k rs)) k (long (take k rs) ∙ length-take-le k rs h)
 
-  put-column : (ws rs : List Row) (old : List A) → length ws + length rs ≤ length old → sets (over (column ws) old) (length ws) (column rs) ≡ over (column (ws ++ rs)) old
+  put-column : (ws rs : List Row) (old : List A) → length ws + length rs ≤ length old
+      → sets (over (column ws) old) (length ws) (column rs) ≡ over (column (ws ++ rs)) old
   put-column ws rs old h =
       rw (parts ws rs, ← long ws) (sets-over (column ws) old (column rs) (omega (arith, long ws, long rs)))
 
-  move-column : (ws rs : List Row) (old : List A) (from upto : ℕ) → column rs ≡ take upto old → length rs ≡ upto → length ws ≤ from → from ≤ upto → upto ≤ length old
+  move-column : (ws rs : List Row) (old : List A) (from upto : ℕ) → column rs ≡ take upto old → length rs ≡ upto → length ws ≤ from → from ≤ upto
+      → upto ≤ length old
       → movedIn from upto (length ws) (over (column ws) old) ≡ over (column (ws ++ drop from rs)) old
   move-column ws rs old from upto e n p q l =
       let same : drop from (take upto (over (column ws) old)) ≡ column (drop from rs) =
@@ -57,7 +62,8 @@ module _ {A : Type 0} (column : List Row → List A) (long : (rs : List Row) →
 
 module _ (ws : List Row) (t : Tables) where
   -- a run from a place behind them is moved up to them
-  pub run-moved : {upto : ℕ} (from : ℕ) → Room upto t → length ws ≤ from → from ≤ upto → moved from upto (length ws) (overRows ws t) ≡ overRows (ws ++ between from upto t) t
+  pub run-moved : {upto : ℕ} (from : ℕ) → Room upto t → length ws ≤ from → from ≤ upto
+      → moved from upto (length ws) (overRows ws t) ≡ overRows (ws ++ rowsBetween from upto t) t
   run-moved {upto} from r p q =
       let c = columns r in
       let n = length-rows r in
@@ -77,7 +83,8 @@ module _ (ws : List Row) (t : Tables) where
 
   module _ (r : Room (length ws) t) where
     -- the tables are as long as they were
-    pub over-even : (length (overRows ws t .ids) ≡ length (t .ids)) × (length (overRows ws t .epochs) ≡ length (t .epochs)) × (length (overRows ws t .bytes) ≡ length (t .bytes))
+    pub over-even : (length (overRows ws t .ids) ≡ length (t .ids)) × (length (overRows ws t .epochs) ≡ length (t .epochs))
+        × (length (overRows ws t .bytes) ≡ length (t .bytes))
     over-even = (
       as-long-as (idsOf ws) (t .ids) (omega (arith, r .ids-long, length-ids ws)),
       as-long-as (epochsIn ws) (t .epochs) (omega (arith, r .epochs-long, length-epochs ws)),
@@ -85,7 +92,7 @@ module _ (ws : List Row) (t : Tables) where
     )
 
     -- and the rows behind as they were
-    pub rows-behind : (from upto : ℕ) → length ws ≤ from → from ≤ upto → between from upto (overRows ws t) ≡ between from upto t
+    pub rows-behind : (from upto : ℕ) → length ws ≤ from → from ≤ upto → rowsBetween from upto (overRows ws t) ≡ rowsBetween from upto t
     rows-behind from upto p q =
         sym (part-rows from upto (overRows ws t) q)
         ∙ ap (rowsIn (upto - from))

@@ -13,7 +13,7 @@ use Rattle.rows_spec.specs.declared.order.Order.{Order}
 use Rattle.rows_spec.specs.declared.order.Order.the-variants.{Less, Equal, Greater}
 use Rattle.rows_spec.proofs.Comparing.{self-same, flipped}
 use Rattle.rows_spec.proofs.Rows.{Before, before-trans, before-same, asc-before, asc-tail}
-use Rattle.totals_spec.specs.Table.{above, totalAt, rowIf, putTotal, withTotal, takeCounts}
+use Rattle.totals_spec.specs.Table.{allPositive, totalAt, rowIf, putTotal, withTotal, takeCounts}
 use Rattle.totals_spec.specs.Replacing.{covered}
 use Rattle.totals_spec.specs.Steps.{placeIn}
 use Rattle.totals_spec.proofs.Totals.{total-none, total-at, total-before, total-same, put-at, put-back}
@@ -30,7 +30,8 @@ module _ (b : Row) (l : List Row) where
   take-past (o ∷ os) h s =
       let g = flipped b o Less h in
       let rest = takeCounts os l in
-      ap (λ (m : List Row). putTotal (withTotal o (totalAt o m - o .part .bytes)) m) (take-past os (before-trans b o os h (asc-before o os s)) (asc-tail o os s))
+      ap (λ (m : List Row). putTotal (withTotal o (totalAt o m - o .part .bytes)) m)
+      (take-past os (before-trans b o os h (asc-before o os s)) (asc-tail o os s))
       ∙ ap (λ (n : ℕ). putTotal (withTotal o (n - o .part .bytes)) (b ∷ rest)) (total-at o b rest Greater g)
       ∙ put-at (withTotal o (totalAt o rest - o .part .bytes)) b rest Greater g
 
@@ -45,7 +46,7 @@ module _ (b : Row) (l : List Row) where
 
 module _ (k : Row) (c : ℕ) (os : List Row) where
   -- nothing is taken
-  pub take-nothing : (l : List Row) → c ≡ 0 → ascends l ≡ true → above l ≡ true → takeCounts (withTotal k c ∷ os) l ≡ takeCounts os l
+  pub take-nothing : (l : List Row) → c ≡ 0 → ascends l ≡ true → allPositive l ≡ true → takeCounts (withTotal k c ∷ os) l ≡ takeCounts os l
   unfolding takeCounts
   take-nothing l z s a =
       let rest = takeCounts os l in
@@ -58,7 +59,8 @@ module _ (k : Row) (c : ℕ) (os : List Row) where
   unfolding takeCounts
   take-first b l e h s =
       let rest = takeCounts os l in
-      ap (λ (m : List Row). putTotal (withTotal k (totalAt (withTotal k c) m - c)) m) (take-past b l os (before-same b k os (flipped k b Equal e) h) s)
+      ap (λ (m : List Row). putTotal (withTotal k (totalAt (withTotal k c) m - c)) m)
+      (take-past b l os (before-same b k os (flipped k b Equal e) h) s)
       ∙ ap (λ (n : ℕ). putTotal (withTotal k (n - c)) (b ∷ rest)) (total-at (withTotal k c) b rest Equal e)
       ∙ put-at (withTotal k (b .part .bytes - c)) b rest Equal e
 
@@ -66,7 +68,8 @@ module _ (k : Row) (c : ℕ) (os : List Row) where
 pub record TakenAt (k : Row) (c : ℕ) (os l : List Row) : Type 0 where
   pub found : placeIn k l < length l
   pub enough : c ≤ totalAt k l
-  pub taken : takeCounts (withTotal k c ∷ os) l ≡ take (placeIn k l) l ++ rowIf (withTotal k (totalAt k l - c)) (takeCounts os (drop (suc (placeIn k l)) l))
+  pub taken : takeCounts (withTotal k c ∷ os) l
+      ≡ take (placeIn k l) l ++ rowIf (withTotal k (totalAt k l - c)) (takeCounts os (drop (suc (placeIn k l)) l))
   pub covers : covered os (drop (suc (placeIn k l)) l) ≡ true
 
 module _ (k : Row) (c : ℕ) (os : List Row) (some : 0 < c) (h : ascends (withTotal k c ∷ os) ≡ true) where

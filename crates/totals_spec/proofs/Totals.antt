@@ -8,11 +8,12 @@ use native.Mathlib.Omega.{arith}
 use lib.Dec.{ltb}
 use borrow.Author.Tests.{ltb-true, ltb-false, lt-ltb}
 use Rattle.rows_spec.specs.Rows.{Row, compared, ascends}
+use Rattle.rows_spec.specs.Order.{isEqual}
 use Rattle.rows_spec.specs.declared.order.Order.{Order}
 use Rattle.rows_spec.specs.declared.order.Order.the-variants.{Less, Equal, Greater}
 use Rattle.rows_spec.proofs.Comparing.{compared-same, self-same, flipped, right-same, left-same, row-same, greater-equal}
 use Rattle.rows_spec.proofs.Rows.{Before, before-trans, before-same, asc-before, asc-tail, asc-cons}
-use Rattle.totals_spec.specs.Table.{above, isEqual, totalAt, rowIf, placed, putTotal, withTotal}
+use Rattle.totals_spec.specs.Table.{allPositive, totalAt, rowIf, putBeside, putTotal, withTotal}
 
 -- ---- the total at a row
 
@@ -34,7 +35,8 @@ total-before k (b ∷ l) h s = total-at k b l Less h ∙ total-before k l (befor
 pub total-same : (a b : Row) (l : List Row) → compared a b ≡ Equal → totalAt a l ≡ totalAt b l
 total-same a b [] h = total-none a ∙ sym (total-none b)
 total-same a b (c ∷ l) h =
-    total-at a c l (compared b c) (left-same c a b h) ∙ ap (cond (isEqual (compared b c)) (c .part .bytes)) (total-same a b l h) ∙ sym (total-at b c l (compared b c) refl)
+    total-at a c l (compared b c) (left-same c a b h) ∙ ap (cond (isEqual (compared b c)) (c .part .bytes)) (total-same a b l h)
+    ∙ sym (total-at b c l (compared b c) refl)
 
 -- no row behind the first is of its pair
 pub total-behind : (k b : Row) (l : List Row) → compared k b ≡ Equal → ascends (b ∷ l) ≡ true → totalAt k l ≡ 0
@@ -42,21 +44,21 @@ total-behind k b l h s = total-before k l (before-same k b l h (asc-before b l s
 
 -- ---- no total is 0
 
-pub above-none : above [] ≡ true
-unfolding above
+pub above-none : allPositive [] ≡ true
+unfolding allPositive
 above-none = refl
 
-pub above-cons : (r : Row) (l : List Row) → 0 < r .part .bytes → above l ≡ true → above (r ∷ l) ≡ true
-unfolding above
+pub above-cons : (r : Row) (l : List Row) → 0 < r .part .bytes → allPositive l ≡ true → allPositive (r ∷ l) ≡ true
+unfolding allPositive
 above-cons r l h s = rw (lt-ltb 0 (r .part .bytes) h) s
 
-pub above-first : (r : Row) (l : List Row) → above (r ∷ l) ≡ true → 0 < r .part .bytes
-unfolding above
-above-first r l h = ltb-true 0 (r .part .bytes) (and-eq-true-iff (ltb 0 (r .part .bytes)) (above l) .0 h .0)
+pub above-first : (r : Row) (l : List Row) → allPositive (r ∷ l) ≡ true → 0 < r .part .bytes
+unfolding allPositive
+above-first r l h = ltb-true 0 (r .part .bytes) (and-eq-true-iff (ltb 0 (r .part .bytes)) (allPositive l) .0 h .0)
 
-pub above-tail : (r : Row) (l : List Row) → above (r ∷ l) ≡ true → above l ≡ true
-unfolding above
-above-tail r l h = and-eq-true-iff (ltb 0 (r .part .bytes)) (above l) .0 h .1
+pub above-tail : (r : Row) (l : List Row) → allPositive (r ∷ l) ≡ true → allPositive l ≡ true
+unfolding allPositive
+above-tail r l h = and-eq-true-iff (ltb 0 (r .part .bytes)) (allPositive l) .0 h .1
 
 -- ---- another total put
 
@@ -73,16 +75,17 @@ unfolding putTotal
 put-none r = refl
 
 -- by how the row stands to the first
-pub put-at : (r b : Row) (l : List Row) (o : Order) → compared r b ≡ o → putTotal r (b ∷ l) ≡ placed o r b l (putTotal r l)
+pub put-at : (r b : Row) (l : List Row) (o : Order) → compared r b ≡ o → putTotal r (b ∷ l) ≡ putBeside o r b l (putTotal r l)
 unfolding putTotal
-put-at r b l o h = ap (λ (p : Order). placed p r b l (putTotal r l)) h
+put-at r b l o h = ap (λ (p : Order). putBeside p r b l (putTotal r l)) h
 
 pub put-cases : (P : List Row → Type 0) (r b : Row) (l : List Row)
-    → (compared r b ≡ Less → P (rowIf r (b ∷ l))) → (compared r b ≡ Equal → P (rowIf r l)) → (compared r b ≡ Greater → P (b ∷ putTotal r l)) → P (putTotal r (b ∷ l))
+    → (compared r b ≡ Less → P (rowIf r (b ∷ l))) → (compared r b ≡ Equal → P (rowIf r l)) → (compared r b ≡ Greater → P (b ∷ putTotal r l))
+    → P (putTotal r (b ∷ l))
 unfolding putTotal
 put-cases P r b l less equal greater = go (compared r b) refl
   where
-    go : (o : Order) → compared r b ≡ o → P (placed o r b l (putTotal r l))
+    go : (o : Order) → compared r b ≡ o → P (putBeside o r b l (putTotal r l))
     go Less e = less e
     go Equal e = equal e
     go Greater e = greater e
@@ -106,22 +109,25 @@ put-ascends r (b ∷ l) s =
     (λ e. if-cases (λ (m : List Row). ascends m ≡ true) r l (λ p. asc-cons r l (before-same r b l e (asc-before b l s)) t) (λ p. t))
     (λ e. asc-cons b (putTotal r l) (before-put b r l (flipped r b Greater e) (asc-before b l s) t) ih)
 
-if-above : (r : Row) (l : List Row) → above l ≡ true → above (rowIf r l) ≡ true
-if-above r l s = if-cases (λ (m : List Row). above m ≡ true) r l (λ p. above-cons r l p s) (λ p. s)
+if-above : (r : Row) (l : List Row) → allPositive l ≡ true → allPositive (rowIf r l) ≡ true
+if-above r l s = if-cases (λ (m : List Row). allPositive m ≡ true) r l (λ p. above-cons r l p s) (λ p. s)
 
 -- and no total is 0
-pub put-above : (r : Row) (l : List Row) → above l ≡ true → above (putTotal r l) ≡ true
+pub put-above : (r : Row) (l : List Row) → allPositive l ≡ true → allPositive (putTotal r l) ≡ true
 put-above r [] s = rw (put-none r) (if-above r [] s)
 put-above r (b ∷ l) s =
     let t = above-tail b l s in
     let ih = put-above r l t in
-    put-cases (λ (m : List Row). above m ≡ true) r b l (λ e. if-above r (b ∷ l) s) (λ e. if-above r l t) (λ e. above-cons b (putTotal r l) (above-first b l s) ih)
+    put-cases (λ (m : List Row). allPositive m ≡ true) r b l (λ e. if-above r (b ∷ l) s) (λ e. if-above r l t)
+    (λ e. above-cons b (putTotal r l) (above-first b l s) ih)
 
 -- ---- the totals afterwards
 
-total-if : (k r : Row) (l : List Row) → (compared k r ≡ Equal → totalAt k l ≡ 0) → totalAt k (rowIf r l) ≡ cond (isEqual (compared k r)) (r .part .bytes) (totalAt k l)
+total-if : (k r : Row) (l : List Row) → (compared k r ≡ Equal → totalAt k l ≡ 0)
+    → totalAt k (rowIf r l) ≡ cond (isEqual (compared k r)) (r .part .bytes) (totalAt k l)
 total-if k r l none =
-    if-cases (λ (m : List Row). totalAt k m ≡ cond (isEqual (compared k r)) (r .part .bytes) (totalAt k l)) r l (λ p. total-at k r l (compared k r) refl) (λ p. go p (compared k r) refl)
+    if-cases (λ (m : List Row). totalAt k m ≡ cond (isEqual (compared k r)) (r .part .bytes) (totalAt k l)) r l
+    (λ p. total-at k r l (compared k r) refl) (λ p. go p (compared k r) refl)
   where
     go : r .part .bytes ≡ 0 → (o : Order) → compared k r ≡ o → totalAt k l ≡ cond (isEqual o) (r .part .bytes) (totalAt k l)
     go p Less e = refl
@@ -129,16 +135,19 @@ total-if k r l none =
     go p Greater e = refl
 
 -- THE TOTAL PUT STANDS AT ITS PAIR, AND EVERY OTHER TOTAL IS THE SAME
-pub total-put : (k r : Row) (l : List Row) → ascends l ≡ true → totalAt k (putTotal r l) ≡ cond (isEqual (compared k r)) (r .part .bytes) (totalAt k l)
+pub total-put : (k r : Row) (l : List Row) → ascends l ≡ true
+    → totalAt k (putTotal r l) ≡ cond (isEqual (compared k r)) (r .part .bytes) (totalAt k l)
 total-put k r [] s = ap (totalAt k) (put-none r) ∙ total-if k r [] (λ e. total-none k)
 total-put k r (b ∷ l) s =
     let ih = total-put k r l (asc-tail b l s) in
     put-cases (λ (m : List Row). totalAt k m ≡ cond (isEqual (compared k r)) (r .part .bytes) (totalAt k (b ∷ l))) r b l
     (λ e. total-if k r (b ∷ l) (λ f. total-before k (b ∷ l) (left-same b k r f ∙ e) s))
     (λ e. total-if k r l (λ f. total-behind k b l (left-same b k r f ∙ e) s) ∙ same (compared k r) e refl)
-    (λ e. total-at k b (putTotal r l) (compared k b) refl ∙ ap (cond (isEqual (compared k b)) (b .part .bytes)) ih ∙ apart (compared k b) (compared k r) e refl refl)
+    (λ e. total-at k b (putTotal r l) (compared k b) refl ∙ ap (cond (isEqual (compared k b)) (b .part .bytes)) ih
+    ∙ apart (compared k b) (compared k r) e refl refl)
   where
-    same : (o : Order) → compared r b ≡ Equal → compared k r ≡ o → cond (isEqual o) (r .part .bytes) (totalAt k l) ≡ cond (isEqual o) (r .part .bytes) (totalAt k (b ∷ l))
+    same : (o : Order) → compared r b ≡ Equal → compared k r ≡ o
+        → cond (isEqual o) (r .part .bytes) (totalAt k l) ≡ cond (isEqual o) (r .part .bytes) (totalAt k (b ∷ l))
     same Less e f = sym (total-at k b l Less (sym (right-same k r b e) ∙ f))
     same Equal e f = refl
     same Greater e f = sym (total-at k b l Greater (sym (right-same k r b e) ∙ f))
@@ -156,7 +165,7 @@ total-put k r (b ∷ l) s =
     apart Greater Greater e f g = sym (total-at k b l Greater f)
 
 -- a total put back where it stands changes nothing
-pub put-back : (r : Row) (l : List Row) → ascends l ≡ true → above l ≡ true → putTotal (withTotal r (totalAt r l)) l ≡ l
+pub put-back : (r : Row) (l : List Row) → ascends l ≡ true → allPositive l ≡ true → putTotal (withTotal r (totalAt r l)) l ≡ l
 put-back r [] s a = ap (λ (n : ℕ). putTotal (withTotal r n) []) (total-none r) ∙ put-none (withTotal r 0)
 put-back r (b ∷ l) s a = go (compared r b) refl (put-back r l (asc-tail b l s) (above-tail b l a))
   where
@@ -166,11 +175,13 @@ put-back r (b ∷ l) s a = go (compared r b) refl (put-back r l (asc-tail b l s)
         ap (λ (n : ℕ). putTotal (withTotal r n) (b ∷ l)) (total-at r b l Equal e) ∙ put-at (withTotal r (b .part .bytes)) b l Equal e
         ∙ rw (lt-ltb 0 (b .part .bytes) (above-first b l a)) (ap (λ (x : Row). x ∷ l) (row-same r b _ _ e refl))
     go Greater e ih =
-        ap (λ (n : ℕ). putTotal (withTotal r n) (b ∷ l)) (total-at r b l Greater e) ∙ put-at (withTotal r (totalAt r l)) b l Greater e ∙ ap (λ (m : List Row). b ∷ m) ih
+        ap (λ (n : ℕ). putTotal (withTotal r n) (b ∷ l)) (total-at r b l Greater e) ∙ put-at (withTotal r (totalAt r l)) b l Greater e
+        ∙ ap (λ (m : List Row). b ∷ m) ih
 
 -- ---- the totals tell the table
 
-module _ (x y : Row) (a b : List Row) (s : ascends (x ∷ a) ≡ true) (t : ascends (y ∷ b) ≡ true) (e : compared x y ≡ Equal) (same : (k : Row) → totalAt k (x ∷ a) ≡ totalAt k (y ∷ b)) where
+module _ (x y : Row) (a b : List Row) (s : ascends (x ∷ a) ≡ true) (t : ascends (y ∷ b) ≡ true) (e : compared x y ≡ Equal)
+    (same : (k : Row) → totalAt k (x ∷ a) ≡ totalAt k (y ∷ b)) where
   first-same : x ≡ y
   first-same =
       let p = compared-same x y e in
@@ -192,11 +203,12 @@ module _ (x y : Row) (a b : List Row) (s : ascends (x ∷ a) ≡ true) (t : asce
       go Greater f = on Greater f refl
 
 -- a row that is before a table is not its first
-not-first : (x : Row) (a b : List Row) → above (x ∷ a) ≡ true → Before x b → ascends b ≡ true → totalAt x (x ∷ a) ≡ totalAt x b → ⊥
+not-first : (x : Row) (a b : List Row) → allPositive (x ∷ a) ≡ true → Before x b → ascends b ≡ true → totalAt x (x ∷ a) ≡ totalAt x b → ⊥
 not-first x a b f h t e = omega (arith, above-first x a f, total-at x x a Equal (self-same x), total-before x b h t)
 
 -- TABLES WITH THE SAME TOTALS ARE THE SAME
-pub same-totals : (a b : List Row) → ascends a ≡ true → above a ≡ true → ascends b ≡ true → above b ≡ true → ((k : Row) → totalAt k a ≡ totalAt k b) → a ≡ b
+pub same-totals : (a b : List Row) → ascends a ≡ true → allPositive a ≡ true → ascends b ≡ true → allPositive b ≡ true
+    → ((k : Row) → totalAt k a ≡ totalAt k b) → a ≡ b
 same-totals [] [] s f t g same = refl
 same-totals [] (y ∷ b) s f t g same = absurd (not-first y b [] g tt s (sym (same y)))
 same-totals (x ∷ a) [] s f t g same = absurd (not-first x a [] f tt t (same x))

@@ -14,13 +14,13 @@ use Rattle.records_spec.specs.Flags.{same}
 use Rattle.records_spec.proofs.Owners.{same-self, same-equal}
 use Rattle.records_spec.proofs.Tables.{length-recordsOf, epochs-records}
 use Rattle.records_spec.proofs.Unions.{record-on, table-end}
-use Rattle.rows_spec.specs.Order.{by}
+use Rattle.rows_spec.specs.Order.{by, isEqual}
 use Rattle.rows_spec.specs.Rows.{Row, row, compared, ascends, rowsUnder}
 use Rattle.rows_spec.specs.declared.order.Order.{Order}
 use Rattle.rows_spec.specs.declared.order.Order.the-variants.{Less, Equal, Greater}
 use Rattle.rows_spec.proofs.Comparing.{compared-under, compared-same, by-less, by-greater, by-next}
 use Rattle.rows_spec.proofs.Under.{under-none, under-cons, length-under, asc-under}
-use Rattle.totals_spec.specs.Table.{isEqual, totalAt}
+use Rattle.totals_spec.specs.Table.{totalAt}
 use Rattle.totals_spec.specs.Steps.{under}
 
 drop-under : (o : List ℕ) (i : ℕ) (rs : List At) → drop i (rowsUnder o rs) ≡ rowsUnder o (drop i rs)
@@ -36,7 +36,8 @@ module _ (o : List ℕ) {es cs : List ℕ} (t : Table es cs) where
       ∙ ap (λ (l : List Row). row o (getD es i 0) (getD cs i 0) ∷ l) (sym (drop-under o (i + 1) (recordsOf es cs)))
 
   -- the first i: the row at the last of their places comes behind the others
-  pub under-last : (i : ℕ) → 0 < i → i ≤ length es → take i (under o es cs) ≡ take (i - 1) (under o es cs) ++ (row o (getD es (i - 1) 0) (getD cs (i - 1) 0) ∷ [])
+  pub under-last : (i : ℕ) → 0 < i → i ≤ length es
+      → take i (under o es cs) ≡ take (i - 1) (under o es cs) ++ (row o (getD es (i - 1) 0) (getD cs (i - 1) 0) ∷ [])
   under-last i p h =
       let e : i ≡ i - 1 + 1 = omega arith in
       ap (λ (k : ℕ). take k (under o es cs)) e ∙ take-add (i - 1) 1 (under o es cs)
@@ -69,7 +70,8 @@ total-under : (o : List ℕ) (e n : ℕ) (rs : List At) → totalAt (row o e n) 
 unfolding rowsUnder held totalAt
 total-under o e n [] = refl
 total-under o e n (r ∷ rs) =
-    let q : isEqual (compared (row o e n) (row o (r .epoch) (r .bytes))) ≡ eqb e (r .epoch) = ap isEqual (compared-under o e (r .epoch) n (r .bytes)) ∙ equal-by e (r .epoch) in
+    let q : isEqual (compared (row o e n) (row o (r .epoch) (r .bytes))) ≡ eqb e (r .epoch) = ap isEqual (compared-under o e (r .epoch) n (r .bytes))
+    ∙ equal-by e (r .epoch) in
     rw (q, total-under o e n rs)
 
 not-equal : (a b : Row) → (a .identifier ≡ b .identifier → ⊥) → (o : Order) → compared a b ≡ o → isEqual o ≡ false

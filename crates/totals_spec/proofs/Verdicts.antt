@@ -7,11 +7,13 @@ use Prim.Native.Nat.{ℕ, _+_, _-_, _≤_}
 use native.Mathlib.Omega.{arith}
 use lib.Dec.{ltb, eqb}
 use lib.ListN.{length}
-use Rattle.records_spec.specs.Answers.{ok, refused}
 use Rattle.records_spec.proofs.Answers.{refused-not-ok}
 use Rattle.rows_spec.specs.Rows.{Row, ascends}
-use Rattle.totals_spec.specs.Table.{above, totalAt}
-use Rattle.totals_spec.specs.Replacing.{covered, fits, replacedRows, changed}
+use Rattle.records_spec.specs.Outcomes.{refused, ok}
+use Rattle.records_spec.specs.Refusals.{number}
+use Rattle.records_spec.specs.declared.refusal.Refusal.the-variants.{Overflow, IndexMismatch}
+use Rattle.totals_spec.specs.Table.{allPositive, totalAt}
+use Rattle.totals_spec.specs.Replacing.{covered, allFit, replacedRows, changed}
 use Rattle.totals_spec.specs.Steps.{gone, made, judgedOld, judgedNew, countedRows}
 use Rattle.totals_spec.proofs.Lengths.{one-most, length-taken, length-replaced}
 
@@ -34,28 +36,25 @@ made-most os (n ∷ ns) t = omega (arith, one-most (ltb 0 (n .part .bytes) && eq
 
 module _ (os ns t : List Row) where
   -- the old counts are not held
-  pub verdict-14 : refused 14 ≡ judgedOld os t → refused 14 ≡ countedRows (changed os ns t)
-  verdict-14 h = rw (told-refused (covered os t) 14 (gone os t) 14 h .0)
-
-  -- nothing else is told of them
-  pub old-never : refused 6 ≡ judgedOld os t → ⊥
-  old-never h = omega (arith, told-refused (covered os t) 6 (gone os t) 14 h .1)
+  pub verdict-old : (k : ℕ) → refused k ≡ judgedOld os t → refused k ≡ countedRows (changed os ns t)
+  verdict-old k h =
+      let r = told-refused (covered os t) k (gone os t) (number IndexMismatch) h in
+      rw (r .0, r .1)
 
   module _ {g : ℕ} (old : ok g ≡ judgedOld os t) where
     pub verdict-covered : covered os t ≡ true
-    verdict-covered = told-ok (covered os t) g (gone os t) 14 old .0
+    verdict-covered = told-ok (covered os t) g (gone os t) (number IndexMismatch) old .0
 
     -- the new ones do not fit
-    pub verdict-6 : refused 6 ≡ judgedNew os ns t → refused 6 ≡ countedRows (changed os ns t)
-    verdict-6 h = rw (verdict-covered, told-refused (fits os ns t) 6 (made os ns t) 6 h .0)
+    pub verdict-new : (k : ℕ) → refused k ≡ judgedNew os ns t → refused k ≡ countedRows (changed os ns t)
+    verdict-new k h =
+        let r = told-refused (allFit os ns t) k (made os ns t) (number Overflow) h in
+        rw (verdict-covered, r .0, r .1)
 
-    pub new-never : refused 14 ≡ judgedNew os ns t → ⊥
-    new-never h = omega (arith, told-refused (fits os ns t) 14 (made os ns t) 6 h .1)
-
-    module _ (s : ascends t ≡ true) (a : above t ≡ true) (p : ascends os ≡ true) (q : ascends ns ≡ true) where
+    module _ (s : ascends t ≡ true) (a : allPositive t ≡ true) (p : ascends os ≡ true) (q : ascends ns ≡ true) where
       -- no more rows go than there are
       pub gone-most : g ≤ length t
-      gone-most = omega (arith, told-ok (covered os t) g (gone os t) 14 old .1, length-taken t s a os p verdict-covered)
+      gone-most = omega (arith, told-ok (covered os t) g (gone os t) (number IndexMismatch) old .1, length-taken t s a os p verdict-covered)
 
       pub verdict-rows : {m : ℕ} → ok m ≡ judgedNew os ns t → ok (length t - g + m) ≡ countedRows (changed os ns t)
       verdict-rows {m} h =
@@ -63,11 +62,11 @@ module _ (os ns t : List Row) where
           omega (
             arith,
             gone-most,
-            told-ok (covered os t) g (gone os t) 14 old .1,
-            told-ok (fits os ns t) m (made os ns t) 6 h .1,
+            told-ok (covered os t) g (gone os t) (number IndexMismatch) old .1,
+            told-ok (allFit os ns t) m (made os ns t) (number Overflow) h .1,
             length-replaced t s a os ns p q verdict-covered,
           ) in
-          rw (verdict-covered, told-ok (fits os ns t) m (made os ns t) 6 h .0, n)
+          rw (verdict-covered, told-ok (allFit os ns t) m (made os ns t) (number Overflow) h .0, n)
 
   pub made-within : {m : ℕ} → ok m ≡ judgedNew os ns t → m ≤ length ns
-  made-within {m} h = omega (arith, told-ok (fits os ns t) m (made os ns t) 6 h .1, made-most os ns t)
+  made-within {m} h = omega (arith, told-ok (allFit os ns t) m (made os ns t) (number Overflow) h .1, made-most os ns t)

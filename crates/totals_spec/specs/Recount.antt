@@ -6,7 +6,8 @@ use mathlib.Core.Option.{Option, none, some}
 use mathlib.Core.List.{List, [], _∷_}
 use Rattle.records_spec.specs.Flags.{Flags, idOf}
 use Rattle.rows_spec.specs.Rows.{Row, compared, rowsUnder}
-use Rattle.totals_spec.specs.Table.{isEqual, addCounts}
+use Rattle.rows_spec.specs.Order.{isEqual}
+use Rattle.totals_spec.specs.Table.{addCounts}
 
 -- the rows that flags name: their records under their owner, unowned under 32 zero bytes; none where flags are absent
 abbrev pub named : Option Flags → List Row

@@ -7,18 +7,17 @@ use mathlib.Core.List.{List, [], _∷_}
 use lib.Dec.{ltb, eqb}
 use lib.ListN.{length, take, drop}
 use lib.Seq.{sets}
-use Rattle.records_spec.specs.Answers.{Answer, ok, refused}
 use Rattle.records_spec.specs.Flags.{zeros, idOf, ownerOf}
 use Rattle.records_spec.specs.Tables.{recordsOf}
+use Rattle.records_spec.specs.Outcomes.{Answer, ok, _unless_, _>>_, _>>=_}
+use Rattle.records_spec.specs.declared.refusal.Refusal.the-variants.{Overflow, IndexMismatch}
 use Rattle.records_spec.specs.declared.head.Head.{Head}
 use Rattle.rows_spec.specs.Order.{isLess}
 use Rattle.rows_spec.specs.Rows.{Row, compared, ascends, Tables, tables, rowsIn, rowsUnder, Room}
-use Rattle.totals_spec.specs.Table.{above, totalAt}
-use Rattle.totals_spec.specs.Replacing.{covered, fits}
+use Rattle.totals_spec.specs.Table.{allPositive, totalAt}
+use Rattle.totals_spec.specs.Replacing.{covered, allFit}
 use Rattle.totals_spec.specs.declared.finding.Spot.{Spot}
 use Rattle.totals_spec.specs.declared.replacing.Named.{Named}
-use Rattle.totals_spec.specs.declared.judging.Judged.{Judged}
-use Rattle.totals_spec.specs.declared.judging.Judged.the-variants.{Mismatch, TooLarge, Number}
 
 -- the rows of records under an owner
 abbrev pub under : List ℕ → List ℕ → List ℕ → List Row
@@ -32,15 +31,15 @@ placeIn r [] = 0
 placeIn r (b ∷ bs) = cond (isLess (compared b r)) (suc (placeIn r bs)) 0
 
 -- the rows from one place up to another
-abbrev pub between : ℕ → ℕ → Tables → List Row
-between from upto t = drop from (rowsIn upto t)
+abbrev pub rowsBetween : ℕ → ℕ → Tables → List Row
+rowsBetween from upto t = drop from (rowsIn upto t)
 
 -- the rows from one place up to another stand in the tables, ascend, and no total is 0
 pub record Standing (from upto : ℕ) (t : Tables) : Type 0 where
   pub within : from ≤ upto
   pub room : Room upto t
-  pub rises : ascends (between from upto t) ≡ true
-  pub full : above (between from upto t) ≡ true
+  pub rises : ascends (rowsBetween from upto t) ≡ true
+  pub full : allPositive (rowsBetween from upto t) ≡ true
 
 -- the place of a row among those from a place on, and the total there
 abbrev pub spotIn : ℕ → Row → List Row → Spot
@@ -58,24 +57,23 @@ unfoldable pub made : List Row → List Row → List Row → ℕ
 made os [] t = 0
 made os (n ∷ ns) t = cond (ltb 0 (n .part .bytes) && eqb (totalAt n t - totalAt n os) 0) 1 0 + made os ns t
 
--- what the code judged
-abbrev pub judged : Judged → Answer ℕ
-judged Mismatch = refused 14
-judged TooLarge = refused 6
-judged (Number n) = ok n
-
--- 14, or the rows that go
+-- the rows that go, where the old counts are held
 abbrev pub judgedOld : List Row → List Row → Answer ℕ
-judgedOld os t = cond (covered os t) (ok (gone os t)) (refused 14)
+judgedOld os t = do
+  IndexMismatch unless covered os t
+  ok (gone os t)
 
--- 6, or the rows that are made
+-- the rows that are made, where the new counts fit
 abbrev pub judgedNew : List Row → List Row → List Row → Answer ℕ
-judgedNew os ns t = cond (fits os ns t) (ok (made os ns t)) (refused 6)
+judgedNew os ns t = do
+  Overflow unless allFit os ns t
+  ok (made os ns t)
 
 -- the number of rows that an answer has
 abbrev pub countedRows : Answer (List Row) → Answer ℕ
-countedRows (ok rs) = ok (length rs)
-countedRows (refused n) = refused n
+countedRows x = do
+  rs ← x
+  ok (length rs)
 
 -- what flags name, as the code has it
 abbrev pub namedBy : Bool → Head → Named

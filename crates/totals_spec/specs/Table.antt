@@ -1,27 +1,22 @@
 -- The table of totals: document 02 (vii). A row is an owner, an epoch and a total; rows ascend by owner, then epoch, no pair twice, no total 0.
 -- Assumes nothing.
 use Prim.Native.Nat.{ℕ, _+_, _-_}
-use mathlib.Core.Bool.{Bool, true, false, cond, _&&_}
+use mathlib.Core.Bool.{Bool, true, cond, _&&_}
 use mathlib.Core.List.{List, [], _∷_}
 use lib.Dec.{ltb}
 use Rattle.rows_spec.specs.Rows.{Row, row, compared, ascends}
+use Rattle.rows_spec.specs.Order.{isEqual}
 use Rattle.rows_spec.specs.declared.order.Order.{Order}
 use Rattle.rows_spec.specs.declared.order.Order.the-variants.{Less, Equal, Greater}
 
 -- no total is 0
-unfoldable pub above : List Row → Bool
-above [] = true
-above (r ∷ rs) = ltb 0 (r .part .bytes) && above rs
+unfoldable pub allPositive : List Row → Bool
+allPositive [] = true
+allPositive (r ∷ rs) = ltb 0 (r .part .bytes) && allPositive rs
 
 -- proper: ascending, no pair twice, no total 0
 abbrev pub properTotals : List Row → Bool
-properTotals rs = ascends rs && above rs
-
--- whether two rows are of one pair
-abbrev pub isEqual : Order → Bool
-isEqual Less = false
-isEqual Equal = true
-isEqual Greater = false
+properTotals rs = ascends rs && allPositive rs
 
 -- the total at a row's owner and epoch; 0 where there is no row
 unfoldable pub totalAt : Row → List Row → ℕ
@@ -33,15 +28,15 @@ abbrev pub rowIf : Row → List Row → List Row
 rowIf r rest = cond (ltb 0 (r .part .bytes)) (r ∷ rest) rest
 
 -- a row against the first of others: before it, in its place, or among those behind it
-abbrev pub placed : Order → Row → Row → List Row → List Row → List Row
-placed Less r first others more = rowIf r (first ∷ others)
-placed Equal r first others more = rowIf r others
-placed Greater r first others more = first ∷ more
+abbrev pub putBeside : Order → Row → Row → List Row → List Row → List Row
+putBeside Less r first others more = rowIf r (first ∷ others)
+putBeside Equal r first others more = rowIf r others
+putBeside Greater r first others more = first ∷ more
 
 -- the table with another total at a row's owner and epoch; no row where it is 0
 unfoldable pub putTotal : Row → List Row → List Row
 putTotal r [] = rowIf r []
-putTotal r (b ∷ bs) = placed (compared r b) r b bs (putTotal r bs)
+putTotal r (b ∷ bs) = putBeside (compared r b) r b bs (putTotal r bs)
 
 -- the row with another total
 abbrev pub withTotal : Row → ℕ → Row

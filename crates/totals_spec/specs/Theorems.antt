@@ -7,7 +7,8 @@ use mathlib.Core.List.{List, [], _∷_}
 use Rattle.records_spec.specs.Tables.{epochsOf, rising}
 use Rattle.records_spec.specs.Flags.{Flags}
 use Rattle.rows_spec.specs.Rows.{Row, compared}
-use Rattle.totals_spec.specs.Table.{isEqual, totalAt}
+use Rattle.rows_spec.specs.Order.{isEqual}
+use Rattle.totals_spec.specs.Table.{totalAt}
 use Rattle.totals_spec.specs.Replacing.{largestTotal}
 
 -- whether one of some rows is of a row's owner and epoch

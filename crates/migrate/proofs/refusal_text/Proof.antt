@@ -1,17 +1,19 @@
 -- `migrate::refusal_text` meets its contract: a line of a word and a number has room, and stands at the start. Assumes nothing.
+use Rattle.io.specs.Counts.{Counts}
 use Prim.Native.Nat.{ℕ, _≤_}
 use native.Mathlib.Omega.{arith}
 use mathlib.Core.Path.{_≡_, ap, _∙_}
 use mathlib.Core.List.{List}
 use borrow.Author.Needs.{needs}
 use lib.ListN.{length, take}
-use Rattle.io.specs.Counts.{Counts}
 use Rattle.fields_spec.specs.Writing.{Put}
 use Rattle.fields_spec.proofs.Parts.{put-long}
 use Rattle.records_spec.proofs.Tables.{over-first, over-sets}
 use Rattle.records_spec.specs.Refusals.{number}
-use Rattle.listing_spec.specs.Text.{ascii, line}
-use Rattle.listing_spec.proofs.Bounds.{short-number, number-below}
+use Rattle.listing_spec.specs.Text.{ascii, wordLine}
+use Rattle.records_spec.proofs.Only.{number-below}
+use Rattle.listing_spec.proofs.Bounds.{short-number}
+use Rattle.records_spec.specs.Outcomes.{refused}
 use Rattle.migrate.proofs.refusal_text.Statement.{statement}
 use Rattle.migrate.proofs.refusal_text.Tie as tie
 
@@ -23,7 +25,7 @@ at-start xs old new n h p =
     ((l, omega (arith, p .behind, ap length t)), t)
 
 -- the line has room
-short : (c : tie.Start) → length (line "refused " (number (c .args .refusal))) ≤ length (c .args .out .now)
+short : (c : tie.Start) → length (wordLine "refused " (number (c .args .refusal))) ≤ length (c .args .out .now)
 short c = omega (arith, short-number (ascii "refused ") 1 (number (c .args .refusal)) (number-below (c .args .refusal)), c .pre)
 
 put-line-requires : tie.Need-put-line-requires
@@ -35,7 +37,7 @@ returns : tie.Need-returns
 returns c =
     let s = c .before .before .before .before .before .before .before in
     let n = c .before .before .before .number .ensures in
-    at-start (line "refused " (number (s .args .refusal))) _ _ _ (short s) (rw n at (c .before .before .put-line .ensures))
+    at-start (wordLine "refused " (number (s .args .refusal))) _ _ _ (short s) (rw n at (c .before .before .put-line .ensures))
 
 pub refusal-text-spec : {M : Type 1} → statement M
 refusal-text-spec =

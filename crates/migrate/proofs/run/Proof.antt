@@ -1,6 +1,6 @@
 -- `migrate::run` is safe: the bytes that are repaired are within what was lent for reading. Assumes nothing.
-use borrow.Author.Needs.{needs}
 use Rattle.io.specs.Counts.{Counts}
+use borrow.Author.Needs.{needs}
 use Rattle.migrate.proofs.run.Statement.{statement}
 use Rattle.migrate.proofs.run.Tie as tie
 

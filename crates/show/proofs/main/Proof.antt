@@ -1,6 +1,6 @@
 -- `show::main` is safe: the bytes that are listed are within what was lent for reading. Assumes nothing.
-use borrow.Author.Needs.{needs}
 use Rattle.io.specs.Counts.{Counts}
+use borrow.Author.Needs.{needs}
 use Rattle.show.proofs.main.Statement.{statement}
 use Rattle.show.proofs.main.Tie as tie
 

@@ -1,27 +1,28 @@
 -- `show::text_of` meets its contract: the text has room, so `list` counts it and does not refuse. Assumes nothing.
+use Rattle.io.specs.Counts.{Counts}
 use Prim.Native.Nat.{ℕ, _≤_}
 use native.Mathlib.Omega.{arith}
 use mathlib.Core.Path.{_≡_, sym, ap, _∙_}
 use mathlib.Core.List.{List}
 use lib.ListN.{length, take}
 use borrow.Author.Needs.{needs}
-use Rattle.io.specs.Counts.{Counts}
 use Rattle.records_spec.specs.Tables.{over}
-use Rattle.records_spec.specs.Answers.{wrote, writing}
+use Rattle.records_spec.specs.Answers.{writing, counted}
+use Rattle.records_spec.specs.Outcomes.{after}
 use Rattle.records_spec.specs.declared.answer.Counted.{Counted}
 use Rattle.records_spec.specs.declared.answer.Counted.the-variants.{Count, Refused}
 use Rattle.records_spec.proofs.Tables.{over-first, over-holds}
 use Rattle.records_spec.proofs.Answers.{writing-fits}
-use Rattle.records_spec.proofs.Only.{wrote-only}
+use Rattle.records_spec.proofs.Only.{left-only, countedAs, counted-back}
 use Rattle.listing_spec.specs.Listed.{listed}
 use Rattle.listing_spec.proofs.Bounds.{listed-fits}
 use Rattle.show.proofs.text_of.Statement.{statement}
 use Rattle.show.proofs.text_of.Tie as tie
 
 -- a text that has room is counted, and stands at the start
-module _ (r : Counted) (xs old new : List ℕ) (fits : length xs ≤ length old) (e : wrote r new ≡ writing xs old) where
+module _ (r : Counted) (xs old new : List ℕ) (fits : length xs ≤ length old) (e : after (counted r) new ≡ writing xs old) where
   is-written : (r ≡ Count (length xs)) × (new ≡ over xs old)
-  is-written = wrote-only r (Count (length xs)) new (over xs old) (writing xs old) e (sym (writing-fits xs old fits))
+  is-written = left-only counted countedAs counted-back r (Count (length xs)) new (over xs old) (writing xs old) e (sym (writing-fits xs old fits))
 
   at-start : (n : ℕ) → n ≡ length xs → Counts n new × (take n new ≡ xs)
   at-start n h =

@@ -1,7 +1,7 @@
 -- `capi::heads::petasunok_base_epoch` meets its contract: the call's own number is told, or 11. Assumes nothing.
 use mathlib.Core.Path.{refl, sym, ap, _∙_}
 use Prim.Native.Nat.{ℕ}
-use Rattle.records_spec.specs.Answers.{ok}
+use Rattle.records_spec.specs.Outcomes.{ok}
 use Rattle.capi_spec.proofs.Telling.{when-true, when-false}
 use Rattle.capi_spec.specs.Told.{countTold}
 use borrow.Author.Needs.{needs}

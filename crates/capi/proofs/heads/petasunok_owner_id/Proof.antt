@@ -1,6 +1,6 @@
 -- `capi::heads::petasunok_owner_id` meets its contract: the call's own owner is told, or 11. Assumes nothing.
 use mathlib.Core.Path.{refl, sym, ap, _∙_}
-use Rattle.records_spec.specs.Answers.{ok}
+use Rattle.records_spec.specs.Outcomes.{ok}
 use Rattle.records_spec.specs.declared.head.MaybeOwner.{MaybeOwner}
 use Rattle.capi_spec.proofs.Telling.{when-true, when-false}
 use Rattle.capi_spec.specs.Told.{ownerIdTold}

@@ -1,4 +1,5 @@
 -- `capi::reading::petasunok_deserialize_single_epoch` meets its contract: the call's own answer is told. Assumes nothing.
+use Rattle.records_spec.specs.Flags.{lending}
 use Rattle.capi_spec.proofs.Telling.{flags-told}
 use borrow.Author.Needs.{needs}
 use Rattle.capi.proofs.reading.petasunok_deserialize_single_epoch.Statement.{statement}
@@ -7,7 +8,7 @@ use Rattle.capi.proofs.reading.petasunok_deserialize_single_epoch.Tie a
 returns : tie.Need-returns
 returns c =
     let at-deserialize-single-epoch = c .before .before .before .before .before in
-    flags-told _ (at-deserialize-single-epoch .deserialize-single-epoch .result) _ _ _ (c .flags .ensures)
+    flags-told _ (at-deserialize-single-epoch .deserialize-single-epoch .result) (lending _ _) _ (c .flags .ensures)
     (at-deserialize-single-epoch .deserialize-single-epoch .ensures)
 
 pub petasunok-deserialize-single-epoch-spec : {M : Type 1} → statement M

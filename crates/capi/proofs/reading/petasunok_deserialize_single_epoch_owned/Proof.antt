@@ -1,4 +1,5 @@
 -- `capi::reading::petasunok_deserialize_single_epoch_owned` meets its contract: the call's own answer is told. Assumes nothing.
+use Rattle.records_spec.specs.Flags.{lending}
 use Rattle.capi_spec.proofs.Telling.{flags-told}
 use borrow.Author.Needs.{needs}
 use Rattle.capi.proofs.reading.petasunok_deserialize_single_epoch_owned.Statement.{statement}
@@ -7,7 +8,7 @@ use Rattle.capi.proofs.reading.petasunok_deserialize_single_epoch_owned
 returns : tie.Need-returns
 returns c =
     let at-deserialize-single-epoch-owned = c .before .before .before .before .before in
-    flags-told _ (at-deserialize-single-epoch-owned .deserialize-single-epoch-owned .result) _ _ _ (c .flags .ensures)
+    flags-told _ (at-deserialize-single-epoch-owned .deserialize-single-epoch-owned .result) (lending _ _) _ (c .flags .ensures)
     (at-deserialize-single-epoch-owned .deserialize-single-epoch-owned .ensures)
 
 pub petasunok-deserialize-single-epoch-owned-spec : {M : Type 1} → statement M

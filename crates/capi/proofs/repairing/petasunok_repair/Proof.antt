@@ -1,5 +1,7 @@
 -- `capi::repairing::petasunok_repair` meets its contract: the call's own answer is told. Assumes nothing.
-use Rattle.capi_spec.proofs.Telling.{repair-told}
+use Rattle.repair_spec.specs.Calls.{repairLent, toldRepair}
+use Rattle.capi_spec.specs.Told.{repairAnswer}
+use Rattle.capi_spec.proofs.Telling.{told-as}
 use borrow.Author.Needs.{needs}
 use Rattle.capi.proofs.repairing.petasunok_repair.Statement.{statement}
 use Rattle.capi.proofs.repairing.petasunok_repair.Tie as tie
@@ -7,7 +9,7 @@ use Rattle.capi.proofs.repairing.petasunok_repair.Tie as tie
 returns : tie.Need-returns
 returns c =
     let at-repair = c .before .before .before .before .before .before .before in
-    repair-told _ (at-repair .repair .result) _ _ _ _ (c .repaired .ensures) (at-repair .repair .ensures)
+    told-as repairAnswer _ (toldRepair (at-repair .repair .result)) (repairLent _ _ _) _ (c .repaired .ensures) (at-repair .repair .ensures)
 
 pub petasunok-repair-spec : {M : Type 1} → statement M
 petasunok-repair-spec =

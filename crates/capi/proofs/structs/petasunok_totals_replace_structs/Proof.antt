@@ -44,16 +44,20 @@ use denote.Triple.Spec.{Meets, tripleOf}
 use denote.Triple.Table.{entered, cited}
 use denote.Triple.Walked.{says, Stays, gave-slice, stay-dropped, walkOf, goes-gave-slice, goes-dropped, Walks, ends-at, walked, walk-meets}
 use denote.Exit.{yes}
-use Rattle.records_spec.specs.Answers.{refused}
+use Rattle.records_spec.specs.Refusals.{number}
+use Rattle.records_spec.specs.Outcomes.{after, refused}
+use Rattle.records_spec.specs.Answers.{counted}
+use Rattle.records_spec.specs.declared.refusal.Refusal.the-variants.{BadTable}
+use Rattle.records_spec.specs.Flags.{holding}
 use Rattle.records_spec.specs.declared.head.Head.{Head}
 use Rattle.records_spec.proofs.head.Head as HT
 use Rattle.records_spec.proofs.head.Head.Laws as HT′
 use Rattle.rows_spec.specs.Rows.{Tables, tables}
-use Rattle.totals_spec.specs.Calls.{told, given, properGiven}
-use Rattle.totals_spec.specs.declared.replacing.Replaced.{Replaced}
-use Rattle.totals_spec.proofs.replacing.Replaced as R
-use Rattle.totals_spec.proofs.replacing.Replaced.Laws as R′
-use Rattle.totals_index_spec.specs.Calls.{After, shown, replacingStructs}
+use Rattle.totals_spec.specs.Calls.{given, properGiven}
+use Rattle.records_spec.specs.declared.answer.Counted.{Counted}
+use Rattle.records_spec.proofs.answer.Counted as R
+use Rattle.records_spec.proofs.answer.Counted.Laws as R′
+use Rattle.totals_index_spec.specs.Calls.{StructsAfter, replacingStructs, beside}
 use Rattle.totals_index_spec.specs.declared.structs.Total.{Total}
 use Rattle.totals_index_spec.proofs.structs.Total as T
 use Rattle.totals_index_spec.proofs.Walks.{Id, holds, fails}
@@ -61,8 +65,8 @@ use Rattle.totals_index.proofs.replace as replaces
 use Rattle.totals_index.proofs.replace.Symbol as replaces-def
 use Rattle.totals_index.proofs.replace.Symbol.{name as #replaces}
 use Rattle.totals_index.proofs.replace.Met as replaces-thm
-use Rattle.capi_spec.specs.Given.{isTrue, headGiven, canReplace}
-use Rattle.capi_spec.specs.Told.{countTold, structsLeft, structsTold}
+use Rattle.capi_spec.specs.Given.{isTrue, headGiven, canReplace, holdingC}
+use Rattle.capi_spec.specs.Told.{countTold, toldAs}
 use Rattle.capi_spec.specs.Calls.{structsReplacedC}
 use Rattle.capi_spec.specs.declared.types.CHead.{CHead}
 use Rattle.capi_spec.specs.declared.types.CCount.{CCount}
@@ -70,7 +74,7 @@ use Rattle.capi_spec.proofs.types.CHead as CT
 use Rattle.capi_spec.proofs.types.CHead.Laws as CT′
 use Rattle.capi_spec.proofs.types.CCount as NT
 use Rattle.capi_spec.proofs.types.CCount.Laws as NT′
-use Rattle.capi_spec.proofs.Telling.{when-true, when-false, structs-told}
+use Rattle.capi_spec.proofs.Telling.{when-true, when-false, told-as}
 use Rattle.capi_spec.proofs.Walking.{or-else, hears, gives-up}
 use Rattle.capi_given.proofs.can_replace as tests
 use Rattle.capi_given.proofs.can_replace.Symbol as tests-def
@@ -84,10 +88,10 @@ use Rattle.capi_given.proofs.head as heads
 use Rattle.capi_given.proofs.head.Symbol as heads-def
 use Rattle.capi_given.proofs.head.Symbol.{name as #heads}
 use Rattle.capi_given.proofs.head.Met as heads-thm
-use Rattle.capi_told.proofs.replaced as tells
-use Rattle.capi_told.proofs.replaced.Symbol as tells-def
-use Rattle.capi_told.proofs.replaced.Symbol.{name as #tells}
-use Rattle.capi_told.proofs.replaced.Met as tells-thm
+use Rattle.capi_told.proofs.count as tells
+use Rattle.capi_told.proofs.count.Symbol as tells-def
+use Rattle.capi_told.proofs.count.Symbol.{name as #tells}
+use Rattle.capi_told.proofs.count.Met as tells-thm
 use Rattle.capi_told.proofs.bad_table as bad
 use Rattle.capi_told.proofs.bad_table.Symbol as bad-def
 use Rattle.capi_told.proofs.bad_table.Symbol.{name as #bad}
@@ -217,30 +221,30 @@ module _ {M : Type 1} (𝓤 : URA M) (H : Heap 𝓤) (A : Atoms 𝓤) (W : Given
   abbrev work : Tables
   work = tables os es us
 
-  abbrev done-with : Bool → Head → Bool → Head → After
-  done-with p₁ g₁ p₂ g₂ = replacingStructs n ys work (properGiven p₁ g₁ (x₅ .now) (x₆ .now) && properGiven p₂ g₂ (x₇ .now) (x₈ .now))
-      (given p₁ g₁ (x₅ .now) (x₆ .now)) (given p₂ g₂ (x₇ .now) (x₈ .now))
+  abbrev done-with : Bool → Head → Bool → Head → StructsAfter
+  done-with p₁ g₁ p₂ g₂ = replacingStructs n ys work (properGiven p₁ (holding g₁ (x₅ .now) (x₆ .now)) && properGiven p₂ (holding g₂ (x₇ .now) (x₈ .now)))
+      (given p₁ (holding g₁ (x₅ .now) (x₆ .now))) (given p₂ (holding g₂ (x₇ .now) (x₈ .now)))
 
-  abbrev answer : After
-  answer = structsReplacedC n ys work m₁ h₁ (x₅ .now) (x₆ .now) m₂ h₂ (x₇ .now) (x₈ .now)
+  abbrev answer : StructsAfter
+  answer = structsReplacedC n ys work m₁ (holdingC h₁ (x₅ .now) (x₆ .now)) m₂ (holdingC h₂ (x₇ .now) (x₈ .now))
 
   all-said : (t : Bool) → t ≡ canReplace m₁ h₁ m₂ h₂ → Holds t → (p₁ : Bool) → p₁ ≡ isTrue m₁ → (g₁ : Head) → g₁ ≡ headGiven h₁ → (p₂ : Bool) → p₂
       ≡ isTrue m₂ → (g₂ : Head) → g₂ ≡ headGiven h₂
-      → (r : Replaced) (j : CCount) (ts : List Total) (w : Tables) → shown r ts w ≡ done-with p₁ g₁ p₂ g₂ → j ≡ countTold (told r) →
-      structsLeft j ts w ≡ structsTold answer
+      → (r : Counted) (j : CCount) (ts : List Total) (w : Tables) → after (counted r) (beside ts w) ≡ done-with p₁ g₁ p₂ g₂ → j ≡ countTold (counted r) →
+      after j (beside ts w) ≡ toldAs countTold answer
   all-said t e held p₁ e₁ g₁ f₁ p₂ e₂ g₂ f₂ r j ts w said e₃ =
-      let as-given : shown r ts w ≡ done-with (isTrue m₁) (headGiven h₁) (isTrue m₂) (headGiven h₂) =
+      let as-given : after (counted r) (beside ts w) ≡ done-with (isTrue m₁) (headGiven h₁) (isTrue m₂) (headGiven h₂) =
       said
       ∙ ap (λ (p : Bool). done-with p g₁ p₂ g₂) e₁
       ∙ ap (λ (g : Head). done-with (isTrue m₁) g p₂ g₂) f₁
       ∙ ap (λ (p : Bool). done-with (isTrue m₁) (headGiven h₁) p g₂) e₂
       ∙ ap (done-with (isTrue m₁) (headGiven h₁) (isTrue m₂)) f₂ in
-      structs-told j r ts w answer e₃ (when-true _ _ _ (sym e ∙ holds t held) as-given)
+      told-as countTold j (counted r) (beside ts w) answer e₃ (when-true _ _ _ (sym e ∙ holds t held) as-given)
 
-  refusal-said : (t : Bool) → t ≡ canReplace m₁ h₁ m₂ h₂ → Holds (not t) → (j : CCount) → j ≡ countTold (refused 11) → structsLeft j ys work
-      ≡ structsTold answer
-  refusal-said t e failed j f = ap (λ (z : CCount). structsLeft z ys work) f
-      ∙ ap structsTold (when-false _ _ _ (sym e ∙ fails t (λ h. T-not t failed h)) refl)
+  refusal-said : (t : Bool) → t ≡ canReplace m₁ h₁ m₂ h₂ → Holds (not t) → (j : CCount) → j ≡ countTold (refused (number BadTable)) → after j (beside ys work)
+      ≡ toldAs countTold answer
+  refusal-said t e failed j f = ap (λ (z : CCount). after z (beside ys work)) f
+      ∙ ap (toldAs countTold) (when-false _ _ _ (sym e ∙ fails t (λ h. T-not t failed h)) refl)
 
   module _ (j : CCount) (w : Val) (ts′ : List Total) (os′ : List (List ℕ)) (es′ us′ : List ℕ) (len₁ : length ts′ ≡ length ys)
       (len₂ : length os′ ≡ length os) (len₃ : length es′ ≡ length es) (len₄ : length us′ ≡ length us) where
@@ -248,7 +252,7 @@ module _ {M : Type 1} (𝓤 : URA M) (H : Heap 𝓤) (A : Atoms 𝓤) (W : Given
     Left = raw (alive 𝓤 H A replace-for-c.signature κs qs) ∷ ‵ (finally T.the-row γ₁ ts′) ∷ ‵ (finally Id γ₂ os′) ∷ ‵ (finally u16 γ₃ es′)
         ∷ ‵ (finally u64 γ₄ us′) ∷ ‵ (NT.the-row .own j (w ∷ [])) ∷ []
 
-    exits : structsLeft j ts′ (tables os′ es′ us′) ≡ structsTold answer → ent 𝓤 (⋆ 𝓤 H A Left) (Post w)
+    exits : after j (beside ts′ (tables os′ es′ us′)) ≡ toldAs countTold answer → ent 𝓤 (⋆ 𝓤 H A Left) (Post w)
     exits said =
         qed W Left ∵
         suffices ! _ (ends-at 𝓤 H A replace-for-c.ended stayed (replace-for-c.clauses 𝓤 H A mem run) W ((κs, qs, tt, a, at), tt) w j
@@ -307,10 +311,10 @@ module _ {M : Type 1} (𝓤 : URA M) (H : Heap 𝓤) (A : Atoms 𝓤) (W : Given
     goes-replaces : ent 𝓤 (⋆ 𝓤 H A (raw (alive 𝓤 H A replaces.signature κs qs) ∷ ‵ replaces-owns ∷ [])) (Replaces 𝓤 H A mem run .pre to-replaces)
     goes-replaces = qed W (raw (alive 𝓤 H A replaces.signature κs qs) ∷ ‵ replaces-owns ∷ []) ∵ join ! $ frame ! $ done !
 
-  abbrev to-tells : Replaced → Val → Tells 𝓤 H A mem run .Ghost
+  abbrev to-tells : Counted → Val → Tells 𝓤 H A mem run .Ghost
   to-tells r v = ((tt, tt, tt, (r, tt), (v ∷ [], tt)), tt)
 
-  goes-tells : (r : Replaced) (v : Val) → Is R.the-row r (v ∷ []) → ent 𝓤 (⋆ 𝓤 H A (‵ ftrue ∷ [])) (Tells 𝓤 H A mem run .pre (to-tells r v))
+  goes-tells : (r : Counted) (v : Val) → Is R.the-row r (v ∷ []) → ent 𝓤 (⋆ 𝓤 H A (‵ ftrue ∷ [])) (Tells 𝓤 H A mem run .pre (to-tells r v))
   goes-tells r v is = qed W (‵ ftrue ∷ []) ∵ owned ! R.the-row (Is R.the-row) (EL.makes R.the-type R′.the-plain 𝓤 H A) r (v ∷ []) is $ fjoin ! $
       nothing ! $ join ! $ frame ! $ done !
 
@@ -334,13 +338,13 @@ module _ {M : Type 1} (𝓤 : URA M) (H : Heap 𝓤) (A : Atoms 𝓤) (W : Given
   headed h v = later (some (λ (g : Head). (‵ ftrue ⊛ ‵ (HT.the-row .own g (v ∷ []))) ⊛ some (λ (ws : Unit {0} × Unit {0}).
       ‵ (lasts heads.ended tt (h, tt) ws) ⊛ raw (fact 𝓤 (g ≡ headGiven h)))))
 
-  abbrev counted : Replaced → Val → Item 𝓤
-  counted r v = later (some (λ (j : CCount). (‵ ftrue ⊛ ‵ (NT.the-row .own j (v ∷ []))) ⊛ some (λ (ws : Unit {0} × Unit {0}).
-      ‵ (lasts tells.ended tt (r, tt) ws) ⊛ raw (fact 𝓤 (j ≡ countTold (told r))))))
+  abbrev as-told : Counted → Val → Item 𝓤
+  as-told r v = later (some (λ (j : CCount). (‵ ftrue ⊛ ‵ (NT.the-row .own j (v ∷ []))) ⊛ some (λ (ws : Unit {0} × Unit {0}).
+      ‵ (lasts tells.ended tt (r, tt) ws) ⊛ raw (fact 𝓤 (j ≡ countTold (counted r))))))
 
   abbrev refused-as-bad : Val → Item 𝓤
   refused-as-bad v = later (some (λ (j : CCount). (‵ ftrue ⊛ ‵ (NT.the-row .own j (v ∷ []))) ⊛ some (λ (ws : Unit {0}). ‵ (lasts bad.ended tt tt ws)
-      ⊛ raw (fact 𝓤 (j ≡ countTold (refused 11))))))
+      ⊛ raw (fact 𝓤 (j ≡ countTold (refused (number BadTable)))))))
 
   -- ---- the code
   module _ (C : Calls 𝓤 H) (Λ : Loops 𝓤 H) (fm : FmC 𝓤 H (W .laws) C) (known-tests : Triple 𝓤 (C #tests) (Tests 𝓤 H A mem run))
@@ -436,7 +440,7 @@ module _ {M : Type 1} (𝓤 : URA M) (H : Heap 𝓤) (A : Atoms 𝓤) (W : Given
         (and-then ! (load ! (from ! (stop !)) (look ! 1 refl))
         (and-then ! (load ! (from ! (stop !)) (look ! 31 refl)) (and-then ! (load ! (from ! (stop !)) (look ! 29 refl)) (no-more !))))))))))))))
         (λ v₃.
-        use1 W (later (some (λ (r : Replaced). (raw (alive 𝓤 H A replaces.signature κs qs) ⊛ ‵ (R.the-row .own r (v₃ ∷ [])))
+        use1 W (later (some (λ (r : Counted). (raw (alive 𝓤 H A replaces.signature κs qs) ⊛ ‵ (R.the-row .own r (v₃ ∷ [])))
         ⊛ raw (ensured 𝓤 H A replaces.ended (replaces.clauses 𝓤 H A mem run) κs (replaces-args p₁ g₁ p₂ g₂) tt r)))) (id⊢ 𝓤 _) $
         await ! tt $ pick ! (λ r. split ! $
         move ! (1 ∷ []) $
@@ -444,9 +448,9 @@ module _ {M : Type 1} (𝓤 : URA M) (H : Heap 𝓤) (A : Atoms 𝓤) (W : Given
         × (List (List ℕ) × (List ℕ × (List ℕ × (Unit {0}
         × (Unit {0} × (Unit {0} × (Unit {0} × (Unit {0} × (Unit {0} × (Unit {0} × (Unit {0} × Unit {0}))))))))))))).
         ‵ (lasts replaces.ended κs (replaces-args p₁ g₁ p₂ g₂) ws)
-        ⊛ raw (fact 𝓤 (shown r (ws .1 .0) (tables (ws .1 .1 .0) (ws .1 .1 .1 .0) (ws .1 .1 .1 .1 .0)) ≡ done-with p₁ g₁ p₂ g₂)))) (id⊢ 𝓤 _) $
+        ⊛ raw (fact 𝓤 (after (counted r) (beside (ws .1 .0) (tables (ws .1 .1 .0) (ws .1 .1 .1 .0) (ws .1 .1 .1 .1 .0))) ≡ done-with p₁ g₁ p₂ g₂)))) (id⊢ 𝓤 _) $
         pick ! (λ ws. split ! $
-        move ! (1 ∷ []) $ heard ! (shown r (ws .1 .0) (tables (ws .1 .1 .0) (ws .1 .1 .1 .0) (ws .1 .1 .1 .1 .0)) ≡ done-with p₁ g₁ p₂ g₂) (λ said.
+        move ! (1 ∷ []) $ heard ! (after (counted r) (beside (ws .1 .0) (tables (ws .1 .1 .0) (ws .1 .1 .1 .0) (ws .1 .1 .1 .1 .0))) ≡ done-with p₁ g₁ p₂ g₂) (λ said.
         fsplit ! $ drop ! $ fsplit ! $ fsplit ! $ move ! (1 ∷ []) $ feqL ! (λ len₁. move ! (1 ∷ []) $ fsplit ! $ fsplit ! $ move ! (1 ∷ []) $
         feqL ! (λ len₂. move ! (1 ∷ []) $ fsplit ! $
         fsplit ! $ move ! (1 ∷ []) $ feqL ! (λ len₃. move ! (1 ∷ []) $ fsplit ! $ fsplit ! $ move ! (1 ∷ []) $ feqL ! (λ len₄. move ! (1 ∷ []) $
@@ -456,7 +460,7 @@ module _ {M : Type 1} (𝓤 : URA M) (H : Heap 𝓤) (A : Atoms 𝓤) (W : Given
         drop ! $
         nothing ! $ use1 W (raw (Tells 𝓤 H A mem run .pre (to-tells r v₃))) (goes-tells r v₃ k₃) $
         calls-at ! fm (Tells 𝓤 H A mem run) known-tells (to-tells r v₃) (and-then ! (load ! (from ! (stop !)) (look ! 30 refl)) (no-more !)) (λ z.
-        use1 W (counted r z) (id⊢ 𝓤 _) $ hears W NT.the-row z tt (λ j e₃ k₄.
+        use1 W (as-told r z) (id⊢ 𝓤 _) $ hears W NT.the-row z tt (λ j e₃ k₄.
         land ! (from ! (stop !)) (init ! 60 refl (LL.lawful NT.the-type NT′.the-laws 𝓤 H A W .typed j _ k₄ .0)) $
         returns-within ! Post refl (look ! 60 refl) $
         forget ! 60 refl $ forget ! 58 refl $ forget ! 56 refl $ forget ! 54 refl $ forget ! 52 refl $ forget ! 50 refl $ forget ! 48 refl $
@@ -569,5 +573,5 @@ petasunok-totals-replace-structs-spec 𝓤 H 𝓜 𝓖 𝓡 =
     (cited 𝓤 H (Heads 𝓤 H (𝓖 .A) (𝓜 .mem) (𝓡 .run)) 𝓜 𝓡 code.env #heads heads-def.routine code.calls-capi-given·head (heads-thm.met 𝓤 H 𝓜 𝓖 𝓡))
     (cited 𝓤 H (Replaces 𝓤 H (𝓖 .A) (𝓜 .mem) (𝓡 .run)) 𝓜 𝓡 code.env #replaces replaces-def.routine code.calls-totals-index·replace
     (replaces-thm.met 𝓤 H 𝓜 𝓖 𝓡))
-    (cited 𝓤 H (Tells 𝓤 H (𝓖 .A) (𝓜 .mem) (𝓡 .run)) 𝓜 𝓡 code.env #tells tells-def.routine code.calls-capi-told·replaced (tells-thm.met 𝓤 H 𝓜 𝓖 𝓡))
+    (cited 𝓤 H (Tells 𝓤 H (𝓖 .A) (𝓜 .mem) (𝓡 .run)) 𝓜 𝓡 code.env #tells tells-def.routine code.calls-capi-told·count (tells-thm.met 𝓤 H 𝓜 𝓖 𝓡))
     (cited 𝓤 H (Bad 𝓤 H (𝓖 .A) (𝓜 .mem) (𝓡 .run)) 𝓜 𝓡 code.env #bad bad-def.routine code.calls-capi-told·bad-table (bad-thm.met 𝓤 H 𝓜 𝓖 𝓡)))

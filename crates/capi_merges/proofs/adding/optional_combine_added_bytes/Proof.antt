@@ -3,6 +3,7 @@ use mathlib.Core.Path.{_∙_}
 use Rattle.capi_spec.proofs.Telling.{when-true, flags-told, flags-bad}
 use Rattle.capi_spec.proofs.Testing.{merges}
 use borrow.Author.Needs.{needs}
+use Rattle.records_spec.specs.Flags.{lending}
 use Rattle.capi_merges.proofs.adding.optional_combine_added_bytes.Statement.{statement}
 use Rattle.capi_merges.proofs.adding.optional_combine_added_bytes.Tie as tie
 
@@ -16,7 +17,7 @@ returns c =
     let a = start .args in
     let t = merges (a .present) (a .ours) (a .theirs) (a .strategy) (at-start .is-true .ensures) (at-if1 .before .can-merge .ensures)
     (at-if1 .if1 .taken) in
-    flags-told _ (at-call .optional-combine-added-bytes .result) _ _ _ (c .flags .ensures)
+    flags-told _ (at-call .optional-combine-added-bytes .result) (lending _ _) _ (c .flags .ensures)
     (when-true _ _ _ t (at-call .optional-combine-added-bytes .ensures ∙ simp (
       at-start .is-true .ensures,
       at-strategy .before .before .head .ensures,
@@ -32,7 +33,7 @@ returns-2 c =
     let a = start .args in
     let f = merges (a .present) (a .ours) (a .theirs) (a .strategy) (at-start .is-true .ensures) (at-if1 .before .can-merge .ensures)
     (at-if1 .if1 .left) in
-    flags-bad _ _ _ _ _ (c .bad-flags .ensures) f
+    flags-bad _ (lending _ _) _ _ (c .bad-flags .ensures) f
 
 pub optional-combine-added-bytes-spec : {M : Type 1} → statement M
 optional-combine-added-bytes-spec =

@@ -2,6 +2,7 @@
 use mathlib.Core.Path.{sym, _∙_}
 use Rattle.capi_spec.proofs.Telling.{when-true, flags-told, flags-bad}
 use borrow.Author.Needs.{needs}
+use Rattle.records_spec.specs.Flags.{lending}
 use Rattle.capi_merges.proofs.removing.combine_removed_bytes.Statement.{statement}
 use Rattle.capi_merges.proofs.removing.combine_removed_bytes.Tie as tie
 
@@ -10,7 +11,7 @@ returns c =
     let at-call = c .before .before .before .before .before in
     let at-strategy = at-call .before .before .before in
     let at-if1 = at-strategy .before .before .before .before in
-    flags-told _ (at-call .combine-removed-bytes .result) _ _ _ (c .flags .ensures)
+    flags-told _ (at-call .combine-removed-bytes .result) (lending _ _) _ (c .flags .ensures)
     (when-true _ _ _ (sym (at-if1 .before .can-remove .ensures) ∙ at-if1 .if1 .taken) (at-call .combine-removed-bytes .ensures ∙ simp (
       at-strategy .before .before .before .head .ensures,
       at-strategy .before .before .head2 .ensures,
@@ -19,7 +20,7 @@ returns c =
     )))
 
 returns-2 : tie.Need-returns-2
-returns-2 c = flags-bad _ _ _ _ _ (c .bad-flags .ensures) (sym (c .before .before .can-remove .ensures) ∙ c .before .if1 .left)
+returns-2 c = flags-bad _ (lending _ _) _ _ (c .bad-flags .ensures) (sym (c .before .before .can-remove .ensures) ∙ c .before .if1 .left)
 
 pub combine-removed-bytes-spec : {M : Type 1} → statement M
 combine-removed-bytes-spec =

@@ -4,6 +4,7 @@ use Rattle.capi_spec.proofs.Telling.{when-true, flags-told, flags-bad}
 use Rattle.capi_spec.proofs.Testing.{removes}
 use Rattle.capi_spec.specs.Given.{isRemoval}
 use borrow.Author.Needs.{needs}
+use Rattle.records_spec.specs.Flags.{lending}
 use Rattle.capi_merges.proofs.removing.optional_combine_removed_bytes.Statement.{statement}
 use Rattle.capi_merges.proofs.removing.optional_combine_removed_bytes.Tie as tie
 
@@ -17,7 +18,7 @@ returns c =
     let a = start .args in
     let t = removes (a .present) (a .ours) (a .theirs) (a .strategy) (isRemoval (a .removal .kind)) (at-start .is-true .ensures)
     (at-if1 .before .can-remove .ensures) (at-if1 .if1 .taken) in
-    flags-told _ (at-call .optional-combine-removed-bytes .result) _ _ _ (c .flags .ensures)
+    flags-told _ (at-call .optional-combine-removed-bytes .result) (lending _ _) _ (c .flags .ensures)
     (when-true _ _ _ t (at-call .optional-combine-removed-bytes .ensures ∙ simp (
       at-start .is-true .ensures,
       at-strategy .before .before .before .head .ensures,
@@ -34,7 +35,7 @@ returns-2 c =
     let a = start .args in
     let f = removes (a .present) (a .ours) (a .theirs) (a .strategy) (isRemoval (a .removal .kind)) (at-start .is-true .ensures)
     (at-if1 .before .can-remove .ensures) (at-if1 .if1 .left) in
-    flags-bad _ _ _ _ _ (c .bad-flags .ensures) f
+    flags-bad _ (lending _ _) _ _ (c .bad-flags .ensures) f
 
 pub optional-combine-removed-bytes-spec : {M : Type 1} → statement M
 optional-combine-removed-bytes-spec =

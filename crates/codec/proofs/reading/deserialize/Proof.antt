@@ -1,7 +1,8 @@
 -- `codec::reading::deserialize` meets its contract: byte 0 names the kind by which the bytes are read. Assumes nothing.
 use mathlib.Core.Path.{sym, ap, _∙_}
 use native.Mathlib.Omega.{arith}
-use Rattle.records_spec.specs.Answers.{after}
+use Rattle.records_spec.specs.Flags.{lending}
+use Rattle.records_spec.specs.Answers.{placingIf}
 use Rattle.records_spec.specs.declared.head.KindByte.{KindByte}
 use Rattle.codec_spec.specs.Reading.{Read, readByte, read}
 use Rattle.codec_spec.specs.Calls.{answer}
@@ -28,7 +29,7 @@ returns-2 c =
     let a = start .args in
     let d = a .src .now in
     at-read-as .read-as .ensures
-    ∙ ap (λ (x : Read). after (answer x) (a .epochs .now) (a .counts .now))
+    ∙ ap (λ (x : Read). placingIf (answer x) (lending (a .epochs .now) (a .counts .now)))
     (sym (read-by-byte d (omega (arith, at-if1 .if1 .left)) ∙ ap (λ (b : KindByte). readByte b d)
     (sym (at-kind-of-byte .kind-of-byte .ensures) ∙ at-kind .kind .given .1)))
 

@@ -4,10 +4,10 @@ use mathlib.Core.List.{[]}
 use native.Mathlib.Omega.{arith}
 use borrow.Author.Needs.{needs}
 use lib.ListN.{length}
-use Rattle.records_spec.specs.Flags.{flags}
-use Rattle.records_spec.specs.Answers.{after}
+use Rattle.records_spec.specs.Flags.{flags, lending}
 use Rattle.records_spec.proofs.Tables.{filling-start, filling-done}
-use Rattle.records_spec.proofs.Answers.{placed-left}
+use Rattle.records_spec.proofs.Answers.{placing-some, placed-left}
+use Rattle.records_spec.specs.Answers.{placingIf}
 use Rattle.codec_spec.specs.Reading.{Read, baseIn, ownerIn, readAs}
 use Rattle.codec_spec.specs.Calls.{answer}
 use Rattle.codec_spec.proofs.Readings.{single-right, single-wrong, agrees-single}
@@ -25,9 +25,10 @@ returns c = λ es cs.
     let s = c .before .before .before .before .before in
     let k = s .args .kind in
     let d = s .args .src .now in
-    placed-left (c .present .result) es cs (flags (baseIn k d) (ownerIn k d) []) _ 0 es cs (c .present .ensures) (c .before .head-in .ensures)
+    placed-left (c .present .result) (lending es cs) (flags (baseIn k d) (ownerIn k d) []) _ 0 es cs (c .present .ensures) (c .before .head-in .ensures)
     (filling-done (filling-start [] 0 es cs) refl) (omega arith) (omega arith)
-    ∙ sym (ap (λ (x : Read). after (answer x) es cs)
+    ∙ sym (placing-some (flags (baseIn k d) (ownerIn k d) []) (lending es cs))
+    ∙ sym (ap (λ (x : Read). placingIf (answer x) (lending es cs))
     (single-right k d (s .pre) (c .before .before .if1 .taken ∙ c .before .before .before .head-size .ensures)))
 
 returns-2 : tie.Need-returns-2

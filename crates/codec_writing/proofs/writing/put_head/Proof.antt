@@ -2,7 +2,7 @@
 -- Assumes nothing.
 use Rattle.fields_spec.specs.Big.{big}
 use Rattle.fields_spec.proofs.Bigs.{length-big}
-use Rattle.fields_spec.proofs.Parts.{put-long}
+use Rattle.fields_spec.proofs.Parts.{put-long, Parts, parts-put, parts-last, parts-room}
 use Rattle.codec_spec.proofs.Sizing.{length-head}
 use Rattle.codec_spec.proofs.Writings.{head-part}
 use mathlib.Core.Path.{_≡_, refl, sym, _∙_}
@@ -15,7 +15,6 @@ use lib.ListN.{length, length-set}
 use Rattle.records_spec.specs.declared.head.Head.{Head}
 use Rattle.records_spec.specs.Flags.{owned, ownerOf}
 use Rattle.codec_spec.specs.Bytes.{headBytes}
-use Rattle.fields_spec.proofs.Parts.{Parts, parts-put, parts-last, parts-room}
 use borrow.Author.Needs.{needs}
 use Rattle.codec_writing.proofs.writing.put_head.Statement.{statement}
 use Rattle.codec_writing.proofs.writing.put_head.Tie as tie

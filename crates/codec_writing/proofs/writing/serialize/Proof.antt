@@ -9,7 +9,7 @@ use lib.ListN.{length, take}
 use Rattle.fields_spec.specs.Writing.{Put}
 use Rattle.fields_spec.proofs.Parts.{parts-start, parts-put, parts-last, put-long}
 use Rattle.records_spec.specs.declared.head.Head.{Head}
-use Rattle.records_spec.specs.Flags.{flagsOf, ownerOf, proper}
+use Rattle.records_spec.specs.Flags.{flagsOf, ownerOf, proper, holding}
 use Rattle.records_spec.proofs.Proper.{IsProper, proper-inv}
 use Rattle.records_spec.proofs.Answers.{writing-short}
 use Rattle.codec_spec.specs.Bytes.{bytesOf}
@@ -38,9 +38,9 @@ module _ (c : tie.Then1) where
   out = start .args .out .now
 
   abbrev bytes : List ℕ
-  bytes = bytesOf (flagsOf head es cs)
+  bytes = bytesOf (flagsOf (holding head es cs))
 
-  abbrev told : proper head es cs ≡ true
+  abbrev told : proper (holding head es cs) ≡ true
   told = sym (c .before .is-proper .ensures) ∙ c .if1 .taken
 
   right : IsProper head es cs
@@ -106,7 +106,7 @@ returns c =
     let r = roomy (headed w) in
     let n = length-flags (head g) (es g) (cs g) (right g) in
     put-written (bytes g) (out g) _ _ (put w) (omega (arith, n, fits r, sized (r .before) .head-bytes-size .ensures .0))
-    ∙ sym (serialized-proper (head g) (es g) (cs g) (out g) (told g))
+    ∙ sym (serialized-proper (holding (head g) (es g) (cs g)) (out g) (told g))
 
 returns-2 : tie.Need-returns-2
 returns-2 c =
@@ -114,14 +114,14 @@ returns-2 c =
     let g = good f in
     let n = length-flags (head g) (es g) (cs g) (right g) in
     let m = leb-false (size f) (length (out g)) (sym (f .fit .ensures) ∙ c .if2 .left) in
-    sym (serialized-proper (head g) (es g) (cs g) (out g) (told g)
+    sym (serialized-proper (holding (head g) (es g) (cs g)) (out g) (told g)
     ∙ writing-short (bytes g) (out g) (omega (arith, n, m, sized f .head-bytes-size .ensures .0)))
 
 returns-3 : tie.Need-returns-3
 returns-3 c =
     let s = c .before .before .before .before .before in
     let a = s .args in
-    sym (serialized-improper (a .head) (a .epochs .now) (a .counts .now) (a .out .now) (sym (c .before .is-proper .ensures) ∙ c .if1 .left))
+    sym (serialized-improper (holding (a .head) (a .epochs .now) (a .counts .now)) (a .out .now) (sym (c .before .is-proper .ensures) ∙ c .if1 .left))
 
 pub serialize-spec : {M : Type 1} → statement M
 serialize-spec =

@@ -2,6 +2,7 @@
 use mathlib.Core.Path.{sym, _∙_}
 use borrow.Author.Needs.{needs}
 use Rattle.records_spec.proofs.Answers.{refused-left}
+use Rattle.records_spec.specs.Flags.{lending}
 use Rattle.flags_spec.proofs.Merging.{combined-proper, combined-theirs-bad, combined-ours-bad}
 use Rattle.flags.proofs.adding.combine_added_bytes.Statement.{statement}
 use Rattle.flags.proofs.adding.combine_added_bytes.Tie as tie
@@ -14,16 +15,16 @@ returns c =
     let at-if1 = at-is-proper2 .before in
     let at-is-proper = at-if1 .before in
     at-combine-proper .combine-proper .ensures
-    ∙ sym (combined-proper _ _ _ _ _ _ _ _ _ _ (sym (at-is-proper .is-proper .ensures) ∙ at-if1 .if1 .taken)
+    ∙ sym (combined-proper _ _ _ _ _ (sym (at-is-proper .is-proper .ensures) ∙ at-if1 .if1 .taken)
     (sym (at-is-proper2 .is-proper2 .ensures) ∙ at-if2 .if2 .taken))
 
 returns-2 : tie.Need-returns-2
-returns-2 c = refused-left _ _ _ _ (c .refused .ensures)
-    ∙ sym (combined-theirs-bad _ _ _ _ _ _ _ _ _ _ (sym (c .before .before .is-proper2 .ensures) ∙ c .before .if2 .left))
+returns-2 c = refused-left _ (lending _ _) _ (c .refused .ensures)
+    ∙ sym (combined-theirs-bad _ _ _ _ _ (sym (c .before .before .is-proper2 .ensures) ∙ c .before .if2 .left))
 
 returns-3 : tie.Need-returns-3
-returns-3 c = refused-left _ _ _ _ (c .refused2 .ensures)
-    ∙ sym (combined-ours-bad _ _ _ _ _ _ _ _ _ _ (sym (c .before .before .is-proper .ensures) ∙ c .before .if1 .left))
+returns-3 c = refused-left _ (lending _ _) _ (c .refused2 .ensures)
+    ∙ sym (combined-ours-bad _ _ _ _ _ (sym (c .before .before .is-proper .ensures) ∙ c .before .if1 .left))
 
 pub combine-added-bytes-spec : {M : Type 1} → statement M
 combine-added-bytes-spec =

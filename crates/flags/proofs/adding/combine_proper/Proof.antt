@@ -2,10 +2,11 @@
 use mathlib.Core.Path.{sym, ap, _∙_}
 use lib.Seq.{length-take-le}
 use borrow.Author.Needs.{needs}
-use Rattle.records_spec.specs.Flags.{Flags, ownerOf, flagsOf}
-use Rattle.records_spec.specs.Answers.{Answer, placing}
+use Rattle.records_spec.specs.Flags.{Flags, ownerOf, flagsOf, lending, holding}
+use Rattle.records_spec.specs.Answers.{placing}
 use Rattle.records_spec.proofs.Proper.{IsProper, proper-inv, proper-table, proper-above}
 use Rattle.records_spec.proofs.Answers.{refused-placing}
+use Rattle.records_spec.specs.Outcomes.{Answer}
 use Rattle.flags_spec.specs.Owners.{combinedOwner}
 use Rattle.flags_spec.specs.Merging.{added}
 use Rattle.flags_spec.proofs.Choosing.{answered-owner, refused-owner}
@@ -15,10 +16,10 @@ use Rattle.flags.proofs.adding.combine_proper.Tie as tie
 
 -- ours and theirs
 abbrev ours : tie.Start → Flags
-ours c = flagsOf (c .args .ours) (c .args .our-epochs .now) (c .args .our-counts .now)
+ours c = flagsOf (holding (c .args .ours) (c .args .our-epochs .now) (c .args .our-counts .now))
 
 abbrev theirs : tie.Start → Flags
-theirs c = flagsOf (c .args .theirs) (c .args .their-epochs .now) (c .args .their-counts .now)
+theirs c = flagsOf (holding (c .args .theirs) (c .args .their-epochs .now) (c .args .their-counts .now))
 
 our-proper : (c : tie.Start) → IsProper (c .args .ours) (c .args .our-epochs .now) (c .args .our-counts .now)
 our-proper c = proper-inv (c .args .ours) (c .args .our-epochs .now) (c .args .our-counts .now) (c .pre .0)
@@ -30,7 +31,7 @@ returns : tie.Need-returns
 returns c =
     let b = c .before .before .before .before .before .before .before .before in
     let a = b .args in
-    refused-placing (c .refused .result) (a .epochs .now) (a .counts .now) (added (a .strategy) (a .added-bytes) (ours b) (theirs b)) _
+    refused-placing (c .refused .result) (lending (a .epochs .now) (a .counts .now)) (added (a .strategy) (a .added-bytes) (ours b) (theirs b)) _
     (c .refused .ensures)
     (added-lower (a .strategy) (a .added-bytes) (ours b) (theirs b) (c .before .if1 .taken))
 
@@ -38,7 +39,7 @@ returns-2 : tie.Need-returns-2
 returns-2 c =
     let b = c .before .before .before .before .before .before .before .before .before .before in
     let a = b .args in
-    refused-placing (c .refused2 .result) (a .epochs .now) (a .counts .now) (added (a .strategy) (a .added-bytes) (ours b) (theirs b)) _
+    refused-placing (c .refused2 .result) (lending (a .epochs .now) (a .counts .now)) (added (a .strategy) (a .added-bytes) (ours b) (theirs b)) _
     (c .refused2 .ensures)
     (added-disputed (a .strategy) (a .added-bytes) (ours b) (theirs b) (c .before .before .before .if1 .left)
     (refused-owner _ (a .strategy) (ownerOf (a .ours)) (ownerOf (a .theirs)) (c .before .before .combine-owners .ensures) (c .before .if2 .taken)))
@@ -52,7 +53,7 @@ returns-3 c =
     let b = at-if1 .before .before .before .before .before .before .before in
     let a = b .args in
     at-combine-tables .combine-tables .ensures
-    ∙ sym (ap (λ (x : Answer Flags). placing x (a .epochs .now) (a .counts .now))
+    ∙ sym (ap (λ (x : Answer Flags). placing x (lending (a .epochs .now) (a .counts .now)))
     (added-owned (a .strategy) (a .added-bytes) (ours b) (theirs b) (at-if1 .if1 .left) _
     (answered-owner _ (combinedOwner (a .strategy) (ownerOf (a .ours)) (ownerOf (a .theirs))) (at-combine-owners .combine-owners .ensures)
     (at-if2 .if2 .left))))

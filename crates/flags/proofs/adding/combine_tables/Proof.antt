@@ -2,9 +2,10 @@
 use mathlib.Core.Path.{sym, ap, _∙_}
 use borrow.Author.Needs.{needs}
 use Rattle.records_spec.specs.Tables.{recordsOf, union}
-use Rattle.records_spec.specs.Flags.{Flags, flags, ownerIf}
-use Rattle.records_spec.specs.Answers.{Answer, placing}
+use Rattle.records_spec.specs.Flags.{Flags, flags, ownerIf, lending}
+use Rattle.records_spec.specs.Answers.{placing}
 use Rattle.records_spec.proofs.Unions.{above-table}
+use Rattle.records_spec.specs.Outcomes.{Answer}
 use Rattle.flags_spec.proofs.Merging.{raised-same, raised-higher}
 use Rattle.flags.proofs.adding.combine_tables.Statement.{statement}
 use Rattle.flags.proofs.adding.combine_tables.Tie as tie
@@ -22,7 +23,7 @@ returns c =
     let b = at-if1 .before .before .before .before .before .before .before in
     let a = b .args in
     at-place-union .place-union .ensures
-    ∙ sym (ap (λ (x : Answer Flags). placing x (a .epochs .now) (a .counts .now))
+    ∙ sym (ap (λ (x : Answer Flags). placing x (lending (a .epochs .now) (a .counts .now)))
     (raised-same (a .base) (a .epoch) (a .added-bytes) (joined b) (at-if1 .if1 .taken)))
 
 returns-2 : tie.Need-returns-2
@@ -32,7 +33,7 @@ returns-2 c =
     let b = at-if1 .before .before .before .before .before .before .before in
     let a = b .args in
     at-combine-with-higher-base-epoch .combine-with-higher-base-epoch .ensures
-    ∙ sym (ap (λ (x : Answer Flags). placing x (a .epochs .now) (a .counts .now))
+    ∙ sym (ap (λ (x : Answer Flags). placing x (lending (a .epochs .now) (a .counts .now)))
     (raised-higher (a .base) (a .epoch) (a .added-bytes) (joined b) (at-if1 .if1 .left)))
 
 pub combine-tables-spec : {M : Type 1} → statement M

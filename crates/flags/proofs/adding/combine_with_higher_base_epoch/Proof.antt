@@ -3,16 +3,16 @@
 -- Assumes nothing.
 use mathlib.Core.Path.{_≡_, sym, ap, _∙_}
 use mathlib.Core.Bool.{true}
-use mathlib.Core.Option.{Option, some}
+use mathlib.Core.Option.{Option}
 use mathlib.Core.List.{List, _∷_}
 use Prim.Native.Nat.{ℕ, _+_, _≤_, _<_}
 use native.Mathlib.Omega.{arith}
 use borrow.Author.Needs.{needs}
 use Rattle.fields_spec.specs.Varint.{largest}
 use Rattle.records_spec.specs.Tables.{At, _⦂_, recordsOf, epochsOf, ascending, held, union}
-use Rattle.records_spec.specs.Flags.{flags, ownerIf}
-use Rattle.records_spec.specs.Answers.{Answer, ok, after, placing}
-use Rattle.records_spec.specs.Flags.{Flags}
+use Rattle.records_spec.specs.Flags.{flags, ownerIf, lending, Flags}
+use Rattle.records_spec.specs.Answers.{placing}
+use Rattle.records_spec.specs.Outcomes.{Answer, ok}
 use Rattle.records_spec.specs.declared.table.Spot.{Spot}
 use Rattle.records_spec.proofs.Tables.{epochs-records}
 use Rattle.records_spec.proofs.Answers.{refused-placing}
@@ -41,7 +41,7 @@ returns c =
     let n : c .before .before .look-up .result .count ≡ held (a .epoch) (ours b) = ap (λ (s : Spot). s .count)
     (c .before .before .look-up .ensures) in
     let p : largest < held (a .epoch) (ours b) + a .added-bytes = omega (arith, n, c .before .if1 .taken) in
-    refused-placing (c .refused .result) (a .epochs .now) (a .counts .now)
+    refused-placing (c .refused .result) (lending (a .epochs .now) (a .counts .now))
     (raised (a .epoch) (a .added-bytes) (flags (a .base) (owner b) (union (ours b) (theirs b)))) _ (c .refused .ensures)
     (raised-over (a .epoch) (a .added-bytes) (a .base) (owner b) (ours b) (theirs b) (above b) p)
 
@@ -55,9 +55,8 @@ returns-2 c =
     let n : at-look-up .look-up .result .count ≡ held (a .epoch) (ours b) = ap (λ (s : Spot). s .count) (at-look-up .look-up .ensures) in
     let p : held (a .epoch) (ours b) + a .added-bytes ≤ largest = omega (arith, n, at-if1 .if1 .left, b .fits .added-bytes) in
     at-place-around .place-around .ensures
-    ∙ ap (λ (k : ℕ). after (ok (some (flags (a .base) (owner b) (union (ours b) (a .epoch ⦂ (k + a .added-bytes) ∷ theirs b))))) (a .epochs .now)
-    (a .counts .now)) n
-    ∙ sym (ap (λ (x : Answer Flags). placing x (a .epochs .now) (a .counts .now))
+    ∙ ap (λ (k : ℕ). placing (ok (flags (a .base) (owner b) (union (ours b) (a .epoch ⦂ (k + a .added-bytes) ∷ theirs b)))) (lending (a .epochs .now) (a .counts .now))) n
+    ∙ sym (ap (λ (x : Answer Flags). placing x (lending (a .epochs .now) (a .counts .now)))
     (raised-made (a .epoch) (a .added-bytes) (a .base) (owner b) (ours b) (theirs b) (above b) p))
 
 pub combine-with-higher-base-epoch-spec : {M : Type 1} → statement M

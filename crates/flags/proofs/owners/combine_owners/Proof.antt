@@ -3,6 +3,7 @@ use mathlib.Core.Path.{_≡_, sym, ap, _∙_}
 use mathlib.Core.Bool.{Bool, true, false}
 use borrow.Author.Needs.{needs}
 use Rattle.records_spec.specs.Flags.{ownerOf}
+use Rattle.records_spec.specs.Outcomes.{refused}
 use Rattle.records_spec.specs.declared.head.MaybeOwner.{MaybeOwner}
 use Rattle.flags_spec.specs.Owners.{chosen, combinedOwner, chosenAs}
 use Rattle.flags_spec.specs.declared.owners.Choice.{Choice}
@@ -17,20 +18,20 @@ chose c x e = let a = c .before .args in ap (λ (y : Choice). chosenAs (chosen y
     (sym e ∙ c .choose-owner .ensures)
 
 -- the answer with an owner
-abbrev owning : Bool → MaybeOwner → ChosenOwner
-owning refused o = record { refused = refused; owner = o }
+abbrev answered : Bool → MaybeOwner → ChosenOwner
+answered b o = record { refused = b; owner = o }
 
 returns : tie.Need-returns
-returns c = ap (owning false) (c .owner-id .ensures) ∙ chose (c .before .before .before) _ (c .before .enum-told .given .1)
+returns c = ap (answered false) (c .owner-id .ensures) ∙ chose (c .before .before .before) _ (c .before .enum-told .given .1)
 
 returns-2 : tie.Need-returns-2
-returns-2 c = ap (owning false) (c .owner-id2 .ensures) ∙ chose (c .before .before .before) _ (c .before .enum-told2 .given .1)
+returns-2 c = ap (answered false) (c .owner-id2 .ensures) ∙ chose (c .before .before .before) _ (c .before .enum-told2 .given .1)
 
 returns-3 : tie.Need-returns-3
-returns-3 c = ap (owning false) (c .no-owner .ensures) ∙ chose (c .before .before .before) _ (c .before .enum-told3 .given .1)
+returns-3 c = ap (answered false) (c .no-owner .ensures) ∙ chose (c .before .before .before) _ (c .before .enum-told3 .given .1)
 
 returns-4 : tie.Need-returns-4
-returns-4 c = ap (owning true) (c .no-owner2 .ensures) ∙ chose (c .before .before .before) _ (c .before .enum-told4 .given .1)
+returns-4 c = ap (answered true) (c .no-owner2 .ensures) ∙ chose (c .before .before .before) _ (c .before .enum-told4 .given .1)
 
 pub combine-owners-spec : {M : Type 1} → statement M
 combine-owners-spec =

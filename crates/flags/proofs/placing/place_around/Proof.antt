@@ -9,10 +9,10 @@ use native.Mathlib.Omega.{arith}
 use borrow.Author.Needs.{needs}
 use lib.ListN.{length, drop, length-set}
 use Rattle.records_spec.specs.Tables.{At, _⦂_, recordsOf, union}
-use Rattle.records_spec.specs.Flags.{Flags, flags, ownerIf, headFor}
+use Rattle.records_spec.specs.Flags.{Flags, flags, ownerIf, headFor, lending}
 use Rattle.records_spec.specs.Answers.{roomFor}
 use Rattle.records_spec.proofs.Unions.{above-table}
-use Rattle.records_spec.proofs.Answers.{room-both, after-short, refused-left, placed-left}
+use Rattle.records_spec.proofs.Answers.{room-both, placing-short, refused-left, placed-left}
 use Rattle.flags_spec.proofs.Joining.{spot-order, around-long, around-placed}
 use Rattle.flags.proofs.placing.place_around.Statement.{statement}
 use Rattle.flags.proofs.placing.place_around.Tie as tie
@@ -123,7 +123,7 @@ returns c =
     let r = room (fitted k) in
     let q = around-placed (s .pre .0) (s .pre .1 .1) (s .pre .1 .0) (s .args .count) (k .copy-records .ensures) (u .union-into .ensures) in
     let h = c .before .new-head .ensures ∙ ap (headFor (s .args .base) (placed s .owner)) (q .behind ∙ zero-add (length (records s))) in
-    placed-left (c .present .result) _ _ (placed s) _ _ _ _ (c .present .ensures) h q (omega (arith, long s, r .0)) (omega (arith, long s, r .1))
+    placed-left (c .present .result) (lending _ _) (placed s) _ _ _ _ (c .present .ensures) h q (omega (arith, long s, r .0)) (omega (arith, long s, r .1))
 
 same-length : tie.Need-same-length
 same-length c =
@@ -142,7 +142,7 @@ returns-2 c =
     let f = c .before .before in
     let s = begun f in
     let e : told s ≡ false = sym (f .union-fits .ensures) ∙ c .before .if1 .left in
-    refused-left (c .refused .result) _ _ _ (c .refused .ensures) ∙ sym (after-short (placed s) _ _ (rw (long s) e))
+    refused-left (c .refused .result) (lending _ _) _ (c .refused .ensures) ∙ sym (placing-short (placed s) (lending _ _) (rw (long s) e))
 
 pub place-around-spec : {M : Type 1} → statement M
 place-around-spec =

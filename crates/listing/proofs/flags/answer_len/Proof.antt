@@ -3,7 +3,8 @@ use mathlib.Core.Path.{sym, ap, _∙_}
 use native.Mathlib.Omega.{arith}
 use lib.ListN.{length}
 use borrow.Author.Needs.{needs}
-use Rattle.listing_spec.specs.Text.{line}
+use Rattle.records_spec.specs.Outcomes.{refused}
+use Rattle.listing_spec.specs.Text.{wordLine}
 use Rattle.listing_spec.proofs.Lengths.{held-epochs, held-counts}
 use Rattle.listing.proofs.flags.answer_len.Statement.{statement}
 use Rattle.listing.proofs.flags.answer_len.Tie as tie
@@ -17,7 +18,7 @@ flags-len-requires c κs =
 returns-2 : tie.Need-returns-2
 returns-2 c =
     let at-outcome = c .before .before .before .before in
-    rw (at-outcome .outcome .given .1) (c .line-len .ensures .counts ∙ ap (λ n. length (line "refused " n)) (c .before .number .ensures))
+    rw (at-outcome .outcome .given .1) (c .line-len .ensures .counts ∙ ap (λ n. length (wordLine "refused " n)) (c .before .number .ensures))
 
 returns-3 : tie.Need-returns-3
 returns-3 c =

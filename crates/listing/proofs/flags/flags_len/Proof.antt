@@ -3,7 +3,7 @@ use mathlib.Core.Path.{ap, _∙_}
 use native.Mathlib.Omega.{arith}
 use lib.ListN.{length}
 use borrow.Author.Needs.{needs}
-use Rattle.listing_spec.specs.Text.{line}
+use Rattle.listing_spec.specs.Text.{wordLine}
 use Rattle.listing_spec.proofs.Lengths.{length-head}
 use Rattle.listing.proofs.flags.flags_len.Statement.{statement}
 use Rattle.listing.proofs.flags.flags_len.Tie as tie
@@ -17,7 +17,7 @@ returns c =
     let a = start .args in
     omega (
       arith,
-      at-line-len .line-len .ensures .counts ∙ ap (λ n. length (line "kind " n)) (at-type-byte .type-byte .ensures),
+      at-line-len .line-len .ensures .counts ∙ ap (λ n. length (wordLine "kind " n)) (at-type-byte .type-byte .ensures),
       at-owner-len .owner-len .ensures .counts,
       c .before .before .before .line-len2 .ensures .counts,
       c .records-len .ensures .counts,

@@ -3,7 +3,8 @@ use mathlib.Core.Path.{sym, ap, _∙_}
 use native.Mathlib.Omega.{arith}
 use lib.ListN.{length}
 use borrow.Author.Needs.{needs}
-use Rattle.listing_spec.specs.Text.{line}
+use Rattle.records_spec.specs.Outcomes.{refused}
+use Rattle.listing_spec.specs.Text.{wordLine}
 use Rattle.listing_spec.proofs.Lengths.{held-epochs, held-counts}
 use Rattle.listing.proofs.flags.put_answer.Statement.{statement}
 use Rattle.listing.proofs.flags.put_answer.Tie as tie
@@ -18,7 +19,7 @@ put-line-requires c κs =
     let at-outcome = c .before .before .before .before in
     let start = at-outcome .before .before .before .before .before in
     let p = rw (at-outcome .outcome .given .1) at (start .pre .1) in
-    omega (arith, ap (λ n. length (line "refused " n)) (c .number .ensures))
+    omega (arith, ap (λ n. length (wordLine "refused " n)) (c .number .ensures))
 
 put-flags-requires : tie.Need-put-flags-requires
 put-flags-requires c κs =

@@ -7,7 +7,7 @@ use lib.ListN.{length}
 use borrow.Author.Needs.{needs}
 use Rattle.records_spec.specs.Flags.{ownerOf}
 use Rattle.records_spec.specs.Tables.{recordsOf}
-use Rattle.listing_spec.specs.Text.{line, ownerLine, recordLines}
+use Rattle.listing_spec.specs.Text.{wordLine, ownerLine, recordTexts}
 use Rattle.listing_spec.proofs.Lengths.{length-head}
 use Rattle.fields_spec.proofs.Parts.{parts-start, parts-put, parts-last}
 use Rattle.listing.proofs.flags.put_flags.Statement.{statement}
@@ -24,10 +24,10 @@ module _ (c : tie.After-type-byte) where
   abbrev cs : List ℕ
   cs = start .args .counts .now
 
-  room : length (line "kind " (c .type-byte .result)) + length (ownerLine (ownerOf (start .args .head)))
-      + length (line "base " (start .args .head .base)) + length (recordLines (recordsOf es cs)) + length (line "records " (length es))
+  room : length (wordLine "kind " (c .type-byte .result)) + length (ownerLine (ownerOf (start .args .head)))
+      + length (wordLine "base " (start .args .head .base)) + length (recordTexts (recordsOf es cs)) + length (wordLine "records " (length es))
       ≤ length (start .args .out .now)
-  room = omega (arith, length-head (start .args .head) es cs, start .pre .1, ap (λ n. length (line "kind " n)) (c .type-byte .ensures))
+  room = omega (arith, length-head (start .args .head) es cs, start .pre .1, ap (λ n. length (wordLine "kind " n)) (c .type-byte .ensures))
 
 -- from each part that is written back to the one before
 abbrev typed : tie.After-put-line → tie.After-type-byte

@@ -5,7 +5,7 @@ use native.Mathlib.Omega.{arith}
 use lib.ListN.{length}
 use borrow.Author.Needs.{needs}
 use Rattle.records_spec.specs.Tables.{recordsOf}
-use Rattle.listing_spec.specs.Text.{recordLines}
+use Rattle.listing_spec.specs.Text.{recordTexts}
 use Rattle.fields_spec.proofs.Parts.{Parts, parts-start, parts-put, parts-room, parts-done}
 use Rattle.listing_spec.proofs.Lengths.{linesFrom, lines-on, length-on, lines-end}
 use Rattle.listing.proofs.lines.put_records.Statement.{statement}
@@ -13,7 +13,7 @@ use Rattle.listing.proofs.lines.put_records.Tie as tie
 
 abbrev Inv-loop : tie.InvT-loop
 Inv-loop out₀ at epochs counts i₀ k₀ out i k =
-    Parts (recordLines (recordsOf epochs counts)) at out₀ (linesFrom epochs counts k) i out
+    Parts (recordTexts (recordsOf epochs counts)) at out₀ (linesFrom epochs counts k) i out
 
 abbrev μ-loop : tie.MeasureT-loop
 μ-loop out₀ at epochs counts i₀ k₀ out i k = length epochs - k

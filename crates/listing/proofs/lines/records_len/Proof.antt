@@ -7,7 +7,7 @@ use lib.ListN.{length}
 use borrow.Author.Needs.{needs}
 use Rattle.records_spec.specs.Tables.{recordsOf}
 use Rattle.listing_spec.specs.Sizes.{longestRecordLine}
-use Rattle.listing_spec.specs.Text.{recordLines}
+use Rattle.listing_spec.specs.Text.{recordTexts}
 use Rattle.listing_spec.proofs.Lengths.{linesFrom, length-on, lines-end}
 use Rattle.listing.proofs.lines.records_len.Statement.{statement}
 use Rattle.listing.proofs.lines.records_len.Tie as tie
@@ -16,7 +16,7 @@ abbrev Inv-loop : tie.InvT-loop
 Inv-loop epochs counts size₀ k₀ size k =
     (k ≤ length epochs)
     × (size ≤ longestRecordLine * k)
-    × (size + length (linesFrom epochs counts k) ≡ length (recordLines (recordsOf epochs counts)))
+    × (size + length (linesFrom epochs counts k) ≡ length (recordTexts (recordsOf epochs counts)))
 
 abbrev μ-loop : tie.MeasureT-loop
 μ-loop epochs counts size₀ k₀ size k = length epochs - k

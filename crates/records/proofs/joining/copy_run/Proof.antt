@@ -5,7 +5,7 @@ use native.Mathlib.Omega.{arith}
 use lib.ListN.{length}
 use borrow.Author.Needs.{needs}
 use Rattle.records_spec.specs.Tables.{recordsOf}
-use Rattle.records_spec.specs.Runs.{run}
+use Rattle.records_spec.specs.Runs.{stretch}
 use Rattle.records_spec.proofs.Tables.{Filling, filling-start, filling-step, filling-room, filling-done, first-on, first-end}
 use Rattle.records.proofs.joining.copy_run.Statement.{statement}
 use Rattle.records.proofs.joining.copy_run.Tie as tie
@@ -13,7 +13,7 @@ use Rattle.records.proofs.joining.copy_run.Tie as tie
 abbrev Inv-loop : tie.InvT-loop
 Inv-loop from-epochs from-counts i end epochs₀ counts₀ at a₀ k₀ epochs counts a k =
     let all = recordsOf from-epochs from-counts in
-    Filling (run i end all) (run a end all) at k epochs₀ counts₀ epochs counts
+    Filling (stretch i end all) (stretch a end all) at k epochs₀ counts₀ epochs counts
 
 abbrev μ-loop : tie.MeasureT-loop
 μ-loop from-epochs from-counts i end epochs₀ counts₀ at a₀ k₀ epochs counts a k = end - a

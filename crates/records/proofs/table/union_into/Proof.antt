@@ -7,7 +7,7 @@ use Prim.Native.Nat.{ℕ, _+_, _-_, _≤_, _<_}
 use native.Mathlib.Omega.{arith}
 use lib.ListN.{length, drop}
 use Rattle.records_spec.specs.Tables.{At, recordsOf, union}
-use Rattle.records_spec.specs.Runs.{run, Room}
+use Rattle.records_spec.specs.Runs.{stretch, RoomFrom}
 use Rattle.records_spec.proofs.Tables.{Filling, filling-start, filling-step, filling-run, filling-then}
 use Rattle.records_spec.proofs.Tables.{filling-room, filling-fits, filling-done, placed-long}
 use Rattle.records_spec.proofs.Unions.{Walking, walking-start, walking-within, walking-step}
@@ -40,7 +40,7 @@ module _ (s : tie.Start Inv-loop μ-loop) where
   abbrev all : List At
   all = left (s .args .i) (s .args .j)
 
-  room : Room all (s .args .at) (s .args .epochs .now) (s .args .counts .now)
+  room : RoomFrom all (s .args .at) (s .args .epochs .now) (s .args .counts .now)
   room = record { in-epochs = s .pre .1 .1 .1 .0; in-counts = s .pre .1 .1 .1 .1 }
 
 lead-end-requires : tie.Need-lead-end-requires Inv-loop μ-loop
@@ -62,7 +62,7 @@ module _ (c : tie.After-lead-end Inv-loop μ-loop) where
         lead-within (led .args .our-epochs .now) (led .args .their-epochs .now) (led .args .i) (led .args .j) (led .pre .1 .1 .0 .0),
       )
 
-  lead-first : all led ≡ run (led .args .i) lead (ours led) ++ left led lead (led .args .j)
+  lead-first : all led ≡ stretch (led .args .i) lead (ours led) ++ left led lead (led .args .j)
   lead-first = union-lead (led .pre .0) (led .pre .1 .0) (led .args .i) (led .args .j) (led .pre .1 .1 .0 .0) (c .lead-end .ensures)
 
 copy-run-requires : tie.Need-copy-run-requires Inv-loop μ-loop
@@ -127,7 +127,7 @@ module _ (c : tie.Then1 Inv-loop μ-loop) where
   abbrev at-ours : tie.At-loop Inv-loop μ-loop
   at-ours = c .before .before
 
-  ours-left : left-here at-ours ≡ run (at-ours .loop .a) (length (begun at-ours .args .our-epochs .now)) (ours (begun at-ours)) ++ []
+  ours-left : left-here at-ours ≡ stretch (at-ours .loop .a) (length (begun at-ours .args .our-epochs .now)) (ours (begun at-ours)) ++ []
   ours-left = left-ours (begun at-ours .pre .0) (begun at-ours .pre .1 .0) (at-ours .loop .a) (at-ours .loop .b) (c .if1 .taken)
 
 copy-run-requires-2 : tie.Need-copy-run-requires-2 Inv-loop μ-loop
@@ -148,7 +148,7 @@ module _ (c : tie.After-loop Inv-loop μ-loop) where
   abbrev at-theirs : tie.At-loop Inv-loop μ-loop
   at-theirs = c .before
 
-  theirs-left : left-here at-theirs ≡ run (at-theirs .loop .b) (length (begun at-theirs .args .their-epochs .now)) (theirs (begun at-theirs)) ++ []
+  theirs-left : left-here at-theirs ≡ stretch (at-theirs .loop .b) (length (begun at-theirs .args .their-epochs .now)) (theirs (begun at-theirs)) ++ []
   theirs-left = left-theirs (begun at-theirs .pre .0) (begun at-theirs .pre .1 .0) (at-theirs .loop .a) (at-theirs .loop .b) (c .loop-test .left)
 
 copy-run-requires-3 : tie.Need-copy-run-requires-3 Inv-loop μ-loop

@@ -8,9 +8,9 @@ use native.Mathlib.Omega.{arith}
 use borrow.Author.Needs.{needs}
 use lib.ListN.{length}
 use Rattle.records_spec.specs.Tables.{At, recordsOf, union}
-use Rattle.records_spec.specs.Flags.{Flags, flags, ownerIf, headFor}
+use Rattle.records_spec.specs.Flags.{Flags, flags, ownerIf, headFor, lending}
 use Rattle.records_spec.specs.Answers.{roomFor}
-use Rattle.records_spec.proofs.Answers.{room-both, after-short, refused-left, placed-left}
+use Rattle.records_spec.proofs.Answers.{room-both, placing-short, refused-left, placed-left}
 use Rattle.removal_spec.specs.Removing.{minus}
 use Rattle.removal.proofs.remaining.place_remaining.Statement.{statement}
 use Rattle.removal.proofs.remaining.place_remaining.Tie as tie
@@ -48,13 +48,13 @@ returns c =
     let q = at-remaining-into .remaining-into .ensures in
     let r = room b (sym (at-remaining-fits .remaining-fits .ensures) ∙ at-if1 .if1 .taken) in
     let h = c .before .new-head .ensures ∙ ap (headFor (b .args .base) (placed b .owner)) (q .behind ∙ zero-add (length (records b))) in
-    placed-left (c .present .result) _ _ (placed b) _ _ _ _ (c .present .ensures) h q (r .0) (r .1)
+    placed-left (c .present .result) (lending _ _) (placed b) _ _ _ _ (c .present .ensures) h q (r .0) (r .1)
 
 returns-2 : tie.Need-returns-2
 returns-2 c =
     let b = c .before .before .before .before .before .before .before .before .before .before .before in
     let e : told b ≡ false = sym (c .before .before .remaining-fits .ensures) ∙ c .before .if1 .left in
-    refused-left (c .refused .result) _ _ _ (c .refused .ensures) ∙ sym (after-short (placed b) _ _ e)
+    refused-left (c .refused .result) (lending _ _) _ (c .refused .ensures) ∙ sym (placing-short (placed b) (lending _ _) e)
 
 pub place-remaining-spec : {M : Type 1} → statement M
 place-remaining-spec =

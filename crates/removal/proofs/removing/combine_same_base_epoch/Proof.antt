@@ -2,12 +2,13 @@
 use mathlib.Core.Path.{sym, ap, _∙_}
 use lib.Seq.{length-take-le}
 use borrow.Author.Needs.{needs}
-use Rattle.records_spec.specs.Flags.{Flags, ownerOf, flagsOf}
-use Rattle.records_spec.specs.Answers.{Answer, placing}
+use Rattle.records_spec.specs.Flags.{Flags, ownerOf, flagsOf, lending, holding}
+use Rattle.records_spec.specs.Answers.{placing}
 use Rattle.records_spec.proofs.Proper.{IsProper, proper-inv, proper-table}
 use Rattle.records_spec.proofs.Answers.{refused-placing}
 use Rattle.flags_spec.specs.Owners.{combinedOwner}
 use Rattle.flags_spec.proofs.Choosing.{answered-owner, refused-owner}
+use Rattle.records_spec.specs.Outcomes.{Answer}
 use Rattle.removal_spec.specs.Removing.{removedBeside}
 use Rattle.removal_spec.proofs.Merging.{beside-disputed, beside-owned}
 use Rattle.removal.proofs.removing.combine_same_base_epoch.Statement.{statement}
@@ -15,10 +16,10 @@ use Rattle.removal.proofs.removing.combine_same_base_epoch.Tie as tie
 
 -- ours and theirs
 abbrev ours : tie.Start → Flags
-ours c = flagsOf (c .args .ours) (c .args .our-epochs .now) (c .args .our-counts .now)
+ours c = flagsOf (holding (c .args .ours) (c .args .our-epochs .now) (c .args .our-counts .now))
 
 abbrev theirs : tie.Start → Flags
-theirs c = flagsOf (c .args .theirs) (c .args .their-epochs .now) (c .args .their-counts .now)
+theirs c = flagsOf (holding (c .args .theirs) (c .args .their-epochs .now) (c .args .their-counts .now))
 
 our-proper : (c : tie.Start) → IsProper (c .args .ours) (c .args .our-epochs .now) (c .args .our-counts .now)
 our-proper c = proper-inv (c .args .ours) (c .args .our-epochs .now) (c .args .our-counts .now) (c .pre .0)
@@ -30,7 +31,7 @@ returns : tie.Need-returns
 returns c =
     let b = c .before .before .before .before .before .before .before .before .before in
     let a = b .args in
-    refused-placing (c .refused .result) (a .epochs .now) (a .counts .now) (removedBeside (a .strategy) (ours b) (theirs b)) _ (c .refused .ensures)
+    refused-placing (c .refused .result) (lending (a .epochs .now) (a .counts .now)) (removedBeside (a .strategy) (ours b) (theirs b)) _ (c .refused .ensures)
     (beside-disputed (a .strategy) (ours b) (theirs b)
     (refused-owner _ (a .strategy) (ownerOf (a .ours)) (ownerOf (a .theirs)) (c .before .before .combine-owners .ensures) (c .before .if1 .taken)))
 
@@ -42,7 +43,7 @@ returns-2 c =
     let b = at-combine-owners .before .before .before .before .before .before .before in
     let a = b .args in
     at-place-union .place-union .ensures
-    ∙ sym (ap (λ (x : Answer Flags). placing x (a .epochs .now) (a .counts .now))
+    ∙ sym (ap (λ (x : Answer Flags). placing x (lending (a .epochs .now) (a .counts .now)))
     (beside-owned (a .strategy) (ours b) (theirs b) _
     (answered-owner _ (combinedOwner (a .strategy) (ownerOf (a .ours)) (ownerOf (a .theirs))) (at-combine-owners .combine-owners .ensures)
     (at-if1 .if1 .left))))

@@ -7,17 +7,18 @@ use native.Mathlib.Omega.{arith}
 use lib.ListN.{length}
 use lib.Seq.{length-take-le}
 use borrow.Author.Needs.{needs}
-use Rattle.records_spec.specs.Flags.{Flags, ownerIf, ownerOf, flagsOf}
-use Rattle.records_spec.specs.Answers.{Answer, placing}
+use Rattle.records_spec.specs.Flags.{Flags, ownerIf, ownerOf, flagsOf, holding, lending}
+use Rattle.records_spec.specs.Answers.{placing}
+use Rattle.records_spec.specs.Outcomes.{Answer}
 use Rattle.records_spec.specs.declared.head.MaybeOwner.{MaybeOwner}
 use Rattle.records_spec.proofs.Owners.{owner-bytes}
 use Rattle.records_spec.proofs.Proper.{IsProper, proper-inv, proper-table, proper-long}
 use Rattle.records_spec.proofs.Answers.{refused-placing}
 use Rattle.flags_spec.specs.Owners.{combinedOwner}
-use Rattle.flags_spec.specs.Merging.{joined}
+use Rattle.flags_spec.specs.Merging.{unionUnder}
 use Rattle.flags_spec.proofs.Choosing.{answered-owner, refused-owner}
 use Rattle.rows_spec.specs.Rows.{tables}
-use Rattle.rows_spec.specs.Removals.{Removal, removalOf}
+use Rattle.rows_spec.specs.Removals.{Removal, removalIn}
 use Rattle.removal_spec.specs.Removing.{taken, removedAbove}
 use Rattle.removal_spec.proofs.Merging.{above-single, above-disputed, above-owned}
 use Rattle.removal.proofs.removing.combine_with_higher_base_epoch_remove_bytes.Statement.{statement}
@@ -26,13 +27,13 @@ use Rattle.removal.proofs.removing.combine_with_higher_base_epoch_remov
 -- of what is given: ours, theirs and the removal
 module _ (s : tie.Start) where
   abbrev ours : Flags
-  ours = flagsOf (s .args .ours) (s .args .our-epochs .now) (s .args .our-counts .now)
+  ours = flagsOf (holding (s .args .ours) (s .args .our-epochs .now) (s .args .our-counts .now))
 
   abbrev theirs : Flags
-  theirs = flagsOf (s .args .theirs) (s .args .their-epochs .now) (s .args .their-counts .now)
+  theirs = flagsOf (holding (s .args .theirs) (s .args .their-epochs .now) (s .args .their-counts .now))
 
   abbrev removal : Removal
-  removal = removalOf (s .args .removed) (tables (s .args .ids .now) (s .args .removed-epochs .now) (s .args .removed-bytes .now))
+  removal = removalIn (s .args .removed) (tables (s .args .ids .now) (s .args .removed-epochs .now) (s .args .removed-bytes .now))
 
   our-proper : IsProper (s .args .ours) (s .args .our-epochs .now) (s .args .our-counts .now)
   our-proper = proper-inv (s .args .ours) (s .args .our-epochs .now) (s .args .our-counts .now) (s .pre .0)
@@ -48,7 +49,7 @@ returns c =
     let a = s .args in
     let p : length (ours s .records) ≡ 0 = omega (arith, proper-long (our-proper s), none .if1 .taken) in
     handed .hand-on .ensures
-    ∙ sym (ap (λ (x : Answer Flags). placing x (a .epochs .now) (a .counts .now))
+    ∙ sym (ap (λ (x : Answer Flags). placing x (lending (a .epochs .now) (a .counts .now)))
     (above-single (a .strategy) (removal s) (ours s) (theirs s) (ours s .records) p))
 
 -- the owners are combined, where ours has records
@@ -67,7 +68,7 @@ returns-2 c =
     let o = c .before .before in
     let s = start o in
     let a = s .args in
-    refused-placing (c .refused .result) (a .epochs .now) (a .counts .now)
+    refused-placing (c .refused .result) (lending (a .epochs .now) (a .counts .now))
     (removedAbove (a .strategy) (removal s) (ours s) (theirs s) (ours s .records)) _ (c .refused .ensures)
     (above-disputed (a .strategy) (removal s) (ours s) (theirs s) (ours s .records) (some o)
     (refused-owner _ (a .strategy) (ownerOf (a .ours)) (ownerOf (a .theirs)) (o .combine-owners .ensures) (c .before .if2 .taken)))
@@ -90,8 +91,8 @@ returns-3 c =
     let w : MaybeOwner = o .combine-owners .result .owner in
     let i = ap (λ (m : MaybeOwner). m .id) (known .owner-id .ensures) ∙ owner-bytes (ownerOf (a .ours)) in
     removed .remove-bytes .ensures
-    ∙ ap (λ (j : List ℕ). placing (taken j (removal s) (joined (ours s) (theirs s) (ownerIf (w .owned) (w .id)))) (a .epochs .now) (a .counts .now)) i
-    ∙ sym (ap (λ (x : Answer Flags). placing x (a .epochs .now) (a .counts .now))
+    ∙ ap (λ (j : List ℕ). placing (taken j (removal s) (unionUnder (ours s) (theirs s) (ownerIf (w .owned) (w .id)))) (lending (a .epochs .now) (a .counts .now))) i
+    ∙ sym (ap (λ (x : Answer Flags). placing x (lending (a .epochs .now) (a .counts .now)))
     (above-owned (a .strategy) (removal s) (ours s) (theirs s) (ours s .records) (some o) _
     (answered-owner _ (combinedOwner (a .strategy) (ownerOf (a .ours)) (ownerOf (a .theirs))) (o .combine-owners .ensures)
     (agreed known .if2 .left))))

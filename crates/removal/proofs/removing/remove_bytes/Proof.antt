@@ -2,10 +2,10 @@
 use mathlib.Core.Path.{sym, ap, _∙_}
 use borrow.Author.Needs.{needs}
 use Rattle.records_spec.specs.Tables.{recordsOf, union}
-use Rattle.records_spec.specs.Flags.{Flags, flags, ownerIf}
-use Rattle.records_spec.specs.Answers.{After, placing}
+use Rattle.records_spec.specs.Flags.{Flags, flags, ownerIf, lending}
+use Rattle.records_spec.specs.Answers.{FlagsAfter, placing}
 use Rattle.rows_spec.specs.Rows.{Tables, tables}
-use Rattle.rows_spec.specs.Removals.{removalOf}
+use Rattle.rows_spec.specs.Removals.{removalIn}
 use Rattle.rows_spec.specs.declared.removed.Removed.{Removed}
 use Rattle.rows_spec.proofs.Removals.{proper-sectioned}
 use Rattle.removal_spec.specs.Removing.{taken}
@@ -21,8 +21,8 @@ joined c =
 abbrev lent : tie.Start → Tables
 lent c = tables (c .args .ids .now) (c .args .removed-epochs .now) (c .args .removed-bytes .now)
 
-abbrev left : tie.Start → Removed → After
-left c x = placing (taken (c .args .id) (removalOf x (lent c)) (joined c)) (c .args .epochs .now) (c .args .counts .now)
+abbrev left : tie.Start → Removed → FlagsAfter
+left c x = placing (taken (c .args .id) (removalIn x (lent c)) (joined c)) (lending (c .args .epochs .now) (c .args .counts .now))
 
 returns : tie.Need-returns
 returns c =

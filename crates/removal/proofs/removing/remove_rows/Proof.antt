@@ -7,12 +7,13 @@ use lib.ListN.{take}
 use lib.Seq.{length-take-le}
 use borrow.Author.Needs.{needs}
 use Rattle.records_spec.specs.Tables.{recordsOf, union}
-use Rattle.records_spec.specs.Flags.{Flags, flags, ownerIf}
-use Rattle.records_spec.specs.Answers.{Answer, placing}
+use Rattle.records_spec.specs.Flags.{Flags, flags, ownerIf, lending}
+use Rattle.records_spec.specs.Answers.{placing}
 use Rattle.records_spec.proofs.Answers.{refused-placing}
 use Rattle.rows_spec.specs.Rows.{Row, Tables, tables, rowsIn}
 use Rattle.rows_spec.specs.Removals.{sectioned}
 use Rattle.rows_spec.proofs.Parts.{parts-in}
+use Rattle.records_spec.specs.Outcomes.{Answer}
 use Rattle.removal_spec.specs.Removing.{onlyUnder, taken}
 use Rattle.removal_spec.proofs.Under.{under-table}
 use Rattle.removal_spec.proofs.Merging.{taken-others, taken-under}
@@ -47,7 +48,7 @@ returns c =
     let a = b .args in
     let h : onlyUnder (a .id) (rows b) ≡ true = sym (at-only-under .only-under .ensures) ∙ at-if1 .if1 .taken in
     at-remove-sections .remove-sections .ensures
-    ∙ sym (ap (λ (x : Answer Flags). placing x (a .epochs .now) (a .counts .now))
+    ∙ sym (ap (λ (x : Answer Flags). placing x (lending (a .epochs .now) (a .counts .now)))
     (taken-under (a .id) (rows b) (joined b) (recordsOf (take (a .n) (a .removed-epochs .now)) (take (a .n) (a .removed-bytes .now))) h
     (parts-in (b .pre .1 .1 .room))))
 
@@ -55,7 +56,7 @@ returns-2 : tie.Need-returns-2
 returns-2 c =
     let b = c .before .before .before .before .before .before .before .before .before .before .before in
     let a = b .args in
-    refused-placing (c .refused .result) (a .epochs .now) (a .counts .now) (taken (a .id) (sectioned (rows b)) (joined b)) _ (c .refused .ensures)
+    refused-placing (c .refused .result) (lending (a .epochs .now) (a .counts .now)) (taken (a .id) (sectioned (rows b)) (joined b)) _ (c .refused .ensures)
     (taken-others (a .id) (rows b) (joined b) (sym (c .before .before .only-under .ensures) ∙ c .before .if1 .left))
 
 pub remove-rows-spec : {M : Type 1} → statement M

@@ -3,9 +3,10 @@ use mathlib.Core.Path.{sym, ap, _∙_}
 use mathlib.Core.List.{List}
 use borrow.Author.Needs.{needs}
 use Rattle.records_spec.specs.Tables.{At, recordsOf, union}
-use Rattle.records_spec.specs.Flags.{Flags, flags, ownerIf}
-use Rattle.records_spec.specs.Answers.{Answer, placing}
+use Rattle.records_spec.specs.Flags.{Flags, flags, ownerIf, lending}
+use Rattle.records_spec.specs.Answers.{placing}
 use Rattle.records_spec.proofs.Answers.{refused-placing}
+use Rattle.records_spec.specs.Outcomes.{Answer}
 use Rattle.removal_spec.specs.Removing.{lessSections}
 use Rattle.removal_spec.specs.Findings.{faulted}
 use Rattle.removal_spec.proofs.Merging.{less-fault, less-fine}
@@ -29,7 +30,7 @@ returns c =
     let b = at-judge .before .before .before .before .before .before .before .before .before in
     let a = b .args in
     at-place-remaining .place-remaining .ensures
-    ∙ sym (ap (λ (x : Answer Flags). placing x (a .epochs .now) (a .counts .now))
+    ∙ sym (ap (λ (x : Answer Flags). placing x (lending (a .epochs .now) (a .counts .now)))
     (less-fine (sections b) (joined b) (sym (at-judge .judge .ensures) ∙ ap faulted (at-enum-told .enum-told .given .1))))
 
 returns-2 : tie.Need-returns-2
@@ -37,7 +38,7 @@ returns-2 c =
     let at-judge = c .before .before .before .before in
     let b = at-judge .before .before .before .before .before .before .before .before .before in
     let a = b .args in
-    refused-placing (c .refused .result) (a .epochs .now) (a .counts .now) (lessSections (sections b) (joined b)) _ (c .refused .ensures)
+    refused-placing (c .refused .result) (lending (a .epochs .now) (a .counts .now)) (lessSections (sections b) (joined b)) _ (c .refused .ensures)
     (less-fault (sections b) (joined b) _ (sym (at-judge .judge .ensures) ∙ ap faulted (c .before .before .refusal .given .1)))
 
 pub remove-sections-spec : {M : Type 1} → statement M

@@ -8,7 +8,7 @@ use lib.ListN.{length, drop, getD, drop-of-length-le}
 use Rattle.records_spec.specs.Tables.{At, _⦂_, recordsOf, union}
 use Rattle.records_spec.proofs.Tables.{length-recordsOf}
 use Rattle.records_spec.proofs.Unions.{record-on}
-use Rattle.removal_spec.specs.Removing.{fault}
+use Rattle.removal_spec.specs.Removing.{allFine}
 use Rattle.removal_spec.specs.Findings.{faulted}
 use Rattle.removal_spec.proofs.Faults.{fault-none, fault-on, fault-at}
 use Rattle.removal.proofs.sections.judge.Statement.{statement}
@@ -17,7 +17,7 @@ use Rattle.removal.proofs.sections.judge.Tie as tie
 abbrev Inv-loop : tie.InvT-loop
 Inv-loop base our-epochs our-counts their-epochs their-counts epochs bytes i₀ i =
     let rs = union (recordsOf our-epochs our-counts) (recordsOf their-epochs their-counts) in
-    (i ≤ length epochs) × (fault base rs (recordsOf epochs bytes) ≡ fault base rs (drop i (recordsOf epochs bytes)))
+    (i ≤ length epochs) × (allFine base rs (recordsOf epochs bytes) ≡ allFine base rs (drop i (recordsOf epochs bytes)))
 
 abbrev μ-loop : tie.MeasureT-loop
 μ-loop base our-epochs our-counts their-epochs their-counts epochs bytes i₀ i = length epochs - i
@@ -41,7 +41,7 @@ loop-again c =
     let l = at-loop .loop in
     let d = record-on (b .pre .1 .1) (l .i) (at-loop-test .loop-test .taken) in (
       omega arith,
-      l .inv .1 ∙ ap (fault (b .args .base) (records b)) d
+      l .inv .1 ∙ ap (allFine (b .args .base) (records b)) d
           ∙ fault-on (b .args .base) (records b) (here b (l .i)) (drop (l .i + 1) (sections b))
           (sym (c .before .before .judge-section .ensures) ∙ ap faulted (c .enum-told .given .1)),
     )
@@ -53,7 +53,7 @@ returns c =
     let b = at-loop .before .before .before .before .before .before .before in
     let l = at-loop .loop in
     let d = record-on (b .pre .1 .1) (l .i) (at-loop-test .loop-test .taken) in
-    sym (l .inv .1 ∙ ap (fault (b .args .base) (records b)) d
+    sym (l .inv .1 ∙ ap (allFine (b .args .base) (records b)) d
     ∙ fault-at (b .args .base) (records b) (here b (l .i)) (drop (l .i + 1) (sections b)) _
     (sym (c .before .before .before .judge-section .ensures) ∙ ap faulted (c .before .refusal .given .1)))
 
@@ -63,7 +63,7 @@ returns-2 c =
     let l = c .before .loop in
     let e : drop (l .i) (sections b) ≡ [] = drop-of-length-le (sections b) {i = l .i}
     (omega (arith, length-recordsOf (b .args .epochs .now) (b .args .bytes .now) (b .pre .1 .1 .even), c .loop-test .left)) in
-    sym (l .inv .1 ∙ ap (fault (b .args .base) (records b)) e ∙ fault-none (b .args .base) (records b))
+    sym (l .inv .1 ∙ ap (allFine (b .args .base) (records b)) e ∙ fault-none (b .args .base) (records b))
 
 pub judge-spec : {M : Type 1} → statement M
 judge-spec =

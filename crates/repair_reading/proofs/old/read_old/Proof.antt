@@ -6,7 +6,7 @@ use lib.ListN.{drop, length-drop}
 use borrow.Author.Needs.{needs}
 use Rattle.fields_spec.specs.Varint.{found}
 use Rattle.fields_spec.proofs.Told.{told-incomplete, told-strange, told-ends, told-read}
-use Rattle.repair_spec.specs.Steps.{gotOf}
+use Rattle.repair_spec.specs.Steps.{gotOldOf}
 use Rattle.repair_spec.proofs.Reading.{old-short}
 use Rattle.repair_spec.proofs.Getting.{at-incomplete, at-whole}
 use Rattle.repair_reading.proofs.old.read_old.Statement.{statement}
@@ -15,7 +15,7 @@ use Rattle.repair_reading.proofs.old.read_old.Tie as tie
 returns : tie.Need-returns
 returns c =
     let a = c .before .before .args in
-    sym (ap gotOf (old-short (a .at) (drop (a .at) (a .src .now)) (rw length-drop (c .if1 .taken))))
+    sym (ap gotOldOf (old-short (a .at) (drop (a .at) (a .src .now)) (rw length-drop (c .if1 .taken))))
 
 read-padded-requires : tie.Need-read-padded-requires
 read-padded-requires c κs =
@@ -44,7 +44,7 @@ returns-2 c =
     let start = at-if1 .before .before in
     let a = start .args in
     let d = a .src .now in
-    sym (ap gotOf (at-incomplete d (a .at) (omega (arith, at-if1 .if1 .left))
+    sym (ap gotOldOf (at-incomplete d (a .at) (omega (arith, at-if1 .if1 .left))
     (told-incomplete (a .at + 2) _ (found (drop (a .at + 2) d)) (sym (c .before .before .judge-varint .ensures) ∙ c .enum-told .given .1) .0)))
 
 returns-4 : tie.Need-returns-4

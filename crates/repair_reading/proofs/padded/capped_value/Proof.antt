@@ -4,13 +4,13 @@ use Prim.Native.Nat.{ℕ, suc, _+_, _-_, _*_, _%_, _≤_}
 use native.Mathlib.Omega.{arith}
 use lib.ListN.{getD}
 use borrow.Author.Needs.{needs}
-use Rattle.repair_spec.specs.Steps.{capped}
+use Rattle.repair_spec.specs.Steps.{countCapped}
 use Rattle.repair_spec.proofs.Padding.{capped-fits, capped-most, capped-turn, says, says-none, says-more}
 use Rattle.repair_reading.proofs.padded.capped_value.Statement.{statement}
 use Rattle.repair_reading.proofs.padded.capped_value.Tie as tie
 
 abbrev Inv-loop : tie.InvT-loop
-Inv-loop src at end says₀ i₀ sum i = (at ≤ i) × (i ≤ end) × (sum ≡ capped (says src i end))
+Inv-loop src at end says₀ i₀ sum i = (at ≤ i) × (i ≤ end) × (sum ≡ countCapped (says src i end))
 
 abbrev μ-loop : tie.MeasureT-loop
 μ-loop src at end says₀ i₀ sum i = i
@@ -19,7 +19,7 @@ loop-holds : tie.Need-loop-holds Inv-loop μ-loop
 loop-holds c =
     let a = c .before .args in
     let z = says-none (a .src .now) (a .end) in
-    (c .before .pre .0, omega arith, sym (ap capped z ∙ capped-fits 0 (omega arith)))
+    (c .before .pre .0, omega arith, sym (ap countCapped z ∙ capped-fits 0 (omega arith)))
 
 -- the sum is at most the first number too large
 small : (c : tie.In-loop Inv-loop μ-loop) → c .before .loop .says ≤ 4294967296
@@ -39,8 +39,8 @@ loop-again c =
     says-more d i (a .end) (omega (arith, l .inv .1)) (start .pre .1) ∙ ap (λ (j : ℕ). getD d i 0 % 128 + 128 * says d j (a .end)) z in (
       omega (arith, c .before .before .loop-test .taken),
       omega (arith, l .inv .1),
-      c .cap .ensures ∙ ap (λ (n : ℕ). capped (n * 128 + getD d i 0 % 128)) (l .inv .2) ∙ capped-turn (says d (l .i) (a .end)) (getD d i 0 % 128)
-          ∙ ap capped (sym m),
+      c .cap .ensures ∙ ap (λ (n : ℕ). countCapped (n * 128 + getD d i 0 % 128)) (l .inv .2) ∙ capped-turn (says d (l .i) (a .end)) (getD d i 0 % 128)
+          ∙ ap countCapped (sym m),
     )
 
 returns : tie.Need-returns Inv-loop μ-loop
@@ -48,7 +48,7 @@ returns c =
     let a = c .before .before .before .args in
     let l = c .before .loop in
     let z : l .i ≡ a .at = omega (arith, l .inv .0, c .loop-test .left) in
-    l .inv .2 ∙ ap (λ (j : ℕ). capped (says (a .src .now) j (a .end))) z
+    l .inv .2 ∙ ap (λ (j : ℕ). countCapped (says (a .src .now) j (a .end))) z
 
 pub capped-value-spec : {M : Type 1} → statement M
 capped-value-spec =

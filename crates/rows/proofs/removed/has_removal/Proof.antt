@@ -2,9 +2,9 @@
 use mathlib.Core.Path.{sym, ap, _∙_}
 use mathlib.Core.Bool.{Bool}
 use borrow.Author.Needs.{needs}
-use Rattle.records_spec.specs.Answers.{Answer, ok}
+use Rattle.records_spec.specs.Outcomes.{Answer, ok}
 use Rattle.rows_spec.specs.Rows.{Tables, tables}
-use Rattle.rows_spec.specs.Removals.{Removal, has}
+use Rattle.rows_spec.specs.Removals.{Removal, hasBytes}
 use Rattle.rows_spec.specs.declared.removed.Removed.the-variants.{None, Basic, Sectioned}
 use Rattle.rows_spec.proofs.Removals.{proper-sectioned, answered-bad, answered-proper}
 use Rattle.rows.proofs.removed.has_removal.Statement.{statement}
@@ -16,7 +16,7 @@ rows c = tables (c .args .ids .now) (c .args .epochs .now) (c .args .bytes .now)
 
 -- the answer where the removal is proper
 abbrev asked : Removal → Answer Bool
-asked r = ok (has r)
+asked r = ok (hasBytes r)
 
 any-bytes-requires : tie.Need-any-bytes-requires
 any-bytes-requires c κs =

@@ -2,7 +2,7 @@
 use mathlib.Core.Path.{sym, ap, _∙_}
 use borrow.Author.Needs.{needs}
 use Rattle.rows_spec.specs.Rows.{tables}
-use Rattle.rows_spec.specs.Removals.{proper}
+use Rattle.rows_spec.specs.Removals.{properIn}
 use Rattle.rows_spec.specs.declared.removed.Removed.{Removed}
 use Rattle.rows.proofs.removed.is_proper.Statement.{statement}
 use Rattle.rows.proofs.removed.is_proper.Tie as tie
@@ -12,7 +12,7 @@ returns-3 c =
     let start = c .before .before .before .before .before .before in
     let a = start .args in
     c .are-proper .ensures
-    ∙ sym (ap (λ (x : Removed). proper x (tables (a .ids .now) (a .epochs .now) (a .bytes .now))) (c .before .before .removed .given .1))
+    ∙ sym (ap (λ (x : Removed). properIn x (tables (a .ids .now) (a .epochs .now) (a .bytes .now))) (c .before .before .removed .given .1))
 
 pub is-proper-spec : {M : Type 1} → statement M
 is-proper-spec =

@@ -3,10 +3,10 @@ use mathlib.Core.Path.{sym, _∙_}
 use Prim.Native.Nat.{ℕ}
 use native.Mathlib.Omega.{arith}
 use borrow.Author.Needs.{needs}
-use Rattle.records_spec.specs.Answers.{Answer}
+use Rattle.records_spec.specs.Outcomes.{Answer}
 use Rattle.rows_spec.specs.Rows.{Tables, tables}
 use Rattle.rows_spec.specs.Removals.{Removal, total}
-use Rattle.rows_spec.specs.Calls.{within}
+use Rattle.rows_spec.specs.Calls.{totalWithin}
 use Rattle.rows_spec.specs.declared.removed.Removed.the-variants.{None, Basic, Sectioned}
 use Rattle.rows_spec.proofs.Removals.{proper-sectioned, within-fits, answered-bad, answered-proper}
 use Rattle.rows.proofs.removed.total_removed_bytes.Statement.{statement}
@@ -18,7 +18,7 @@ rows c = tables (c .args .ids .now) (c .args .epochs .now) (c .args .bytes .now)
 
 -- the answer where the removal is proper
 abbrev asked : Removal → Answer ℕ
-asked r = within (total r)
+asked r = totalWithin (total r)
 
 total-rows-requires : tie.Need-total-rows-requires
 total-rows-requires c κs =

@@ -5,7 +5,7 @@ use native.Mathlib.Omega.{arith}
 use borrow.Author.Needs.{needs}
 use lib.ListN.{drop}
 use Rattle.fields_spec.specs.Varint.{largest}
-use Rattle.records_spec.specs.Answers.{ok}
+use Rattle.records_spec.specs.Outcomes.{ok}
 use Rattle.rows_spec.specs.Rows.{tables, rowsIn}
 use Rattle.rows_spec.specs.Removals.{totalRows}
 use Rattle.rows_spec.proofs.Removals.{total-on, total-end, within-over, within-fits}

@@ -1,6 +1,6 @@
 -- `rows::removed::yes_or_no` meets its contract, by its test. Assumes nothing.
 use mathlib.Core.Path.{sym, ap}
-use Rattle.records_spec.specs.Answers.{ok}
+use Rattle.records_spec.specs.Outcomes.{ok}
 use Rattle.rows.proofs.removed.yes_or_no.Statement.{statement}
 use Rattle.rows.proofs.removed.yes_or_no.Tie as tie
 

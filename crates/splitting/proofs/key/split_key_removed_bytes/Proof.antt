@@ -5,11 +5,11 @@ use mathlib.Core.List.{List}
 use Prim.Native.Nat.{ℕ, _<_}
 use native.Mathlib.Omega.{arith}
 use borrow.Author.Needs.{needs}
-use Rattle.records_spec.specs.Flags.{idOf, ownerOf, proper}
+use Rattle.records_spec.specs.Flags.{idOf, ownerOf, proper, holding}
+use Rattle.rows_spec.specs.Calls.{placingRemoval}
 use Rattle.records_spec.specs.declared.head.MaybeOwner.{MaybeOwner}
 use Rattle.records_spec.proofs.Owners.{owner-bytes}
 use Rattle.rows_spec.specs.Rows.{Tables, tables}
-use Rattle.rows_spec.specs.Outcomes.{placing}
 use Rattle.rows_spec.proofs.Rows.{room-in}
 use Rattle.splitting_spec.specs.Calls.{keyPart, splitKey}
 use Rattle.splitting_spec.proofs.Calls.{key-none, key-put, key-short, key-bad, key-proper}
@@ -25,7 +25,7 @@ module _ (at-if1 : tie.Then1) where
   abbrev start : tie.Start
   start = at-if1 .before .before .before .before .before .before
 
-  tested : proper (start .args .flags) (start .args .epochs .now) (start .args .counts .now) ≡ true
+  tested : proper (holding (start .args .flags) (start .args .epochs .now) (start .args .counts .now)) ≡ true
   tested = sym (at-if1 .before .is-proper .ensures) ∙ at-if1 .if1 .taken
 
   abbrev our-id : List ℕ
@@ -33,10 +33,10 @@ module _ (at-if1 : tie.Then1) where
 
   -- so the outcome is what is placed, under an identifier that is ours
   then-split : (i : List ℕ) → i ≡ our-id
-      → placing (keyPart i (start .args .flags .base) (start .args .removed-key-bytes)) (lent start)
-      ≡ splitKey (start .args .flags) (start .args .epochs .now) (start .args .counts .now) (start .args .removed-key-bytes) (lent start)
+      → placingRemoval (keyPart i (start .args .flags .base) (start .args .removed-key-bytes)) (lent start)
+      ≡ splitKey (holding (start .args .flags) (start .args .epochs .now) (start .args .counts .now)) (start .args .removed-key-bytes) (lent start)
   then-split i e =
-      key-proper (start .args .flags) (start .args .epochs .now) (start .args .counts .now) (start .args .removed-key-bytes) (lent start) i e tested
+      key-proper (holding (start .args .flags) (start .args .epochs .now) (start .args .counts .now)) (start .args .removed-key-bytes) (lent start) i e tested
 
 -- there are bytes
 some-bytes : (at-if2 : tie.Else2) → 0 < start (at-if2 .before) .args .removed-key-bytes
@@ -83,7 +83,7 @@ returns-4 : tie.Need-returns-4
 returns-4 c =
     let b = c .before .before .before .before .before .before in
     let a = b .args in
-    key-bad (a .flags) (a .epochs .now) (a .counts .now) (a .removed-key-bytes) (lent b) (sym (c .before .is-proper .ensures) ∙ c .if1 .left)
+    key-bad (holding (a .flags) (a .epochs .now) (a .counts .now)) (a .removed-key-bytes) (lent b) (sym (c .before .is-proper .ensures) ∙ c .if1 .left)
 
 pub split-key-removed-bytes-spec : {M : Type 1} → statement M
 split-key-removed-bytes-spec =

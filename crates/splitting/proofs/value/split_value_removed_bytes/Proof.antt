@@ -8,14 +8,14 @@ use borrow.Author.Needs.{needs}
 use lib.ListN.{length}
 use lib.Seq.{length-take-le}
 use Rattle.records_spec.specs.Tables.{At}
-use Rattle.records_spec.specs.Flags.{idOf, ownerOf, flagsOf, proper}
+use Rattle.records_spec.specs.Flags.{idOf, ownerOf, flagsOf, proper, holding}
+use Rattle.records_spec.specs.Outcomes.{leaving}
 use Rattle.records_spec.specs.declared.head.MaybeOwner.{MaybeOwner}
 use Rattle.records_spec.proofs.Owners.{owner-bytes}
 use Rattle.records_spec.proofs.Proper.{IsProper, proper-inv, proper-above, proper-long}
 use Rattle.rows_spec.specs.Rows.{Tables, tables}
-use Rattle.rows_spec.specs.Outcomes.{placing}
 use Rattle.splitting_spec.specs.Sections.{sections, split}
-use Rattle.splitting_spec.specs.Calls.{valuePart, withVisited, splitValue}
+use Rattle.splitting_spec.specs.Calls.{valuePart, splitValue, placedSplit}
 use Rattle.splitting_spec.specs.declared.giving.Visited.{Visited}
 use Rattle.splitting_spec.proofs.Counting.{sections-short, base-short}
 use Rattle.splitting_spec.proofs.Calls.{rows-told, fits, value-placed, value-short, value-bad, value-proper}
@@ -31,7 +31,7 @@ module _ (at-if1 : tie.Then1) where
   abbrev start : tie.Start
   start = at-if1 .before .before .before .before .before .before
 
-  tested : proper (start .args .flags) (start .args .epochs .now) (start .args .counts .now) ≡ true
+  tested : proper (holding (start .args .flags) (start .args .epochs .now) (start .args .counts .now)) ≡ true
   tested = sym (at-if1 .before .is-proper .ensures) ∙ at-if1 .if1 .taken
 
   good : IsProper (start .args .flags) (start .args .epochs .now) (start .args .counts .now)
@@ -41,15 +41,15 @@ module _ (at-if1 : tie.Then1) where
   our-id = idOf (ownerOf (start .args .flags))
 
   abbrev records : List At
-  records = flagsOf (start .args .flags) (start .args .epochs .now) (start .args .counts .now) .records
+  records = flagsOf (holding (start .args .flags) (start .args .epochs .now) (start .args .counts .now)) .records
 
   -- so the outcome is what is placed, under an identifier that is ours
   then-split : (i : List ℕ) → i ≡ our-id
-      → withVisited (length (sections records (start .args .removed-value-bytes)))
-      (placing (valuePart i (start .args .flags .base) records (start .args .removed-value-bytes)) (lent start))
-      ≡ splitValue (start .args .flags) (start .args .epochs .now) (start .args .counts .now) (start .args .removed-value-bytes) (lent start)
+      → leaving (lent start) (placedSplit (length (sections records (start .args .removed-value-bytes)))
+      (valuePart i (start .args .flags .base) records (start .args .removed-value-bytes)) (lent start))
+      ≡ splitValue (holding (start .args .flags) (start .args .epochs .now) (start .args .counts .now)) (start .args .removed-value-bytes) (lent start)
   then-split i e =
-      value-proper (start .args .flags) (start .args .epochs .now) (start .args .counts .now) (start .args .removed-value-bytes)
+      value-proper (holding (start .args .flags) (start .args .epochs .now) (start .args .counts .now)) (start .args .removed-value-bytes)
       (lent start) i e tested
 
 -- what was counted
@@ -121,7 +121,7 @@ returns-3 : tie.Need-returns-3
 returns-3 c =
     let b = c .before .before .before .before .before .before in
     let a = b .args in
-    value-bad (a .flags) (a .epochs .now) (a .counts .now) (a .removed-value-bytes) (lent b) (sym (c .before .is-proper .ensures) ∙ c .if1 .left)
+    value-bad (holding (a .flags) (a .epochs .now) (a .counts .now)) (a .removed-value-bytes) (lent b) (sym (c .before .is-proper .ensures) ∙ c .if1 .left)
 
 slice-aggregate-sectioned-storage-removal : tie.Need-slice-aggregate-sectioned-storage-removal
 slice-aggregate-sectioned-storage-removal c =

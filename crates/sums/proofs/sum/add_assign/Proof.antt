@@ -2,6 +2,7 @@
 use mathlib.Core.Path.{sym, _∙_}
 use borrow.Author.Needs.{needs}
 use Rattle.rows_spec.specs.Rows.{Tables, tables}
+use Rattle.rows_spec.specs.Removals.{holdingRows}
 use Rattle.sums_spec.proofs.Answering.{summed-proper, summed-left-bad, summed-right-bad}
 use Rattle.sums.proofs.sum.add_assign.Statement.{statement}
 use Rattle.sums.proofs.sum.add_assign.Tie as tie
@@ -22,19 +23,19 @@ returns c =
     let at-is-proper = at-if1 .before in
     let b = at-is-proper .before .before .before .before .before .before .before .before in
     at-add-proper .add-proper .ensures
-    ∙ summed-proper (b .args .version) (b .args .lhs .removed) (ours b) (b .args .rhs .removed) (rhs b)
+    ∙ summed-proper (b .args .version) (holdingRows (b .args .lhs .removed) (ours b)) (holdingRows (b .args .rhs .removed) (rhs b))
     (sym (at-is-proper .is-proper .ensures) ∙ at-if1 .if1 .taken) (sym (at-is-proper2 .is-proper2 .ensures) ∙ at-if2 .if2 .taken)
 
 returns-2 : tie.Need-returns-2
 returns-2 c =
     let b = c .before .before .before .before .before .before .before .before .before .before .before in
-    summed-right-bad (b .args .version) (b .args .lhs .removed) (ours b) (b .args .rhs .removed) (rhs b)
+    summed-right-bad (b .args .version) (holdingRows (b .args .lhs .removed) (ours b)) (holdingRows (b .args .rhs .removed) (rhs b))
     (sym (c .before .is-proper2 .ensures) ∙ c .if2 .left)
 
 returns-3 : tie.Need-returns-3
 returns-3 c =
     let b = c .before .before .before .before .before .before .before .before .before in
-    summed-left-bad (b .args .version) (b .args .lhs .removed) (ours b) (b .args .rhs .removed) (rhs b)
+    summed-left-bad (b .args .version) (holdingRows (b .args .lhs .removed) (ours b)) (holdingRows (b .args .rhs .removed) (rhs b))
     (sym (c .before .is-proper .ensures) ∙ c .if1 .left)
 
 pub add-assign-spec : {M : Type 1} → statement M

@@ -2,11 +2,11 @@
 use mathlib.Core.Path.{sym, ap, _∙_}
 use borrow.Author.Needs.{needs}
 use Rattle.rows_spec.specs.Rows.{Tables, tables}
-use Rattle.rows_spec.specs.Removals.{removalOf}
+use Rattle.rows_spec.specs.Removals.{removalIn}
+use Rattle.rows_spec.specs.Calls.{RemovalAfter, placingRemoval}
 use Rattle.rows_spec.specs.declared.removed.Removed.{Removed}
 use Rattle.rows_spec.proofs.Removals.{proper-sectioned}
 use Rattle.sums_spec.specs.Sums.{sum}
-use Rattle.rows_spec.specs.Outcomes.{After, placing}
 use Rattle.sums.proofs.sum.add_proper.Statement.{statement}
 use Rattle.sums.proofs.sum.add_proper.Tie as tie
 
@@ -18,8 +18,8 @@ abbrev rhs : tie.Start → Tables
 rhs c = tables (c .args .rhs-ids .now) (c .args .rhs-epochs .now) (c .args .rhs-bytes .now)
 
 -- what is left where the left state is x
-abbrev left : tie.Start → Removed → After
-left c x = placing (sum (c .args .version) (removalOf x (ours c)) (removalOf (c .args .rhs) (rhs c))) (ours c)
+abbrev left : tie.Start → Removed → RemovalAfter
+left c x = placingRemoval (sum (c .args .version) (removalIn x (ours c)) (removalIn (c .args .rhs) (rhs c))) (ours c)
 
 add-to-sectioned-requires : tie.Need-add-to-sectioned-requires
 add-to-sectioned-requires c κs =

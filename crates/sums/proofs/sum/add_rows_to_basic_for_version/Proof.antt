@@ -7,7 +7,7 @@ use Rattle.rows_spec.specs.Rows.{Row, Tables, tables}
 use Rattle.rows_spec.specs.Removals.{sectioned}
 use Rattle.rows_spec.proofs.Rows.{proper-none}
 use Rattle.rows_spec.proofs.Columns.{part-rows, part-proper}
-use Rattle.rows_spec.specs.Outcomes.{After, placing}
+use Rattle.rows_spec.specs.Calls.{placingRemoval, RemovalAfter}
 use Rattle.sums_spec.proofs.Joining.{joined-nothing}
 use Rattle.sums_spec.proofs.Losing.{basic-later, basic-made, basic-lost}
 use Rattle.sums.proofs.sum.add_rows_to_basic_for_version.Statement.{statement}
@@ -18,8 +18,8 @@ module _ (s : tie.Start) where
   abbrev rhs : Tables
   rhs = tables (s .args .rhs-ids .now) (s .args .rhs-epochs .now) (s .args .rhs-bytes .now)
 
-  abbrev left : List Row → After
-  left l = placing (sectioned l) (tables (s .args .ids .now) (s .args .epochs .now) (s .args .bytes .now))
+  abbrev left : List Row → RemovalAfter
+  left l = placingRemoval (sectioned l) (tables (s .args .ids .now) (s .args .epochs .now) (s .args .bytes .now))
 
 returns : tie.Need-returns
 returns c =

@@ -3,12 +3,12 @@ use mathlib.Core.Path.{sym, ap, _∙_}
 use Prim.Native.Nat.{ℕ}
 use borrow.Author.Needs.{needs}
 use Rattle.rows_spec.specs.Rows.{Tables, tables}
-use Rattle.rows_spec.specs.Removals.{basic, removalOf}
+use Rattle.rows_spec.specs.Removals.{basic, removalIn}
+use Rattle.rows_spec.specs.Calls.{RemovalAfter, placingRemoval}
 use Rattle.rows_spec.specs.declared.removed.Removed.{Removed}
 use Rattle.rows_spec.specs.declared.removed.Removed.the-variants.{Basic}
 use Rattle.rows_spec.proofs.Removals.{proper-sectioned}
 use Rattle.sums_spec.specs.Sums.{sum}
-use Rattle.rows_spec.specs.Outcomes.{After, placing}
 use Rattle.rows_spec.proofs.Outcomes.{done, placing-basic}
 use Rattle.sums.proofs.sum.add_to_basic.Statement.{statement}
 use Rattle.sums.proofs.sum.add_to_basic.Tie as tie
@@ -21,8 +21,8 @@ abbrev rhs : tie.Start → Tables
 rhs c = tables (c .args .rhs-ids .now) (c .args .rhs-epochs .now) (c .args .rhs-bytes .now)
 
 -- what is left where the right state is y
-abbrev left : tie.Start → Removed → After
-left c y = placing (sum (c .args .version) (basic (c .args .removed-bytes)) (removalOf y (rhs c))) (ours c)
+abbrev left : tie.Start → Removed → RemovalAfter
+left c y = placingRemoval (sum (c .args .version) (basic (c .args .removed-bytes)) (removalIn y (rhs c))) (ours c)
 
 returns-2 : tie.Need-returns-2
 returns-2 c =

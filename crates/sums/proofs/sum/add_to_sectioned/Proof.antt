@@ -2,11 +2,11 @@
 use mathlib.Core.Path.{sym, ap, _∙_}
 use borrow.Author.Needs.{needs}
 use Rattle.rows_spec.specs.Rows.{Tables, tables, rowsIn}
-use Rattle.rows_spec.specs.Removals.{sectioned, removalOf}
+use Rattle.rows_spec.specs.Removals.{sectioned, removalIn}
+use Rattle.rows_spec.specs.Calls.{RemovalAfter, placingRemoval}
 use Rattle.rows_spec.specs.declared.removed.Removed.{Removed}
 use Rattle.rows_spec.proofs.Removals.{proper-sectioned}
 use Rattle.sums_spec.specs.Sums.{sum}
-use Rattle.rows_spec.specs.Outcomes.{After, placing}
 use Rattle.rows_spec.proofs.Outcomes.{placing-stays}
 use Rattle.sums.proofs.sum.add_to_sectioned.Statement.{statement}
 use Rattle.sums.proofs.sum.add_to_sectioned.Tie as tie
@@ -19,8 +19,8 @@ abbrev rhs : tie.Start → Tables
 rhs c = tables (c .args .rhs-ids .now) (c .args .rhs-epochs .now) (c .args .rhs-bytes .now)
 
 -- what is left where the right state is y
-abbrev left : tie.Start → Removed → After
-left c y = placing (sum (c .args .version) (sectioned (rowsIn (c .args .n) (ours c))) (removalOf y (rhs c))) (ours c)
+abbrev left : tie.Start → Removed → RemovalAfter
+left c y = placingRemoval (sum (c .args .version) (sectioned (rowsIn (c .args .n) (ours c))) (removalIn y (rhs c))) (ours c)
 
 add-rows-requires : tie.Need-add-rows-requires
 add-rows-requires c κs =

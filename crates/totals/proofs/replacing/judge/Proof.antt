@@ -4,119 +4,105 @@ use mathlib.Core.List.{List}
 use Prim.Native.Nat.{ℕ, _+_, _-_, _≤_}
 use native.Mathlib.Omega.{arith}
 use borrow.Author.Needs.{needs}
-use Rattle.records_spec.specs.Answers.{ok}
+use Rattle.records_spec.specs.Outcomes.{ok}
+use Rattle.records_spec.specs.Answers.{counted}
 use Rattle.rows_spec.specs.Rows.{Row, tables, rowsIn}
 use Rattle.rows_spec.proofs.Rows.{length-rows}
-use Rattle.totals_spec.specs.Steps.{under, judged, judgedOld, judgedNew}
+use Rattle.totals_spec.specs.Steps.{under, judgedOld, judgedNew}
 use Rattle.totals_spec.proofs.UnderOwner.{under-ascends, under-long}
-use Rattle.totals_spec.proofs.Verdicts.{verdict-14, verdict-6, verdict-rows, verdict-covered, old-never, new-never, gone-most, made-within}
+use Rattle.totals_spec.proofs.Verdicts.{verdict-old, verdict-new, verdict-rows, verdict-covered, gone-most, made-within}
 use Rattle.totals.proofs.replacing.judge.Statement.{statement}
 use Rattle.totals.proofs.replacing.judge.Tie as tie
 
--- of what is given: the table, the old rows and the new ones
-module _ (s : tie.Start) where
-  abbrev table : List Row
-  table = rowsIn (s .args .n) (tables (s .args .owners .now) (s .args .epochs .now) (s .args .totals .now))
+-- the table, the old rows and the new ones
+abbrev table : tie.Start → List Row
+table c = rowsIn (c .args .n) (tables (c .args .owners .now) (c .args .epochs .now) (c .args .totals .now))
 
-  abbrev olds : List Row
-  olds = under (s .args .old-owner) (s .args .old-epochs .now) (s .args .old-counts .now)
+abbrev olds : tie.Start → List Row
+olds c = under (c .args .old-owner) (c .args .old-epochs .now) (c .args .old-counts .now)
 
-  abbrev news : List Row
-  news = under (s .args .new-owner) (s .args .new-epochs .now) (s .args .new-counts .now)
+abbrev news : tie.Start → List Row
+news c = under (c .args .new-owner) (c .args .new-epochs .now) (c .args .new-counts .now)
 
--- the old counts are judged
-abbrev start : tie.After-judge-old → tie.Start
-start c = c .before .before .before .before .before .before .before
+-- the old counts are held, and so many rows go
+module _ (at-gone : tie.After-gone) where
+  abbrev start : tie.Start
+  start = at-gone .before .before .before .before .before .before .before .before .before
 
--- a number of rows goes
-module _ (c : tie.After-gone) where
-  abbrev begun : tie.Start
-  begun = start (c .before .before)
-
-  abbrev gone : ℕ
-  gone = c .gone .given .0 .0
-
-  went : ok gone ≡ judgedOld (olds begun) (table begun)
-  went = sym (ap judged (c .gone .given .1)) ∙ c .before .before .judge-old .ensures
-
-  most : gone ≤ begun .args .n
-  most =
-      let p = begun .pre in
-      rw (length-rows (p .0 .room)) at (gone-most (olds begun) (news begun) (table begun) went (p .0 .rises) (p .0 .full)
-      (under-ascends _ (p .1 .0)) (under-ascends _ (p .1 .1)))
+  went : ok (at-gone .gone .given .0 .0) ≡ judgedOld (olds start) (table start)
+  went = sym (ap counted (at-gone .gone .given .1)) ∙ at-gone .before .before .judge-old .ensures
 
 judge-new-requires : tie.Need-judge-new-requires
 judge-new-requires c κs =
-    let s = begun (c .before) in
-    (s .pre .0, (s .pre .1 .0, (s .pre .1 .1, verdict-covered (olds s) (news s) (table s) (went (c .before)))))
+    let at-gone = c .before in
+    let p = start at-gone .pre in
+    (p .0, (p .1 .0, (p .1 .1, verdict-covered (olds (start at-gone)) (news (start at-gone)) (table (start at-gone)) (went at-gone))))
 
--- the new counts are judged, after the old ones
-abbrev first : tie.After-judge-new → tie.After-gone
-first c = c .before .before
+-- the new ones fit, and so many rows are made
+module _ (at-made : tie.After-made) where
+  abbrev gone : tie.After-gone
+  gone = at-made .before .before .before .before
 
--- a number of rows is made
-module _ (c : tie.After-made) where
-  abbrev known : tie.After-gone
-  known = first (c .before .before)
+  abbrev begin : tie.Start
+  begin = start gone
 
-  abbrev given : tie.Start
-  given = begun known
+  came : ok (at-made .made .given .0 .0) ≡ judgedNew (olds begin) (news begin) (table begin)
+  came = sym (ap counted (at-made .made .given .1)) ∙ at-made .before .before .judge-new .ensures
 
-  abbrev made : ℕ
-  made = c .made .given .0 .0
+  most : gone .gone .given .0 .0 ≤ begin .args .n
+  most =
+      let p = begin .pre in
+      rw (length-rows (p .0 .room)) at (gone-most (olds begin) (news begin) (table begin) (went gone) (p .0 .rises) (p .0 .full)
+      (under-ascends _ (p .1 .0)) (under-ascends _ (p .1 .1)))
 
-  came : ok made ≡ judgedNew (olds given) (news given) (table given)
-  came = sym (ap judged (c .made .given .1)) ∙ c .before .before .judge-new .ensures
-
-fits : tie.Need-add-t18
-fits c =
-    let m = c .before in
-    let s = given m in
+add : tie.Need-add-t20
+add c =
+    let at-made = c .before in
+    let p = begin at-made .pre in
     omega (
       arith,
-      most (known m),
-      made-within (olds s) (news s) (table s) (came m),
-      under-long (s .args .new-owner) (s .pre .1 .1),
-      s .pre .0 .room .ids-long,
-      s .good,
+      most at-made,
+      made-within (olds (begin at-made)) (news (begin at-made)) (table (begin at-made)) (came at-made),
+      under-long (begin at-made .args .new-owner) (p .1 .1),
+      p .0 .room .ids-long,
+      begin at-made .good,
     )
 
--- the number that is told
-total : tie.Need-returns-5
-total c =
-    let m = c .before in
-    let s = given m in
+returns : tie.Need-returns
+returns c =
+    let at-refusal = c .before in
+    let s = at-refusal .before .before .before .before .before .before .before .before .before in
+    verdict-old (olds s) (news s) (table s) _ (sym (ap counted (at-refusal .refusal .given .1)) ∙ at-refusal .before .before .judge-old .ensures)
+
+returns-2 : tie.Need-returns-2
+returns-2 c =
+    let at-refusal = c .before in
+    let at-gone = at-refusal .before .before .before .before in
+    let s = start at-gone in
+    verdict-new (olds s) (news s) (table s) (went at-gone) _
+    (sym (ap counted (at-refusal .refusal2 .given .1)) ∙ at-refusal .before .before .judge-new .ensures)
+
+returns-3 : tie.Need-returns-3
+returns-3 c =
+    let at-made = c .before in
+    let s = begin at-made in
     let p = s .pre in
-    ap (λ (k : ℕ). ok (k - gone (known m) + made m)) (sym (length-rows (p .0 .room)))
-    ∙ verdict-rows (olds s) (news s) (table s) (went (known m)) (p .0 .rises) (p .0 .full) (under-ascends _ (p .1 .0)) (under-ascends _ (p .1 .1))
-    (came m)
+    ap (λ (k : ℕ). ok (k - gone at-made .gone .given .0 .0 + at-made .made .given .0 .0)) (sym (length-rows (p .0 .room)))
+    ∙ verdict-rows (olds s) (news s) (table s) (went (gone at-made)) (p .0 .rises) (p .0 .full) (under-ascends _ (p .1 .0)) (under-ascends _ (p .1 .1))
+    (came at-made)
 
 pub judge-spec : {M : Type 1} → statement M
 judge-spec =
     tie.close
     (tie.spec
-    (λ c κs. let s = c .before .before .before .before .before .before in (s .pre .0, s .pre .1 .0))
-    (λ c. search needs)
+    (λ c κs. search needs)
     (λ c. search needs)
     (λ c. search needs)
     judge-new-requires
     (λ c. search needs)
     (λ c. search needs)
-    (λ c. search needs)
-    (λ c. most (known (c .before)))
-    fits
-    (λ c.
-    let s = start (c .before .before) in
-    verdict-14 (olds s) (news s) (table s) (sym (ap judged (c .enum-told .given .1)) ∙ c .before .before .judge-old .ensures))
-    (λ c.
-    let s = start (c .before .before) in
-    absurd (old-never (olds s) (news s) (table s) (sym (ap judged (c .enum-told2 .given .1)) ∙ c .before .before .judge-old .ensures)))
-    (λ c.
-    let j = c .before .before in
-    let s = begun (first j) in
-    absurd (new-never (olds s) (news s) (table s) (went (first j)) (sym (ap judged (c .enum-told3 .given .1)) ∙ j .judge-new .ensures)))
-    (λ c.
-    let j = c .before .before in
-    let s = begun (first j) in
-    verdict-6 (olds s) (news s) (table s) (went (first j)) (sym (ap judged (c .enum-told4 .given .1)) ∙ j .judge-new .ensures))
-    total)
+    (λ c. most (c .before))
+    add
+    returns
+    returns-2
+    returns-3)

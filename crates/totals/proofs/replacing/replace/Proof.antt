@@ -4,7 +4,7 @@ use mathlib.Core.Bool.{Bool, true}
 use mathlib.Core.Option.{Option}
 use lib.ListN.{length, take}
 use borrow.Author.Needs.{needs}
-use Rattle.records_spec.specs.Flags.{Flags}
+use Rattle.records_spec.specs.Flags.{Flags, holding}
 use Rattle.rows_spec.specs.Rows.{Tables, tables}
 use Rattle.totals_spec.specs.declared.replacing.Named.{Named}
 use Rattle.totals_spec.specs.Calls.{properTable, given, properGiven}
@@ -20,16 +20,16 @@ module _ (s : tie.Start) where
 
   -- the old flags and the new ones, and whether they are proper
   abbrev oldGiven : Option Flags
-  oldGiven = given (s .args .old-present) (s .args .old) (s .args .old-epochs .now) (s .args .old-counts .now)
+  oldGiven = given (s .args .old-present) (holding (s .args .old) (s .args .old-epochs .now) (s .args .old-counts .now))
 
   abbrev newGiven : Option Flags
-  newGiven = given (s .args .new-present) (s .args .new) (s .args .new-epochs .now) (s .args .new-counts .now)
+  newGiven = given (s .args .new-present) (holding (s .args .new) (s .args .new-epochs .now) (s .args .new-counts .now))
 
   abbrev oldGood : Bool
-  oldGood = properGiven (s .args .old-present) (s .args .old) (s .args .old-epochs .now) (s .args .old-counts .now)
+  oldGood = properGiven (s .args .old-present) (holding (s .args .old) (s .args .old-epochs .now) (s .args .old-counts .now))
 
   abbrev newGood : Bool
-  newGood = properGiven (s .args .new-present) (s .args .new) (s .args .new-epochs .now) (s .args .new-counts .now)
+  newGood = properGiven (s .args .new-present) (holding (s .args .new) (s .args .new-epochs .now) (s .args .new-counts .now))
 
 -- the table is tested
 abbrev start : tie.After-is-proper → tie.Start

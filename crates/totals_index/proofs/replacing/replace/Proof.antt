@@ -50,19 +50,21 @@ use denote.Triple.Spec.{Meets, tripleOf}
 use denote.Triple.Table.{entered, cited}
 use denote.Triple.Walked.{says, Stays, gave-slice, stay-dropped, walkOf, goes-gave-slice, goes-dropped, Walks, ends-at, walked, walk-meets}
 use denote.Exit.{yes}
-use Rattle.records_spec.specs.Flags.{Flags}
+use Rattle.records_spec.specs.Flags.{Flags, holding}
+use Rattle.records_spec.specs.Outcomes.{after}
+use Rattle.records_spec.specs.Answers.{counted}
 use Rattle.records_spec.specs.declared.head.Head.{Head}
 use Rattle.records_spec.proofs.head.Head as HT
 use Rattle.records_spec.proofs.head.Head.Laws as HT′
 use Rattle.rows_spec.specs.Rows.{Tables, tables, rowsIn}
 use Rattle.totals_spec.specs.Calls.{given, properGiven}
 use Rattle.totals_spec.specs.Steps.{countedRows}
-use Rattle.totals_spec.specs.declared.replacing.Replaced.{Replaced}
-use Rattle.totals_spec.proofs.replacing.Replaced as R
-use Rattle.totals_spec.proofs.replacing.Replaced.Laws as R′
+use Rattle.records_spec.specs.declared.answer.Counted.{Counted}
+use Rattle.records_spec.proofs.answer.Counted as R
+use Rattle.records_spec.proofs.answer.Counted.Laws as R′
 use Rattle.totals_index_spec.specs.Structs.{columns}
-use Rattle.totals_index_spec.specs.Calls.{shown, verdict, replacingStructs}
-use Rattle.totals_index_spec.specs.Judging.{started, rowsNamed, judged, verdictOf, Asked, Small}
+use Rattle.totals_index_spec.specs.Calls.{verdict, replacingStructs, beside}
+use Rattle.totals_index_spec.specs.Judging.{started, rowsNamed, judgedAll, verdictOf, Asked, Small}
 use Rattle.totals_index_spec.specs.declared.judging.Judging.{Judging}
 use Rattle.totals_index_spec.specs.declared.structs.Total.{Total}
 use Rattle.totals_index_spec.proofs.judging.Judging as J
@@ -296,33 +298,33 @@ module _ {M : Type 1} (𝓤 : URA M) (H : Heap 𝓤) (A : Atoms 𝓤) (W : Given
   work = tables os es us
 
   abbrev good : Bool
-  good = properGiven p₁ h₁ (x₅ .now) (x₆ .now) && properGiven p₂ h₂ (x₇ .now) (x₈ .now)
+  good = properGiven p₁ (holding h₁ (x₅ .now) (x₆ .now)) && properGiven p₂ (holding h₂ (x₇ .now) (x₈ .now))
 
   abbrev old : Option Flags
-  old = given p₁ h₁ (x₅ .now) (x₆ .now)
+  old = given p₁ (holding h₁ (x₅ .now) (x₆ .now))
 
   abbrev new : Option Flags
-  new = given p₂ h₂ (x₇ .now) (x₈ .now)
+  new = given p₂ (holding h₂ (x₇ .now) (x₈ .now))
 
   abbrev First : Judging → Type 0
-  First s = s ≡ started n (length ys) p₁ h₁ (x₅ .now) (x₆ .now) p₂ h₂ (x₇ .now) (x₈ .now)
+  First s = s ≡ started n (length ys) p₁ (holding h₁ (x₅ .now) (x₆ .now)) p₂ (holding h₂ (x₇ .now) (x₈ .now))
 
   abbrev Last : Judging → ℕ → Judging → Type 0
-  Last s m j = j ≡ judged (rowsNamed (s .old) (x₅ .now) (x₆ .now)) (rowsNamed (s .new) (x₇ .now) (x₈ .now)) s (rowsIn m (columns ys))
+  Last s m j = j ≡ judgedAll (rowsNamed (s .old) (x₅ .now) (x₆ .now)) (rowsNamed (s .new) (x₇ .now) (x₈ .now)) s (rowsIn m (columns ys))
 
   abbrev Told : Judging → Type 0
   Told j = verdictOf j ≡ countedRows (verdict (j .rows) ys good old new)
 
-  abbrev Done : Judging → Replaced → List Total → Tables → Type 0
-  Done j r ts w = shown r ts w ≡ replacingStructs (j .rows) ys work good old new
+  abbrev Done : Judging → Counted → List Total → Tables → Type 0
+  Done j r ts w = after (counted r) (beside ts w) ≡ replacingStructs (j .rows) ys work good old new
 
-  module _ (r : Replaced) (v : Val) (ts′ : List Total) (os′ : List (List ℕ)) (es′ us′ : List ℕ) (len₁ : length ts′ ≡ length ys)
+  module _ (r : Counted) (v : Val) (ts′ : List Total) (os′ : List (List ℕ)) (es′ us′ : List ℕ) (len₁ : length ts′ ≡ length ys)
       (len₂ : length os′ ≡ length os) (len₃ : length es′ ≡ length es) (len₄ : length us′ ≡ length us) where
     abbrev Left : List (Item 𝓤)
     Left = eight ∷ ‵ (finally T.the-row γ₁ ts′) ∷ ‵ (finally Id γ₂ os′) ∷ ‵ (finally u16 γ₃ es′) ∷ ‵ (finally u64 γ₄ us′)
         ∷ ‵ (R.the-row .own r (v ∷ [])) ∷ []
 
-    exits : shown r ts′ (tables os′ es′ us′) ≡ replacingStructs n ys work good old new → ent 𝓤 (⋆ 𝓤 H A Left) (Post v)
+    exits : after (counted r) (beside ts′ (tables os′ es′ us′)) ≡ replacingStructs n ys work good old new → ent 𝓤 (⋆ 𝓤 H A Left) (Post v)
     exits said =
         qed W Left ∵
         suffices ! _ (ends-at 𝓤 H A replace.ended stayed (replace.clauses 𝓤 H A mem run) W ((κs, qs, tt, a, at), tt) v r
@@ -557,7 +559,7 @@ module _ {M : Type 1} (𝓤 : URA M) (H : Heap 𝓤) (A : Atoms 𝓤) (W : Given
         (and-then ! (load ! (from ! (stop !)) (look ! 31 refl))
         (and-then ! (load ! (from ! (stop !)) (look ! 29 refl)) (and-then ! (load ! (from ! (stop !)) (look ! 27 refl)) (no-more !))))))))))))))
         (λ v.
-        use1 W (later (some (λ (r : Replaced). (eight ⊛ ‵ (R.the-row .own r (v ∷ [])))
+        use1 W (later (some (λ (r : Counted). (eight ⊛ ‵ (R.the-row .own r (v ∷ [])))
         ⊛ raw (ensured 𝓤 H A replaces.ended (replaces.clauses 𝓤 H A mem run) κs (replaces-args j) tt r)))) (id⊢ 𝓤 _) $
         await ! tt $ pick ! (λ r. split ! $ move ! (1 ∷ []) $
         use1 W (some (λ (ws : Unit {0} × (List Total

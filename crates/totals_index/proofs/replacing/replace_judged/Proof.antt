@@ -51,18 +51,20 @@ use denote.Triple.Table.{entered, cited}
 use denote.Triple.Walked.{says, needs, Stays, stay-slice, stay-dropped, walkOf, goes-slice, goes-dropped, Walks, ends-at, walked, walk-meets}
 use denote.Exit.{yes}
 use Rattle.records_spec.specs.Tables.{over}
-use Rattle.records_spec.specs.Flags.{Flags}
+use Rattle.records_spec.specs.Flags.{Flags, holding}
+use Rattle.records_spec.specs.Outcomes.{after}
+use Rattle.records_spec.specs.Answers.{counted}
 use Rattle.records_spec.specs.declared.head.Head.{Head}
 use Rattle.records_spec.proofs.head.Head as HT
 use Rattle.records_spec.proofs.head.Head.Laws as HT′
 use Rattle.rows_spec.specs.Rows.{Tables, tables, rowsIn, overRows, Room as RoomFor}
-use Rattle.totals_spec.specs.Calls.{told, shown, given, properGiven}
+use Rattle.totals_spec.specs.Calls.{given, properGiven}
 use Rattle.totals_spec.specs.Steps.{countedRows}
-use Rattle.totals_spec.specs.declared.replacing.Replaced.{Replaced}
-use Rattle.totals_spec.proofs.replacing.Replaced as R
-use Rattle.totals_spec.proofs.replacing.Replaced.Laws as R′
+use Rattle.records_spec.specs.declared.answer.Counted.{Counted}
+use Rattle.records_spec.proofs.answer.Counted as R
+use Rattle.records_spec.proofs.answer.Counted.Laws as R′
 use Rattle.totals_index_spec.specs.Structs.{columns, structs}
-use Rattle.totals_index_spec.specs.Calls.{shown as left, verdict, replacingStructs}
+use Rattle.totals_index_spec.specs.Calls.{verdict, replacingStructs, beside}
 use Rattle.totals_index_spec.specs.Judging.{verdictOf}
 use Rattle.totals_index_spec.specs.Steps.{rowsTold, replacingIn}
 use Rattle.totals_index_spec.specs.declared.judging.Judging.{Judging}
@@ -155,7 +157,7 @@ is-spelled = refl
 -- what was judged of the table
 abbrev Told : Judging → List Total → Bool → Head → List ℕ → List ℕ → Bool → Head → List ℕ → List ℕ → Type 0
 Told jd ts op old oes ocs np new nes ncs = verdictOf jd
-    ≡ countedRows (verdict (jd .rows) ts (properGiven op old oes ocs && properGiven np new nes ncs) (given op old oes ocs) (given np new nes ncs))
+    ≡ countedRows (verdict (jd .rows) ts (properGiven op (holding old oes ocs) && properGiven np (holding new nes ncs)) (given op (holding old oes ocs)) (given np (holding new nes ncs)))
 
 -- a head's machine value, and that it has its type
 abbrev head-vals : Head → List Val
@@ -254,33 +256,33 @@ module _ {M : Type 1} (𝓤 : URA M) (H : Heap 𝓤) (A : Atoms 𝓤) (W : Given
   work = tables os es us
 
   abbrev good : Bool
-  good = properGiven p₁ h₁ (x₅ .now) (x₆ .now) && properGiven p₂ h₂ (x₇ .now) (x₈ .now)
+  good = properGiven p₁ (holding h₁ (x₅ .now) (x₆ .now)) && properGiven p₂ (holding h₂ (x₇ .now) (x₈ .now))
 
   abbrev old : Option Flags
-  old = given p₁ h₁ (x₅ .now) (x₆ .now)
+  old = given p₁ (holding h₁ (x₅ .now) (x₆ .now))
 
   abbrev new : Option Flags
-  new = given p₂ h₂ (x₇ .now) (x₈ .now)
+  new = given p₂ (holding h₂ (x₇ .now) (x₈ .now))
 
   may-take : (k : ℕ) → k ≡ taken jd ys work good old new judged → (k ≤ length ys) × RoomFor k work
   may-take k e = subst (λ (m : ℕ). (m ≤ length ys) × RoomFor m work) (sym e) (can-take jd ys work good old new judged)
 
-  finish : (k : ℕ) (w₁ : Tables) (r : Replaced) (w₂ : Tables) → k ≡ taken jd ys work good old new judged → w₁
-      ≡ overRows (rowsIn k (columns ys)) work → shown r w₂ ≡ replacingIn (length ys) jd w₁ good old new
+  finish : (k : ℕ) (w₁ : Tables) (r : Counted) (w₂ : Tables) → k ≡ taken jd ys work good old new judged → w₁
+      ≡ overRows (rowsIn k (columns ys)) work → after (counted r) w₂ ≡ replacingIn (length ys) jd w₁ good old new
       → Put jd ys work good old new judged r w₂
   finish k w₁ r w₂ e₀ e₁ e₂ =
       can-put jd ys work good old new judged r w₂
       (e₂ ∙ ap (λ (w : Tables). replacingIn (length ys) jd w good old new) (e₁ ∙ ap (λ (m : ℕ). overRows (rowsIn m (columns ys)) work) e₀))
 
-  may-put : (j : ℕ) (r : Replaced) (w₂ : Tables) → j ≡ rowsTold (told r) → Put jd ys work good old new judged r w₂ → (j ≤ length ys) × RoomFor j w₂
+  may-put : (j : ℕ) (r : Counted) (w₂ : Tables) → j ≡ rowsTold (counted r) → Put jd ys work good old new judged r w₂ → (j ≤ length ys) × RoomFor j w₂
   may-put j r w₂ e d = subst (λ (m : ℕ). (m ≤ length ys) × RoomFor m w₂) (sym e) (d .count-fits, d .rows-there)
 
-  all-said : (j : ℕ) (r : Replaced) (w₂ : Tables) (ts : List Total) → j ≡ rowsTold (told r) → ts ≡ over (structs (rowsIn j w₂)) ys →
+  all-said : (j : ℕ) (r : Counted) (w₂ : Tables) (ts : List Total) → j ≡ rowsTold (counted r) → ts ≡ over (structs (rowsIn j w₂)) ys →
       Put jd ys work good old new judged r w₂
-      → left r ts w₂ ≡ replacingStructs (jd .rows) ys work good old new
-  all-said j r w₂ ts e₃ e₄ d = ap (λ (z : List Total). left r z w₂) (e₄ ∙ ap (λ (m : ℕ). over (structs (rowsIn m w₂)) ys) e₃) ∙ d .all-left
+      → after (counted r) (beside ts w₂) ≡ replacingStructs (jd .rows) ys work good old new
+  all-said j r w₂ ts e₃ e₄ d = ap (λ (z : List Total). after (counted r) (beside z w₂)) (e₄ ∙ ap (λ (m : ℕ). over (structs (rowsIn m w₂)) ys) e₃) ∙ d .all-left
 
-  module _ (r : Replaced) (v : Val) (ts′ : List Total) (os′ : List (List ℕ)) (es′ us′ : List ℕ) (len₁ : length ts′ ≡ length ys)
+  module _ (r : Counted) (v : Val) (ts′ : List Total) (os′ : List (List ℕ)) (es′ us′ : List ℕ) (len₁ : length ts′ ≡ length ys)
       (len₂ : length os′ ≡ length os) (len₃ : length es′ ≡ length es) (len₄ : length us′ ≡ length us) where
     abbrev Closed : List (Item 𝓤)
     Closed = ‵ (fobs γ₁ (codedHoleys T.the-row .code (heres T.the-row ts′))) ∷ ‵ (fbor κ₁ (Held T.the-row (length ts′) b₁ o₁ γ₁))
@@ -290,7 +292,7 @@ module _ {M : Type 1} (𝓤 : URA M) (H : Heap 𝓤) (A : Atoms 𝓤) (W : Given
         ∷ ‵ (flft κ₁ q₁) ∷ ‵ (flft κ₂ q₂) ∷ ‵ (flft κ₃ q₃) ∷ ‵ (flft κ₄ q₄) ∷ ‵ (flft κ₅ q₅) ∷ ‵ (flft κ₆ q₆) ∷ ‵ (flft κ₇ q₇) ∷ ‵ (flft κ₈ q₈)
         ∷ ‵ (R.the-row .own r (v ∷ [])) ∷ []
 
-    exits : left r ts′ (tables os′ es′ us′) ≡ replacingStructs (jd .rows) ys work good old new → ent 𝓤 (⋆ 𝓤 H A Closed) (Post v)
+    exits : after (counted r) (beside ts′ (tables os′ es′ us′)) ≡ replacingStructs (jd .rows) ys work good old new → ent 𝓤 (⋆ 𝓤 H A Closed) (Post v)
     exits said =
         qed W Closed ∵
         suffices ! _ (ends-at 𝓤 H A replace.ended stayed (replace.clauses 𝓤 H A mem run) W ((κs, qs, tt, a, at), tt) v r
@@ -404,10 +406,10 @@ module _ {M : Type 1} (𝓤 : URA M) (H : Heap 𝓤) (A : Atoms 𝓤) (W : Given
     goes-replaces = qed W (seven ∷ ‵ replaces-owns ∷ []) ∵ join ! $ frame ! $ done !
 
   -- ---- `rows_to_put`
-  abbrev to-rows : Replaced → Val → Rows 𝓤 H A mem run .Ghost
+  abbrev to-rows : Counted → Val → Rows 𝓤 H A mem run .Ghost
   to-rows r v = ((tt, tt, tt, (r, tt), (v ∷ [], tt)), tt)
 
-  goes-rows : (r : Replaced) (v : Val) → Is R.the-row r (v ∷ []) → ent 𝓤 (⋆ 𝓤 H A (‵ ftrue ∷ [])) (Rows 𝓤 H A mem run .pre (to-rows r v))
+  goes-rows : (r : Counted) (v : Val) → Is R.the-row r (v ∷ []) → ent 𝓤 (⋆ 𝓤 H A (‵ ftrue ∷ [])) (Rows 𝓤 H A mem run .pre (to-rows r v))
   goes-rows r v is = qed W (‵ ftrue ∷ []) ∵ owned ! R.the-row (Is R.the-row) (EL.makes R.the-type R′.the-plain 𝓤 H A) r (v ∷ []) is $ fjoin ! $
       nothing ! $ join ! $ frame ! $ done !
 
@@ -623,7 +625,7 @@ module _ {M : Type 1} (𝓤 : URA M) (H : Heap 𝓤) (A : Atoms 𝓤) (W : Given
         (and-then ! (load ! (from ! (stop !)) (look ! 79 refl))
         (and-then ! (load ! (from ! (stop !)) (look ! 77 refl)) (and-then ! (load ! (from ! (stop !)) (look ! 75 refl)) (no-more !))))))))))))))
         (λ v.
-        use1 W (later (some (λ (r : Replaced). ((‵ (flft (μ₂ ∷ []) fullShare) ⊛ ‵ (flft (μ₃ ∷ []) fullShare) ⊛ ‵ (flft (μ₄ ∷ []) fullShare)
+        use1 W (later (some (λ (r : Counted). ((‵ (flft (μ₂ ∷ []) fullShare) ⊛ ‵ (flft (μ₃ ∷ []) fullShare) ⊛ ‵ (flft (μ₄ ∷ []) fullShare)
         ⊛ ‵ (flft κ₅ q₅) ⊛ ‵ (flft κ₆ q₆) ⊛ ‵ (flft κ₇ q₇) ⊛ ‵ (flft κ₈ q₈) ⊛ ‵ ftrue) ⊛ ‵ (R.the-row .own r (v ∷ [])))
         ⊛ raw (ensured 𝓤 H A replaces.ended (replaces.clauses 𝓤 H A mem run) (μ₂ ∷ [], (μ₃ ∷ [], (μ₄ ∷ [], (κ₅, (κ₆, (κ₇, (κ₈, tt)))))))
         (replaces-args (ws .1 .1 .0) (ws .1 .1 .1 .0) (ws .1 .1 .1 .1 .0) μ₂ μ₃ μ₄ ε₂ ε₃ ε₄) tt r)))) (id⊢ 𝓤 _) $
@@ -634,11 +636,11 @@ module _ {M : Type 1} (𝓤 : URA M) (H : Heap 𝓤) (A : Atoms 𝓤) (W : Given
         × (Unit {0} × (Unit {0} × (Unit {0} × (Unit {0} × (Unit {0} × (Unit {0} × (Unit {0} × Unit {0}))))))))))))).
         ‵ (lasts replaces.ended (μ₂ ∷ [], (μ₃ ∷ [], (μ₄ ∷ [], (κ₅, (κ₆, (κ₇, (κ₈, tt)))))))
         (replaces-args (ws .1 .1 .0) (ws .1 .1 .1 .0) (ws .1 .1 .1 .1 .0) μ₂ μ₃ μ₄ ε₂ ε₃ ε₄) ws′)
-        ⊛ raw (fact 𝓤 (shown r (tables (ws′ .1 .1 .0) (ws′ .1 .1 .1 .0) (ws′ .1 .1 .1 .1 .0))
+        ⊛ raw (fact 𝓤 (after (counted r) (tables (ws′ .1 .1 .0) (ws′ .1 .1 .1 .0) (ws′ .1 .1 .1 .1 .0))
         ≡ replacingIn (length ys) jd (tables (ws .1 .1 .0) (ws .1 .1 .1 .0) (ws .1 .1 .1 .1 .0)) good old new)))) (id⊢ 𝓤 _) $
         pick ! (λ ws′. split ! $
         move ! (1 ∷ []) $
-        heard ! (shown r (tables (ws′ .1 .1 .0) (ws′ .1 .1 .1 .0) (ws′ .1 .1 .1 .1 .0))
+        heard ! (after (counted r) (tables (ws′ .1 .1 .0) (ws′ .1 .1 .1 .0) (ws′ .1 .1 .1 .1 .0))
         ≡ replacingIn (length ys) jd (tables (ws .1 .1 .0) (ws .1 .1 .1 .0) (ws .1 .1 .1 .1 .0)) good old new) (λ e₂.
         fsplit ! $ drop ! $ fsplit ! $ drop ! $ fsplit ! $ fsplit ! $ move ! (1 ∷ []) $ feqL ! (λ m₂′. move ! (1 ∷ []) $ fsplit ! $ fsplit ! $
         move ! (1 ∷ []) $
@@ -667,9 +669,9 @@ module _ {M : Type 1} (𝓤 : URA M) (H : Heap 𝓤) (A : Atoms 𝓤) (W : Given
         use1 W (later (some (λ (j : ℕ). (‵ ftrue ⊛ ‵ (usize .own j (w₂ ∷ [])))
         ⊛ raw (ensured 𝓤 H A rows.ended (rows.clauses 𝓤 H A mem run) tt (r, tt) tt j)))) (id⊢ 𝓤 _) $ await ! tt $
         pick ! (λ j. split ! $
-        move ! (1 ∷ []) $ use1 W (some (λ (ws″ : Unit {0} × Unit {0}). ‵ (lasts rows.ended tt (r, tt) ws″) ⊛ raw (fact 𝓤 (j ≡ rowsTold (told r)))))
+        move ! (1 ∷ []) $ use1 W (some (λ (ws″ : Unit {0} × Unit {0}). ‵ (lasts rows.ended tt (r, tt) ws″) ⊛ raw (fact 𝓤 (j ≡ rowsTold (counted r)))))
         (id⊢ 𝓤 _) $ pick ! (λ ws″. split ! $
-        drop ! $ heard ! (j ≡ rowsTold (told r)) (λ e₃. split ! $ drop ! $
+        drop ! $ heard ! (j ≡ rowsTold (counted r)) (λ e₃. split ! $ drop ! $
         peeks ! usize (Is usize) (shows 𝓤 H A usize) j (w₂ ∷ []) (λ is₂.
         land ! (from ! (stop !)) (store ! 72 refl (uint-lawful 𝓤 H A W w64 .typed j _ is₂ .0)) $ drop ! $
         rewrite ! 71 (λ (z : Val). ‵ (fat fullShare (tyInt w64) l₁₇ 0 z)) (ap only (uint-tells w64 j _ is₂)) refl $

@@ -46,7 +46,7 @@ use denote.Triple.Spec.{Meets, tripleOf}
 use denote.Triple.Table.{entered, cited}
 use denote.Triple.Walked.{says, needs, Stays, stay-dropped, walkOf, goes-dropped, Walks, ends-at, walked, walk-meets}
 use denote.Exit.{yes}
-use Rattle.totals_index_spec.specs.Judging.{rowOf, rowsNamed, next, Asked}
+use Rattle.totals_index_spec.specs.Judging.{rowOf, rowsNamed, judgedNext, Asked}
 use Rattle.totals_index_spec.specs.declared.judging.Judging.{Judging}
 use Rattle.totals_index_spec.specs.declared.structs.Total.{Total}
 use Rattle.totals_index_spec.proofs.judging.Judging as J
@@ -204,7 +204,7 @@ module _ {M : Type 1} (𝓤 : URA M) (H : Heap 𝓤) (A : Atoms 𝓤) (W : Given
     goes-judges = qed W (four ∷ ‵ judges-owns ∷ []) ∵ says ! (seen-asked (x₃ .now) (x₄ .now) (x₅ .now) (x₆ .now) j ys i (asked .1)) $ frame ! $ done !
 
     abbrev Said : Judging → Type 0
-    Said r = r ≡ next (rowsNamed (seen i .old) (x₃ .now) (x₄ .now)) (rowsNamed (seen i .new) (x₅ .now) (x₆ .now)) (seen i) (rowOf it)
+    Said r = r ≡ judgedNext (rowsNamed (seen i .old) (x₃ .now) (x₄ .now)) (rowsNamed (seen i .new) (x₅ .now) (x₆ .now)) (seen i) (rowOf it)
 
   module _ (𝓣 : Tables 𝓤 H) (known-judges : Triple 𝓤 (𝓣 .C #judges) (Judges 𝓤 H A mem run)) (q′ : Share)
       (l₀ l₁ l₂ l₃ l₄ l₅ l₆ l₇ l₈ l₉ l₁₀ l₁₁ l₁₂ l₁₃ : ℕ) where

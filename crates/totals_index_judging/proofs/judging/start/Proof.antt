@@ -6,6 +6,8 @@ use native.Mathlib.Omega.{arith}
 use borrow.Author.Needs.{needs}
 use Rattle.totals_spec.proofs.GivenFlags.{given-even}
 use Rattle.totals_index_spec.proofs.Starting.{started-good, started-bad}
+use Rattle.records_spec.specs.Flags.{proper}
+use Rattle.records_spec.specs.Answers.{counted}
 use Rattle.totals_index_judging.proofs.judging.start.Statement.{statement}
 use Rattle.totals_index_judging.proofs.judging.start.Tie as tie
 

@@ -47,7 +47,7 @@ use denote.Triple.Table.{entered}
 use denote.Triple.Walked.{says, needs, Stays, stay-slice, stay-dropped, walkOf, goes-slice, goes-dropped, Walks, ends-at, walked, walk-meets}
 use denote.Exit.{yes}
 use Rattle.rows_spec.specs.Rows.{Room as RoomFor, tables}
-use Rattle.totals_index_spec.specs.Structs.{ownersOf, epochsOf, totalsOf}
+use Rattle.totals_index_spec.specs.Structs.{ownersOf, totalEpochsOf, totalsOf}
 use Rattle.totals_index_spec.specs.declared.structs.Total.{Total}
 use Rattle.totals_index_spec.proofs.structs.Total as T
 use Rattle.totals_index_spec.proofs.structs.Total.Laws as T′
@@ -138,7 +138,7 @@ module _ {M : Type 1} (𝓤 : URA M) (H : Heap 𝓤) (A : Atoms 𝓤) (W : Given
   os′ = filled n (ownersOf ys) os
 
   abbrev es′ : List ℕ
-  es′ = filled n (epochsOf ys) es
+  es′ = filled n (totalEpochsOf ys) es
 
   abbrev us′ : List ℕ
   us′ = filled n (totalsOf ys) us
@@ -147,7 +147,7 @@ module _ {M : Type 1} (𝓤 : URA M) (H : Heap 𝓤) (A : Atoms 𝓤) (W : Given
   len₂ = length-filled n (ownersOf ys) os (within .1 .ids-long)
 
   len₃ : length es′ ≡ length es
-  len₃ = length-filled n (epochsOf ys) es (within .1 .epochs-long)
+  len₃ = length-filled n (totalEpochsOf ys) es (within .1 .epochs-long)
 
   len₄ : length us′ ≡ length us
   len₄ = length-filled n (totalsOf ys) us (within .1 .bytes-long)
@@ -205,7 +205,7 @@ module _ {M : Type 1} (𝓤 : URA M) (H : Heap 𝓤) (A : Atoms 𝓤) (W : Given
     -- where i rows are taken
     abbrev At : ℕ → List (Item 𝓤)
     At i = ‵ (row T.the-row q′ ys b₁ o₁) ∷ ‵ (row Id fullShare (filled i (ownersOf ys) os) b₂ o₂)
-        ∷ ‵ (row u16 fullShare (filled i (epochsOf ys) es) b₃ o₃) ∷ ‵ (row u64 fullShare (filled i (totalsOf ys) us) b₄ o₄)
+        ∷ ‵ (row u16 fullShare (filled i (totalEpochsOf ys) es) b₃ o₃) ∷ ‵ (row u64 fullShare (filled i (totalsOf ys) us) b₄ o₄)
         ∷ ‵ (fat fullShare word l₆ 0 (vint w64 i)) ∷ ‵ (froom T′.mir l₇ 0) ∷ ‵ (froom tyBool l₈ 0) ∷ ‵ (froom word l₉ 0) ∷ ‵ (froom tyPtr l₁₀ 0)
         ∷ ‵ (froom T′.mir l₁₁ 0) ∷ ‵ (froom tyPtr l₁₂ 0) ∷ ‵ (froom tyPtr l₁₃ 0) ∷ ‵ (froom tyPtr l₁₄ 0) ∷ Frame
 
@@ -255,16 +255,16 @@ module _ {M : Type 1} (𝓤 : URA M) (H : Heap 𝓤) (A : Atoms 𝓤) (W : Given
         assigns ! (bin ! (load ! (from ! (fld ! refl (stop !))) (look-in ! 16 (sub ! 0 refl (whole !))))
         (load ! (from ! (stop !)) (look ! 7 refl)) tt) (from ! (stop !)) (init ! 11 refl (tt, tt)) $
         rewrite ! 11 (λ (p : ℕ). ‵ (fat fullShare tyPtr l₁₃ 0 (vptr b₃ p))) (sym (place-is 2 o₃ i)) refl $
-        move ! (2 ∷ []) $ elem-out ! u16 (Is u16) (shows 𝓤 H A u16) (uint-vals w16) (uint-tells w16) fullShare (filled i (epochsOf ys) es) i 0 b₃ o₃
-        (in-filled (epochsOf ys) es in-es) (λ _.
+        move ! (2 ∷ []) $ elem-out ! u16 (Is u16) (shows 𝓤 H A u16) (uint-vals w16) (uint-tells w16) fullShare (filled i (totalEpochsOf ys) es) i 0 b₃ o₃
+        (in-filled (totalEpochsOf ys) es in-es) (λ _.
         assigns ! (of-opd ! (load ! (from ! (fld ! refl (stop !))) (look-in ! 7 (sub ! 1 refl (whole !)))))
         (from ! (hop ! (look ! 13 refl) (stop !))) (store ! 0 refl (tt, record { fits = epoch-fits (getD ys i no-total) g })) $
         move ! (1 ∷ []) $ drop ! $
         owned ! u16 (Is u16) (uint-makes 𝓤 H A W w16) (getD ys i no-total .epoch) (vint w16 (getD ys i no-total .epoch) ∷ [])
         (refl, epoch-fits (getD ys i no-total) g) $
         move ! (1 ∷ 0 ∷ []) $
-        elem-put ! u16 fullShare (filled i (epochsOf ys) es) i (getD ys i no-total .epoch) (vint w16 (getD ys i no-total .epoch) ∷ []) b₃ o₃
-        (in-filled (epochsOf ys) es in-es) $
+        elem-put ! u16 fullShare (filled i (totalEpochsOf ys) es) i (getD ys i no-total .epoch) (vint w16 (getD ys i no-total .epoch) ∷ []) b₃ o₃
+        (in-filled (totalEpochsOf ys) es in-es) $
         rewrite ! 0 (λ (z : List ℕ). ‵ (row u16 fullShare z b₃ o₃)) (epoch-next ys i there es in-es) refl $
         assigns ! (bin ! (load ! (from ! (stop !)) (look ! 4 refl)) (lit ! tt) (record { fits = fits-8 in-us (room₄ .1) })) (from ! (stop !))
         (store ! 7 refl (tt, record { fits = fits-8 in-us (room₄ .1) })) $
@@ -312,7 +312,7 @@ module _ {M : Type 1} (𝓤 : URA M) (H : Heap 𝓤) (A : Atoms 𝓤) (W : Given
         assigns ! (of-opd ! (unit-lit !)) (from ! (stop !)) (init ! 18 refl (tt, tt)) $
         move ! (0 ∷ 19 ∷ []) $ shuts-slice ! tt T.the-row q′ ys b₁ o₁ $
         move ! (1 ∷ 19 ∷ 20 ∷ 21 ∷ []) $ closes-slice ! tt Id os (filled n (ownersOf ys) os) len₂ b₂ o₂ $
-        move ! (4 ∷ 21 ∷ 22 ∷ 23 ∷ []) $ closes-slice ! tt u16 es (filled n (epochsOf ys) es) len₃ b₃ o₃ $
+        move ! (4 ∷ 21 ∷ 22 ∷ 23 ∷ []) $ closes-slice ! tt u16 es (filled n (totalEpochsOf ys) es) len₃ b₃ o₃ $
         move ! (7 ∷ 23 ∷ 24 ∷ 25 ∷ []) $ closes-slice ! tt u64 us (filled n (totalsOf ys) us) len₄ b₄ o₄ $
         returns ! (look ! 24 refl) $
         forget ! 24 refl $ forget ! 19 refl $ forget ! 20 refl $ forget ! 21 refl $ forget ! 22 refl $ forget ! 23 refl $ forget ! 10 refl $

@@ -6,14 +6,14 @@ use native.Mathlib.Omega.{arith}
 use Rattle.rows_spec.specs.Rows.{row, tables}
 use Rattle.records_spec.proofs.Halving.{Between, between-start, halved, middle-in, fewer-left}
 use Rattle.records_spec.proofs.Halving.{between-up, between-down, done-behind, done-here, done-end}
-use Rattle.totals_spec.specs.Steps.{placeIn, between}
+use Rattle.totals_spec.specs.Steps.{placeIn, rowsBetween}
 use Rattle.totals_spec.proofs.Places.{found-within, found-past, found-upto}
 use Rattle.totals_rows.proofs.finding.find.Statement.{statement}
 use Rattle.totals_rows.proofs.finding.find.Tie as tie
 
 abbrev Inv-loop : tie.InvT-loop
 Inv-loop owners epochs totals from upto owner epoch at₀ left₀ at left =
-    Between (from + placeIn (row owner epoch 0) (between from upto (tables owners epochs totals))) upto at left × (from ≤ at)
+    Between (from + placeIn (row owner epoch 0) (rowsBetween from upto (tables owners epochs totals))) upto at left × (from ≤ at)
 
 abbrev μ-loop : tie.MeasureT-loop
 μ-loop owners epochs totals from upto owner epoch at₀ left₀ at left = left

@@ -5,7 +5,7 @@ use Prim.Native.Nat.{_-_, _≤_}
 use native.Mathlib.Omega.{arith}
 use lib.ListN.{drop}
 use Rattle.rows_spec.specs.Rows.{tables, rowsIn}
-use Rattle.totals_spec.specs.Table.{above}
+use Rattle.totals_spec.specs.Table.{allPositive}
 use Rattle.totals_spec.proofs.Tabled.{above-next, above-end}
 use Rattle.totals_rows.proofs.table.none_is_zero.Statement.{statement}
 use Rattle.totals_rows.proofs.table.none_is_zero.Tie as tie
@@ -13,7 +13,7 @@ use Rattle.totals_rows.proofs.table.none_is_zero.Tie as tie
 abbrev Inv-loop : tie.InvT-loop
 Inv-loop n owners epochs totals good₀ i₀ good i =
     let rows = rowsIn n (tables owners epochs totals) in
-    (i ≤ n) × (above rows ≡ (good && above (drop i rows)))
+    (i ≤ n) × (allPositive rows ≡ (good && allPositive (drop i rows)))
 
 abbrev μ-loop : tie.MeasureT-loop
 μ-loop n owners epochs totals good₀ i₀ good i = n - i

@@ -9,6 +9,7 @@ use Rattle.rows_spec.specs.Rows.{tables}
 use Rattle.rows_spec.proofs.Rows.{room-less}
 use Rattle.totals_spec.proofs.Taking.{Taking, taking-start, taking-room, taking-even, taking-standing, taking-count}
 use Rattle.totals_spec.proofs.Taking.{taking-done, taking-skip, taking-found, taking-gone, taking-space, taking-put}
+use Rattle.records_spec.specs.Answers.{counted}
 use Rattle.totals_rows.proofs.writing.take_rows.Statement.{statement}
 use Rattle.totals_rows.proofs.writing.take_rows.Tie as tie
 

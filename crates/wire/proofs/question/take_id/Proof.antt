@@ -1,6 +1,5 @@
 -- `wire::take_id` is safe and ends: the measure is the number of bytes left. Assumes nothing.
 use Prim.Native.Nat.{_-_}
-use native.Mathlib.Omega.{arith}
 use borrow.Author.Needs.{needs}
 use mathlib.Core.Path.{_≡_}
 use lib.ListN.{length}
