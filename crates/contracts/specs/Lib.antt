@@ -1,0 +1,4 @@
+pub mod Contract
+pub mod Forms
+pub mod Calls
+pub mod CallsForC

@@ -1,0 +1,1 @@
+// The contracts of all public calls, collected from the crates that prove them, and what holds of each. No function.
