@@ -28,7 +28,7 @@ use Rattle.repair_spec.specs.Calls.{toldRepair, repairLent, repairedInto}
 use Rattle.totals_spec.specs.Calls.{given, properGiven, replacing}
 use Rattle.contracts.specs.Forms.{valued, answering, answeringWith, flagged}
 use denote.Ref.{now}
-use Rattle.contracts.specs.Contract.{Contract, contractOf}
+use Rattle.contracts.specs.Contract.{Contract, contractOf, answeringAlone}
 use Rattle.codec.proofs.deserialize.Kinds as deserialize-kinds
 use Rattle.codec.proofs.deserialize.Reads as deserialize-reads
 use Rattle.codec.proofs.deserialize_single_epoch.Kinds as deserialize-single-epoch-kinds
@@ -115,397 +115,150 @@ abbrev pub contract : PublicCall → Contract
 -- reading and judging
 contract deserialize =
     contractOf flagged 3 deserialize-kinds.ps deserialize-kinds.r deserialize-reads.Learnt (λ κs x. x)
-    (λ κs (src, (epochs, (counts, more))). lending (now epochs) (now counts))
-    (λ κs (src, (epochs, (counts, more))). lending (now epochs) (now counts))
-    (λ κs (src, more) m. deserialized (now src) m)
+    (λ κs src epochs counts. (lending (now epochs) (now counts), deserialized (now src)))
+    (λ κs src epochs counts. lending (now epochs) (now counts))
 contract deserialize-single-epoch =
     contractOf flagged 3 deserialize-single-epoch-kinds.ps deserialize-single-epoch-kinds.r deserialize-single-epoch-reads.Learnt (λ κs x. x)
-    (λ κs (src, (epochs, (counts, more))). lending (now epochs) (now counts))
-    (λ κs (src, (epochs, (counts, more))). lending (now epochs) (now counts))
-    (λ κs (src, more) m. deserializedAs SingleEpoch (now src) m)
+    (λ κs src epochs counts. (lending (now epochs) (now counts), deserializedAs SingleEpoch (now src)))
+    (λ κs src epochs counts. lending (now epochs) (now counts))
 contract deserialize-multi-epoch =
     contractOf flagged 3 deserialize-multi-epoch-kinds.ps deserialize-multi-epoch-kinds.r deserialize-multi-epoch-reads.Learnt (λ κs x. x)
-    (λ κs (src, (epochs, (counts, more))). lending (now epochs) (now counts))
-    (λ κs (src, (epochs, (counts, more))). lending (now epochs) (now counts))
-    (λ κs (src, more) m. deserializedAs MultiEpoch (now src) m)
+    (λ κs src epochs counts. (lending (now epochs) (now counts), deserializedAs MultiEpoch (now src)))
+    (λ κs src epochs counts. lending (now epochs) (now counts))
 contract deserialize-single-epoch-owned =
     contractOf flagged 3 deserialize-single-epoch-owned-kinds.ps deserialize-single-epoch-owned-kinds.r deserialize-single-epoch-owned-reads.Learnt
     (λ κs x. x)
-    (λ κs (src, (epochs, (counts, more))). lending (now epochs) (now counts))
-    (λ κs (src, (epochs, (counts, more))). lending (now epochs) (now counts))
-    (λ κs (src, more) m. deserializedAs SingleEpochOwned (now src) m)
+    (λ κs src epochs counts. (lending (now epochs) (now counts), deserializedAs SingleEpochOwned (now src)))
+    (λ κs src epochs counts. lending (now epochs) (now counts))
 contract deserialize-multi-epoch-owned =
-    contractOf flagged 3 deserialize-multi-epoch-owned-kinds.ps deserialize-multi-epoch-owned-kinds.r deserialize-multi-epoch-owned-reads.Learnt (λ
-    κs x. x)
-    (λ κs (src, (epochs, (counts, more))). lending (now epochs) (now counts))
-    (λ κs (src, (epochs, (counts, more))). lending (now epochs) (now counts))
-    (λ κs (src, more) m. deserializedAs MultiEpochOwned (now src) m)
+    contractOf flagged 3 deserialize-multi-epoch-owned-kinds.ps deserialize-multi-epoch-owned-kinds.r deserialize-multi-epoch-owned-reads.Learnt
+    (λ κs x. x)
+    (λ κs src epochs counts. (lending (now epochs) (now counts), deserializedAs MultiEpochOwned (now src)))
+    (λ κs src epochs counts. lending (now epochs) (now counts))
 contract judge =
-    contractOf (valued Judgement) 1 judge-kinds.ps judge-kinds.r judge-reads.Learnt (λ κs x. x)
-    (λ κs i. tt) (λ κs e. tt)
-    (λ κs (src, more) m. judgement (read (now src)))
+    answeringAlone (valued Judgement) 1 judge-kinds.ps judge-kinds.r judge-reads.Learnt (λ κs x. x)
+    (λ κs src. judgement (read (now src)))
 contract judge-as =
-    contractOf (valued Judgement) 1 judge-as-kinds.ps judge-as-kinds.r judge-as-reads.Learnt (λ κs x. x)
-    (λ κs i. tt) (λ κs e. tt)
-    (λ κs (kind, (src, more)) m. judgement (readAs kind (now src)))
+    answeringAlone (valued Judgement) 1 judge-as-kinds.ps judge-as-kinds.r judge-as-reads.Learnt (λ κs x. x)
+    (λ κs kind src. judgement (readAs kind (now src)))
 contract list =
     contractOf (answeringWith counted) 2 list-kinds.ps list-kinds.r list-reads.Learnt (λ κs x. x)
-    (λ κs (src, (out, more)). now out) (λ κs (src, (out, more)). now out)
-    (λ κs (src, more) m. writing (listed (now src)) m)
+    (λ κs src out. (now out, writing (listed (now src))))
+    (λ κs src out. now out)
 -- writing and sizes
 contract serialize =
     contractOf (answeringWith counted) 3 serialize-kinds.ps serialize-kinds.r serialize-reads.Learnt (λ κs x. x)
-    (λ κs (head, (epochs, (counts, (out, more)))). now out) (λ κs (head, (epochs, (counts, (out, more)))). now out)
-    (λ κs (head, (epochs, (counts, more))) m. serialized (holding head (now epochs) (now counts)) m)
+    (λ κs head epochs counts out. (now out, serialized (holding head (now epochs) (now counts))))
+    (λ κs head epochs counts out. now out)
 contract serialized-size =
-    contractOf (answering counted) 2 serialized-size-kinds.ps serialized-size-kinds.r serialized-size-reads.Learnt (λ κs x. x)
-    (λ κs i. tt) (λ κs e. tt)
-    (λ κs (head, (epochs, (counts, more))) m. sizeOf (holding head (now epochs) (now counts)))
+    answeringAlone (answering counted) 2 serialized-size-kinds.ps serialized-size-kinds.r serialized-size-reads.Learnt (λ κs x. x)
+    (λ κs head epochs counts. sizeOf (holding head (now epochs) (now counts)))
 contract approximate-size =
-    contractOf (valued ℕ) 0 approximate-size-kinds.ps approximate-size-kinds.r approximate-size-reads.Learnt (λ κs x. x)
-    (λ κs i. tt) (λ κs e. tt)
-    (λ κs (has-owner-id, (changes, more)) m. approximate has-owner-id changes)
+    answeringAlone (valued ℕ) 0 approximate-size-kinds.ps approximate-size-kinds.r approximate-size-reads.Learnt (λ κs x. x)
+    (λ κs has-owner-id changes. approximate has-owner-id changes)
 -- the head alone
 contract new-single-epoch =
-    contractOf (valued Head) 0 new-single-epoch-kinds.ps new-single-epoch-kinds.r new-single-epoch-reads.Learnt (λ κs x. x)
-    (λ κs i. tt) (λ κs e. tt)
-    (λ κs (epoch, (owner, more)) m. headFor epoch (ownerIf (owner .owned) (owner .id)) 0)
+    answeringAlone (valued Head) 0 new-single-epoch-kinds.ps new-single-epoch-kinds.r new-single-epoch-reads.Learnt (λ κs x. x)
+    (λ κs epoch owner. headFor epoch (ownerIf (owner .owned) (owner .id)) 0)
 contract set-owner-id =
-    contractOf (valued Head) 0 set-owner-id-kinds.ps set-owner-id-kinds.r set-owner-id-reads.Learnt (λ κs x. x)
-    (λ κs i. tt) (λ κs e. tt)
-    (λ κs (head, (owner, more)) m. withOwner head owner)
+    answeringAlone (valued Head) 0 set-owner-id-kinds.ps set-owner-id-kinds.r set-owner-id-reads.Learnt (λ κs x. x)
+    (λ κs head owner. withOwner head owner)
 contract base-epoch =
-    contractOf (valued ℕ) 0 base-epoch-kinds.ps base-epoch-kinds.r base-epoch-reads.Learnt (λ κs x. x)
-    (λ κs i. tt) (λ κs e. tt)
-    (λ κs (head, more) m. head .base)
+    answeringAlone (valued ℕ) 0 base-epoch-kinds.ps base-epoch-kinds.r base-epoch-reads.Learnt (λ κs x. x)
+    (λ κs head. head .base)
 contract owner-id =
-    contractOf (valued MaybeOwner) 0 owner-id-kinds.ps owner-id-kinds.r owner-id-reads.Learnt (λ κs x. x)
-    (λ κs i. tt) (λ κs e. tt)
-    (λ κs (head, more) m. maybeOwner (ownerOf head))
+    answeringAlone (valued MaybeOwner) 0 owner-id-kinds.ps owner-id-kinds.r owner-id-reads.Learnt (λ κs x. x)
+    (λ κs head. maybeOwner (ownerOf head))
 contract type-byte =
-    contractOf (valued ℕ) 0 type-byte-kinds.ps type-byte-kinds.r type-byte-reads.Learnt (λ κs x. x)
-    (λ κs i. tt) (λ κs e. tt)
-    (λ κs (head, more) m. typeByte (head .kind))
+    answeringAlone (valued ℕ) 0 type-byte-kinds.ps type-byte-kinds.r type-byte-reads.Learnt (λ κs x. x)
+    (λ κs head. typeByte (head .kind))
 -- owners
 contract choose-owner =
-    contractOf (valued Choice) 0 choose-owner-kinds.ps choose-owner-kinds.r choose-owner-reads.Learnt (λ κs x. x)
-    (λ κs i. tt) (λ κs e. tt)
-    (λ κs (ours, (theirs, (strategy, more))) m. choice strategy (ownerOf ours) (ownerOf theirs))
+    answeringAlone (valued Choice) 0 choose-owner-kinds.ps choose-owner-kinds.r choose-owner-reads.Learnt (λ κs x. x)
+    (λ κs ours theirs strategy. choice strategy (ownerOf ours) (ownerOf theirs))
 contract combine-owners =
-    contractOf (valued ChosenOwner) 0 combine-owners-kinds.ps combine-owners-kinds.r combine-owners-reads.Learnt (λ κs x. x)
-    (λ κs i. tt) (λ κs e. tt)
-    (λ κs (ours, (theirs, (strategy, more))) m. chosenAs (combinedOwner strategy (ownerOf ours) (ownerOf theirs)))
+    answeringAlone (valued ChosenOwner) 0 combine-owners-kinds.ps combine-owners-kinds.r combine-owners-reads.Learnt (λ κs x. x)
+    (λ κs ours theirs strategy. chosenAs (combinedOwner strategy (ownerOf ours) (ownerOf theirs)))
 contract combine-owner-id =
-    contractOf (valued Part) 1 combine-owner-id-kinds.ps combine-owner-id-kinds.r combine-owner-id-reads.Learnt (λ κs x. lent x)
-    (λ κs i. tt) (λ κs e. tt)
-    (λ κs (ours, (theirs, (strategy, more))) m. ownerHanded strategy (lent ours) (lent theirs))
+    answeringAlone (valued Part) 1 combine-owner-id-kinds.ps combine-owner-id-kinds.r combine-owner-id-reads.Learnt (λ κs x. lent x)
+    (λ κs ours theirs strategy. ownerHanded strategy (lent ours) (lent theirs))
 contract choose-owner-id =
-    contractOf (valued Choice) 2 choose-owner-id-kinds.ps choose-owner-id-kinds.r choose-owner-id-reads.Learnt (λ κs x. x)
-    (λ κs i. tt) (λ κs e. tt)
-    (λ κs (ours, (theirs, (strategy, more))) m. ownerChoice strategy (now ours) (now theirs))
+    answeringAlone (valued Choice) 2 choose-owner-id-kinds.ps choose-owner-id-kinds.r choose-owner-id-reads.Learnt (λ κs x. x)
+    (λ κs ours theirs strategy. ownerChoice strategy (now ours) (now theirs))
 -- merging
 contract combine-added-bytes =
     contractOf flagged 6 combine-added-bytes-kinds.ps combine-added-bytes-kinds.r combine-added-bytes-reads.Learnt (λ κs x. x)
-    (λ κs (ours, (our-epochs, (our-counts, (theirs, (their-epochs, (their-counts, (amount, (strategy, (epochs, (counts, more)))))))))). lending (now
-    epochs) (now counts))
-    (λ κs (ours, (our-epochs, (our-counts, (theirs, (their-epochs, (their-counts, (amount, (strategy, (epochs, (counts, more)))))))))). lending (now
-    epochs) (now counts))
-    (λ κs (ours, (our-epochs, (our-counts, (theirs, (their-epochs, (their-counts, (amount, (strategy, more)))))))) m. combinedAdded (holding ours
-    (now our-epochs) (now our-counts)) (holding theirs (now their-epochs) (now their-counts)) amount strategy m)
+    (λ κs ours our-epochs our-counts theirs their-epochs their-counts amount strategy epochs counts. (
+      lending (now epochs) (now counts),
+      combinedAdded (holding ours (now our-epochs) (now our-counts)) (holding theirs (now their-epochs) (now their-counts)) amount strategy,
+    ))
+    (λ κs ours our-epochs our-counts theirs their-epochs their-counts amount strategy epochs counts. lending (now epochs) (now counts))
 contract optional-combine-added-bytes =
-    contractOf flagged 6 optional-combine-added-bytes-kinds.ps optional-combine-added-bytes-kinds.r optional-combine-added-bytes-reads.Learnt (λ κs
-    x. x)
-    (λ κs (present, (ours, (our-epochs, (our-counts, (theirs, (their-epochs, (their-counts, (amount, (strategy, (epochs, (counts, more))))))))))).
-    lending (now epochs) (now counts))
-    (λ κs (present, (ours, (our-epochs, (our-counts, (theirs, (their-epochs, (their-counts, (amount, (strategy, (epochs, (counts, more))))))))))).
-    lending (now epochs) (now counts))
-    (λ κs (present, (ours, (our-epochs, (our-counts, (theirs, (their-epochs, (their-counts, (amount, (strategy, more))))))))) m.
-    optionalCombinedAdded present (holding ours (now our-epochs) (now our-counts)) (holding theirs (now their-epochs) (now their-counts)) amount
-    strategy m)
+    contractOf flagged 6 optional-combine-added-bytes-kinds.ps optional-combine-added-bytes-kinds.r optional-combine-added-bytes-reads.Learnt
+    (λ κs x. x)
+    (λ κs present ours our-epochs our-counts theirs their-epochs their-counts amount strategy epochs counts. (
+      lending (now epochs) (now counts),
+      optionalCombinedAdded present (holding ours (now our-epochs) (now our-counts)) (holding theirs (now their-epochs) (now their-counts)) amount
+          strategy,
+    ))
+    (λ κs present ours our-epochs our-counts theirs their-epochs their-counts amount strategy epochs counts. lending (now epochs) (now counts))
 contract combine-removed-bytes =
     contractOf flagged 9 combine-removed-bytes-kinds.ps combine-removed-bytes-kinds.r combine-removed-bytes-reads.Learnt (λ κs x. x)
-    (λ κs (
-      ours,
-      (
-        our-epochs,
-        (
-          our-counts,
-          (
-            theirs,
-            (
-              their-epochs,
-              (
-                their-counts,
-                (
-                  removal,
-                  (
-                    ids,
-                    (
-                      removed-epochs,
-                      (
-                        removed-bytes,
-                        (
-                          strategy,
-                          (epochs, (counts, more)),
-                        ),
-                      ),
-                    ),
-                  ),
-                ),
-              ),
-            ),
-          ),
-        ),
-      ),
-    ). lending (now epochs) (now counts))
-    (λ κs (
-      ours,
-      (
-        our-epochs,
-        (
-          our-counts,
-          (
-            theirs,
-            (
-              their-epochs,
-              (
-                their-counts,
-                (
-                  removal,
-                  (
-                    ids,
-                    (
-                      removed-epochs,
-                      (
-                        removed-bytes,
-                        (
-                          strategy,
-                          (epochs, (counts, more)),
-                        ),
-                      ),
-                    ),
-                  ),
-                ),
-              ),
-            ),
-          ),
-        ),
-      ),
-    ). lending (now epochs) (now counts))
-    (λ κs (
-      ours,
-      (
-        our-epochs,
-        (
-          our-counts,
-          (
-            theirs,
-            (
-              their-epochs,
-              (
-                their-counts,
-                (
-                  removal,
-                  (
-                    ids,
-                    (
-                      removed-epochs,
-                      (
-                        removed-bytes,
-                        (
-                          strategy,
-                          more,
-                        ),
-                      ),
-                    ),
-                  ),
-                ),
-              ),
-            ),
-          ),
-        ),
-      ),
-    ) m. combinedRemoved (holding ours (now our-epochs) (now our-counts)) (holding theirs (now their-epochs) (now their-counts))
-    (holdingRows (removal .removed) (tables (now ids) (now removed-epochs) (now removed-bytes))) strategy m)
+    (λ κs ours our-epochs our-counts theirs their-epochs their-counts removal ids removed-epochs removed-bytes strategy epochs counts. (
+      lending (now epochs) (now counts),
+      combinedRemoved (holding ours (now our-epochs) (now our-counts)) (holding theirs (now their-epochs) (now their-counts))
+          (holdingRows (removal .removed) (tables (now ids) (now removed-epochs) (now removed-bytes))) strategy,
+    ))
+    (λ κs ours our-epochs our-counts theirs their-epochs their-counts removal ids removed-epochs removed-bytes strategy epochs counts.
+    lending (now epochs) (now counts))
 contract optional-combine-removed-bytes =
     contractOf flagged 9 optional-combine-removed-bytes-kinds.ps optional-combine-removed-bytes-kinds.r optional-combine-removed-bytes-reads.Learnt
     (λ κs x. x)
-    (λ κs (
-      present,
-      (
-        ours,
-        (
-          our-epochs,
-          (
-            our-counts,
-            (
-              theirs,
-              (
-                their-epochs,
-                (
-                  their-counts,
-                  (
-                    removal,
-                    (
-                      ids,
-                      (
-                        removed-epochs,
-                        (
-                          removed-bytes,
-                          (strategy, (epochs, (counts, more))),
-                        ),
-                      ),
-                    ),
-                  ),
-                ),
-              ),
-            ),
-          ),
-        ),
-      ),
-    ). lending (now epochs) (now counts))
-    (λ κs (
-      present,
-      (
-        ours,
-        (
-          our-epochs,
-          (
-            our-counts,
-            (
-              theirs,
-              (
-                their-epochs,
-                (
-                  their-counts,
-                  (
-                    removal,
-                    (
-                      ids,
-                      (
-                        removed-epochs,
-                        (
-                          removed-bytes,
-                          (strategy, (epochs, (counts, more))),
-                        ),
-                      ),
-                    ),
-                  ),
-                ),
-              ),
-            ),
-          ),
-        ),
-      ),
-    ). lending (now epochs) (now counts))
-    (λ κs (
-      present,
-      (
-        ours,
-        (
-          our-epochs,
-          (
-            our-counts,
-            (
-              theirs,
-              (
-                their-epochs,
-                (
-                  their-counts,
-                  (
-                    removal,
-                    (
-                      ids,
-                      (
-                        removed-epochs,
-                        (
-                          removed-bytes,
-                          (strategy, more),
-                        ),
-                      ),
-                    ),
-                  ),
-                ),
-              ),
-            ),
-          ),
-        ),
-      ),
-    ) m. optionalCombinedRemoved present (holding ours (now our-epochs) (now our-counts)) (holding theirs (now
-    their-epochs) (now their-counts)) (holdingRows (removal .removed) (tables (now ids) (now removed-epochs) (now removed-bytes))) strategy m)
+    (λ κs present ours our-epochs our-counts theirs their-epochs their-counts removal ids removed-epochs removed-bytes strategy epochs counts. (
+      lending (now epochs) (now counts),
+      optionalCombinedRemoved present (holding ours (now our-epochs) (now our-counts)) (holding theirs (now their-epochs) (now their-counts))
+          (holdingRows (removal .removed) (tables (now ids) (now removed-epochs) (now removed-bytes))) strategy,
+    ))
+    (λ κs present ours our-epochs our-counts theirs their-epochs their-counts removal ids removed-epochs removed-bytes strategy epochs counts.
+    lending (now epochs) (now counts))
 -- removals
 contract has-removal =
-    contractOf (answering decided) 3 has-removal-kinds.ps has-removal-kinds.r has-removal-reads.Learnt (λ κs x. x)
-    (λ κs i. tt) (λ κs e. tt)
-    (λ κs (removal, (ids, (epochs, (bytes, more)))) m. hasRemoval (holdingRows (removal .removed) (tables (now ids) (now epochs) (now bytes))))
+    answeringAlone (answering decided) 3 has-removal-kinds.ps has-removal-kinds.r has-removal-reads.Learnt (λ κs x. x)
+    (λ κs removal ids epochs bytes. hasRemoval (holdingRows (removal .removed) (tables (now ids) (now epochs) (now bytes))))
 contract total-removed-bytes =
-    contractOf (answering totalled) 3 total-removed-bytes-kinds.ps total-removed-bytes-kinds.r total-removed-bytes-reads.Learnt (λ κs x. x)
-    (λ κs i. tt) (λ κs e. tt)
-    (λ κs (removal, (ids, (epochs, (bytes, more)))) m. totalRemoved (holdingRows (removal .removed) (tables (now ids) (now epochs) (now bytes))))
+    answeringAlone (answering totalled) 3 total-removed-bytes-kinds.ps total-removed-bytes-kinds.r total-removed-bytes-reads.Learnt (λ κs x. x)
+    (λ κs removal ids epochs bytes. totalRemoved (holdingRows (removal .removed) (tables (now ids) (now epochs) (now bytes))))
 contract add-assign =
     contractOf (answeringWith toldRemoval) 6 add-assign-kinds.ps add-assign-kinds.r add-assign-reads.Learnt (λ κs x. x)
-    (λ κs (lhs, (ids, (epochs, (bytes, more)))). tables (now ids) (now epochs) (now bytes))
-    (λ κs (lhs, (ids, (epochs, (bytes, more)))). tables (now ids) (now epochs) (now bytes))
-    (λ κs (lhs, (ids, (epochs, (bytes, (rhs, (rhs-ids, (rhs-epochs, (rhs-bytes, (version, more))))))))) m. summed version (holdingRows
-    (lhs .removed) m) (holdingRows (rhs .removed) (tables (now rhs-ids) (now rhs-epochs) (now rhs-bytes))))
+    (λ κs lhs ids epochs bytes rhs rhs-ids rhs-epochs rhs-bytes version. (
+      tables (now ids) (now epochs) (now bytes),
+      λ m. summed version (holdingRows (lhs .removed) m) (holdingRows (rhs .removed) (tables (now rhs-ids) (now rhs-epochs) (now rhs-bytes))),
+    ))
+    (λ κs lhs ids epochs bytes rhs rhs-ids rhs-epochs rhs-bytes version. tables (now ids) (now epochs) (now bytes))
 contract split-key-removed-bytes =
     contractOf (answeringWith toldRemoval) 5 split-key-removed-bytes-kinds.ps split-key-removed-bytes-kinds.r split-key-removed-bytes-reads.Learnt
     (λ κs x. x)
-    (λ κs (flags, (flag-epochs, (flag-counts, (amount, (ids, (epochs, (bytes, more))))))). tables (now ids) (now epochs) (now bytes))
-    (λ κs (flags, (flag-epochs, (flag-counts, (amount, (ids, (epochs, (bytes, more))))))). tables (now ids) (now epochs) (now bytes))
-    (λ κs (flags, (flag-epochs, (flag-counts, (amount, more)))) m. splitKey (holding flags (now flag-epochs) (now flag-counts)) amount m)
+    (λ κs flags flag-epochs flag-counts amount ids epochs bytes.
+    (tables (now ids) (now epochs) (now bytes), splitKey (holding flags (now flag-epochs) (now flag-counts)) amount))
+    (λ κs flags flag-epochs flag-counts amount ids epochs bytes. tables (now ids) (now epochs) (now bytes))
 contract split-value-removed-bytes =
     contractOf (answeringWith toldSplit) 5 split-value-removed-bytes-kinds.ps split-value-removed-bytes-kinds.r
     split-value-removed-bytes-reads.Learnt (λ κs x. x)
-    (λ κs (flags, (flag-epochs, (flag-counts, (amount, (ids, (epochs, (bytes, more))))))). tables (now ids) (now epochs) (now bytes))
-    (λ κs (flags, (flag-epochs, (flag-counts, (amount, (ids, (epochs, (bytes, more))))))). tables (now ids) (now epochs) (now bytes))
-    (λ κs (flags, (flag-epochs, (flag-counts, (amount, more)))) m. splitValue (holding flags (now flag-epochs) (now flag-counts)) amount m)
+    (λ κs flags flag-epochs flag-counts amount ids epochs bytes.
+    (tables (now ids) (now epochs) (now bytes), splitValue (holding flags (now flag-epochs) (now flag-counts)) amount))
+    (λ κs flags flag-epochs flag-counts amount ids epochs bytes. tables (now ids) (now epochs) (now bytes))
 -- repair and totals
 contract repair =
     contractOf (answeringWith toldRepair) 4 repair-kinds.ps repair-kinds.r repair-reads.Learnt (λ κs x. x)
-    (λ κs (src, (out, (offsets, (changes, more)))). repairLent (now out) (now offsets) (now changes))
-    (λ κs (src, (out, (offsets, (changes, more)))). repairLent (now out) (now offsets) (now changes))
-    (λ κs (src, more) m. repairedInto (now src) m)
+    (λ κs src out offsets changes. (repairLent (now out) (now offsets) (now changes), repairedInto (now src)))
+    (λ κs src out offsets changes. repairLent (now out) (now offsets) (now changes))
 contract totals-replace =
     contractOf (answeringWith counted) 7 totals-replace-kinds.ps totals-replace-kinds.r totals-replace-reads.Learnt (λ κs x. x)
-    (λ κs (rows, (owners, (epochs, (totals, more)))). tables (now owners) (now epochs) (now totals))
-    (λ κs (rows, (owners, (epochs, (totals, more)))). tables (now owners) (now epochs) (now totals))
-    (λ κs (
-      rows,
-      (
-        owners,
-        (
-          epochs,
-          (
-            totals,
-            (
-              old-present,
-              (
-                old,
-                (
-                  old-epochs,
-                  (
-                    old-counts,
-                    (
-                      new-present,
-                      (
-                        new,
-                        (
-                          new-epochs,
-                          (
-                            new-counts,
-                            more,
-                          ),
-                        ),
-                      ),
-                    ),
-                  ),
-                ),
-              ),
-            ),
-          ),
-        ),
-      ),
-    ) m. replacing rows m (properGiven old-present (holding old (now old-epochs) (now old-counts)) && properGiven new-present
-    (holding new (now new-epochs) (now new-counts))) (given old-present (holding old (now old-epochs) (now old-counts))) (given new-present (holding
-    new (now new-epochs) (now new-counts))))
+    (λ κs rows owners epochs totals old-present old old-epochs old-counts new-present new new-epochs new-counts. (
+      tables (now owners) (now epochs) (now totals),
+      λ m. replacing rows m (properGiven old-present (holding old (now old-epochs) (now old-counts)) && properGiven new-present
+          (holding new (now new-epochs) (now new-counts))) (given old-present (holding old (now old-epochs) (now old-counts)))
+          (given new-present (holding new (now new-epochs) (now new-counts))),
+    ))
+    (λ κs rows owners epochs totals old-present old old-epochs old-counts new-present new new-epochs new-counts.
+    tables (now owners) (now epochs) (now totals))
