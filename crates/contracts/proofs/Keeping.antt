@@ -1,4 +1,5 @@
--- A REFUSAL'S ANSWER IS ITS NUMBER ALONE, AND WHAT WAS LENT IS AS IT CAME, of each public call. By the laws, since each definition is made by `leaving`.
+-- A REFUSAL'S ANSWER IS ITS NUMBER ALONE, AND WHAT WAS LENT IS AS IT CAME, of each public call. By the laws, since each definition is made by
+-- `leaving`.
 -- Assumes nothing.
 use mathlib.Core.Path.{_≡_, refl, sym, ap, _∙_}
 use mathlib.Core.Bool.{true, _&&_}
@@ -32,7 +33,8 @@ use Rattle.contracts.specs.Calls
 use Rattle.contracts.specs.Calls.{PublicCall, contract}
 use Rattle.contracts.specs.CallsForC
 use Rattle.contracts.specs.CallsForC.{CallForC, contractC}
-use Rattle.contracts.proofs.Laws.{leaving-kept, either-kept, named-kept, told-keeps, told-keeps-with, flags-keeps, c-keeps, c-keeps-with, c-flags-keep}
+use Rattle.contracts.proofs.Laws.{leaving-kept, either-kept, named-kept, told-keeps, told-keeps-with, flags-keeps}
+use Rattle.contracts.proofs.Laws.{c-keeps, c-keeps-with, c-flags-keep}
 
 pub keeps : (c : PublicCall) → Keeps (contract c)
 unfolding placingIf writing serialized handedOn combinedAdded combinedRemoved handedOnBeside summed splitKey splitValue placingRepair replacing
@@ -99,18 +101,28 @@ keeps-c CallsForC.petasunok-owner-id κs i x e p h =
 keeps-c CallsForC.petasunok-type-byte κs i x e p h =
     (c-keeps countTold (λ (a : CCount). a .refusal) (λ a. refl) (λ n. refl) x (typeByteC (i .0)) p h, refl)
 keeps-c CallsForC.petasunok-combine-owner-id κs i x e p h = (choice-keeps x (ownerC (i .1 .1 .0) (now (i .0)) (now (i .1 .0))) p h, refl)
-keeps-c CallsForC.petasunok-combine-added-bytes κs i x e p h = c-flags-keep x _ _ _ (named-kept _ (canMerge true (i .0) (i .1 .1 .1 .0) (i .1 .1 .1 .1 .1 .1 .1 .0)) _ (leaving-kept _ _)) p h
+keeps-c CallsForC.petasunok-combine-added-bytes κs i x e p h =
+    c-flags-keep x _ _ _ (named-kept _ (canMerge true (i .0) (i .1 .1 .1 .0) (i .1 .1 .1 .1 .1 .1 .1 .0)) _ (leaving-kept _ _)) p h
 keeps-c CallsForC.petasunok-optional-combine-added-bytes κs i x e p h = c-flags-keep x _ _ _
-    (named-kept _ (canMerge (isTrue (i .0)) (i .1 .0) (i .1 .1 .1 .1 .0) (i .1 .1 .1 .1 .1 .1 .1 .1 .0)) _ (either-kept _ (isTrue (i .0)) _ _ (leaving-kept _ _) (leaving-kept _ _))) p h
-keeps-c CallsForC.petasunok-combine-removed-bytes κs i x e p h = c-flags-keep x _ _ _
-    (named-kept _ (canMerge true (i .0) (i .1 .1 .1 .0) (i .1 .1 .1 .1 .1 .1 .1 .1 .1 .1 .0) && isRemoval (i .1 .1 .1 .1 .1 .1 .0 .kind)) _ (leaving-kept _ _)) p h
-keeps-c CallsForC.petasunok-optional-combine-removed-bytes κs i x e p h = c-flags-keep x _ _ _
-    (named-kept _ (canMerge (isTrue (i .0)) (i .1 .0) (i .1 .1 .1 .1 .0) (i .1 .1 .1 .1 .1 .1 .1 .1 .1 .1 .1 .0) && isRemoval (i .1 .1 .1 .1 .1 .1 .1 .0 .kind)) _
+    (named-kept _ (canMerge (isTrue (i .0)) (i .1 .0) (i .1 .1 .1 .1 .0) (i .1 .1 .1 .1 .1 .1 .1 .1 .0)) _
     (either-kept _ (isTrue (i .0)) _ _ (leaving-kept _ _) (leaving-kept _ _))) p h
-keeps-c CallsForC.petasunok-has-removal κs i x e p h =
-    (c-keeps truthTold (λ (a : CCount). a .refusal) (λ a. refl) (λ n. refl) x (hasRemovalC (holdingRowsC (i .0) (tables (now (i .1 .0)) (now (i .1 .1 .0)) (now (i .1 .1 .1 .0))))) p h, refl)
-keeps-c CallsForC.petasunok-total-removed-bytes κs i x e p h =
-    (c-keeps countTold (λ (a : CCount). a .refusal) (λ a. refl) (λ n. refl) x (totalRemovedC (holdingRowsC (i .0) (tables (now (i .1 .0)) (now (i .1 .1 .0)) (now (i .1 .1 .1 .0))))) p h, refl)
+keeps-c CallsForC.petasunok-combine-removed-bytes κs i x e p h = c-flags-keep x _ _ _
+    (named-kept _ (canMerge true (i .0) (i .1 .1 .1 .0) (i .1 .1 .1 .1 .1 .1 .1 .1 .1 .1 .0) && isRemoval (i .1 .1 .1 .1 .1 .1 .0 .kind)) _
+    (leaving-kept _ _)) p h
+keeps-c CallsForC.petasunok-optional-combine-removed-bytes κs i x e p h = c-flags-keep x _ _ _
+    (named-kept _ (canMerge (isTrue (i .0)) (i .1 .0) (i .1 .1 .1 .1 .0) (i .1 .1 .1 .1 .1 .1 .1 .1 .1 .1 .1 .0) && isRemoval
+    (i .1 .1 .1 .1 .1 .1 .1 .0 .kind)) _
+    (either-kept _ (isTrue (i .0)) _ _ (leaving-kept _ _) (leaving-kept _ _))) p h
+keeps-c CallsForC.petasunok-has-removal κs i x e p h = (
+  c-keeps truthTold (λ (a : CCount). a .refusal) (λ a. refl) (λ n. refl) x
+      (hasRemovalC (holdingRowsC (i .0) (tables (now (i .1 .0)) (now (i .1 .1 .0)) (now (i .1 .1 .1 .0))))) p h,
+  refl,
+)
+keeps-c CallsForC.petasunok-total-removed-bytes κs i x e p h = (
+  c-keeps countTold (λ (a : CCount). a .refusal) (λ a. refl) (λ n. refl) x
+      (totalRemovedC (holdingRowsC (i .0) (tables (now (i .1 .0)) (now (i .1 .1 .0)) (now (i .1 .1 .1 .0))))) p h,
+  refl,
+)
 keeps-c CallsForC.petasunok-add-assign κs i x e p h =
     c-keeps-with sumAnswer (λ (a : CSum). a .refusal) (λ a. refl) (λ n. refl) x _ _ _
     (named-kept _ (isRemoval (i .0 .kind) && isRemoval (i .1 .1 .1 .1 .0 .kind)) _ (leaving-kept _ _)) p h
@@ -123,4 +135,5 @@ keeps-c CallsForC.petasunok-repair κs i x e p h =
     c-keeps-with repairAnswer (λ (a : CRepaired). a .refusal) (λ a. refl) (λ n. refl) x _ _ _ (leaving-kept _ _) p h
 keeps-c CallsForC.petasunok-totals-replace κs i x e p h =
     c-keeps-with countTold (λ (a : CCount). a .refusal) (λ a. refl) (λ n. refl) x _ _ _
-    (named-kept _ (canReplace (i .1 .1 .1 .1 .0) (i .1 .1 .1 .1 .1 .0) (i .1 .1 .1 .1 .1 .1 .1 .1 .0) (i .1 .1 .1 .1 .1 .1 .1 .1 .1 .0)) _ (leaving-kept _ _)) p h
+    (named-kept _ (canReplace (i .1 .1 .1 .1 .0) (i .1 .1 .1 .1 .1 .0) (i .1 .1 .1 .1 .1 .1 .1 .1 .0) (i .1 .1 .1 .1 .1 .1 .1 .1 .1 .0)) _
+    (leaving-kept _ _)) p h

@@ -49,7 +49,8 @@ module _ {T A M : Type 0} (t : T → Answer A) (x : T) (m left : M) (d : After (
       (r, ap (λ (a : After (Answer A) M). a .lent) e ∙ k _ (sym (ap (λ (a : After (Answer A) M). a .answer) e) ∙ r))
 
 -- flags: the head is all zeros
-pub flags-keeps : (a : Answered) (t left : Lent) (d : FlagsAfter) → KeptBy (blank t) d → shown a left ≡ d → (numberIn (presentIn (a .outcome)) ≡ 0 → ⊥)
+pub flags-keeps : (a : Answered) (t left : Lent) (d : FlagsAfter) → KeptBy (blank t) d → shown a left ≡ d
+    → (numberIn (presentIn (a .outcome)) ≡ 0 → ⊥)
     → ((presentIn (a .outcome) ≡ refused (numberIn (presentIn (a .outcome)))) × (a .head ≡ noHead)) × (left ≡ t)
 flags-keeps a t left d k e h =
     let r = told-keeps-with presentIn (a .outcome) (blank t) _ d k e h in

@@ -1,5 +1,5 @@
--- ONLY: OF EACH PUBLIC CALL ANY TWO OUTCOMES THAT ITS CONTRACT ALLOWS ARE EQUAL, THE ANSWER AND ALL LENT MEMORY. Where what is told of an answer has a way
--- back, by `left-only`; where the contract has C's answer itself, since both equal the definition.
+-- ONLY: OF EACH PUBLIC CALL ANY TWO OUTCOMES THAT ITS CONTRACT ALLOWS ARE EQUAL, THE ANSWER AND ALL LENT MEMORY. Where what is told of an answer
+-- has a way back, by `left-only`; where the contract has C's answer itself, since both equal the definition.
 -- Assumes nothing.
 use mathlib.Core.Path.{refl, sym, _∙_}
 use Rattle.records_spec.specs.Answers.{counted}
