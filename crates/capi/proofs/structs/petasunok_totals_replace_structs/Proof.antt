@@ -222,7 +222,8 @@ module _ {M : Type 1} (𝓤 : URA M) (H : Heap 𝓤) (A : Atoms 𝓤) (W : Given
   work = tables os es us
 
   abbrev done-with : Bool → Head → Bool → Head → StructsAfter
-  done-with p₁ g₁ p₂ g₂ = replacingStructs n ys work (properGiven p₁ (holding g₁ (x₅ .now) (x₆ .now)) && properGiven p₂ (holding g₂ (x₇ .now) (x₈ .now)))
+  done-with p₁ g₁ p₂ g₂ =
+      replacingStructs n ys work (properGiven p₁ (holding g₁ (x₅ .now) (x₆ .now)) && properGiven p₂ (holding g₂ (x₇ .now) (x₈ .now)))
       (given p₁ (holding g₁ (x₅ .now) (x₆ .now))) (given p₂ (holding g₂ (x₇ .now) (x₈ .now)))
 
   abbrev answer : StructsAfter
@@ -230,7 +231,8 @@ module _ {M : Type 1} (𝓤 : URA M) (H : Heap 𝓤) (A : Atoms 𝓤) (W : Given
 
   all-said : (t : Bool) → t ≡ canReplace m₁ h₁ m₂ h₂ → Holds t → (p₁ : Bool) → p₁ ≡ isTrue m₁ → (g₁ : Head) → g₁ ≡ headGiven h₁ → (p₂ : Bool) → p₂
       ≡ isTrue m₂ → (g₂ : Head) → g₂ ≡ headGiven h₂
-      → (r : Counted) (j : CCount) (ts : List Total) (w : Tables) → after (counted r) (beside ts w) ≡ done-with p₁ g₁ p₂ g₂ → j ≡ countTold (counted r) →
+      → (r : Counted) (j : CCount) (ts : List Total) (w : Tables) → after (counted r) (beside ts w) ≡ done-with p₁ g₁ p₂ g₂
+      → j ≡ countTold (counted r) →
       after j (beside ts w) ≡ toldAs countTold answer
   all-said t e held p₁ e₁ g₁ f₁ p₂ e₂ g₂ f₂ r j ts w said e₃ =
       let as-given : after (counted r) (beside ts w) ≡ done-with (isTrue m₁) (headGiven h₁) (isTrue m₂) (headGiven h₂) =
@@ -241,7 +243,8 @@ module _ {M : Type 1} (𝓤 : URA M) (H : Heap 𝓤) (A : Atoms 𝓤) (W : Given
       ∙ ap (done-with (isTrue m₁) (headGiven h₁) (isTrue m₂)) f₂ in
       told-as countTold j (counted r) (beside ts w) answer e₃ (when-true _ _ _ (sym e ∙ holds t held) as-given)
 
-  refusal-said : (t : Bool) → t ≡ canReplace m₁ h₁ m₂ h₂ → Holds (not t) → (j : CCount) → j ≡ countTold (refused (number BadTable)) → after j (beside ys work)
+  refusal-said : (t : Bool) → t ≡ canReplace m₁ h₁ m₂ h₂ → Holds (not t) → (j : CCount) → j ≡ countTold (refused (number BadTable))
+      → after j (beside ys work)
       ≡ toldAs countTold answer
   refusal-said t e failed j f = ap (λ (z : CCount). after z (beside ys work)) f
       ∙ ap (toldAs countTold) (when-false _ _ _ (sym e ∙ fails t (λ h. T-not t failed h)) refl)
@@ -448,9 +451,11 @@ module _ {M : Type 1} (𝓤 : URA M) (H : Heap 𝓤) (A : Atoms 𝓤) (W : Given
         × (List (List ℕ) × (List ℕ × (List ℕ × (Unit {0}
         × (Unit {0} × (Unit {0} × (Unit {0} × (Unit {0} × (Unit {0} × (Unit {0} × (Unit {0} × Unit {0}))))))))))))).
         ‵ (lasts replaces.ended κs (replaces-args p₁ g₁ p₂ g₂) ws)
-        ⊛ raw (fact 𝓤 (after (counted r) (beside (ws .1 .0) (tables (ws .1 .1 .0) (ws .1 .1 .1 .0) (ws .1 .1 .1 .1 .0))) ≡ done-with p₁ g₁ p₂ g₂)))) (id⊢ 𝓤 _) $
+        ⊛ raw (fact 𝓤 (after (counted r) (beside (ws .1 .0) (tables (ws .1 .1 .0) (ws .1 .1 .1 .0) (ws .1 .1 .1 .1 .0)))
+        ≡ done-with p₁ g₁ p₂ g₂)))) (id⊢ 𝓤 _) $
         pick ! (λ ws. split ! $
-        move ! (1 ∷ []) $ heard ! (after (counted r) (beside (ws .1 .0) (tables (ws .1 .1 .0) (ws .1 .1 .1 .0) (ws .1 .1 .1 .1 .0))) ≡ done-with p₁ g₁ p₂ g₂) (λ said.
+        move ! (1 ∷ []) $ heard ! (after (counted r) (beside (ws .1 .0) (tables (ws .1 .1 .0) (ws .1 .1 .1 .0) (ws .1 .1 .1 .1 .0)))
+        ≡ done-with p₁ g₁ p₂ g₂) (λ said.
         fsplit ! $ drop ! $ fsplit ! $ fsplit ! $ move ! (1 ∷ []) $ feqL ! (λ len₁. move ! (1 ∷ []) $ fsplit ! $ fsplit ! $ move ! (1 ∷ []) $
         feqL ! (λ len₂. move ! (1 ∷ []) $ fsplit ! $
         fsplit ! $ move ! (1 ∷ []) $ feqL ! (λ len₃. move ! (1 ∷ []) $ fsplit ! $ fsplit ! $ move ! (1 ∷ []) $ feqL ! (λ len₄. move ! (1 ∷ []) $

@@ -25,7 +25,8 @@ returns c = λ es cs.
     let s = c .before .before .before .before .before in
     let k = s .args .kind in
     let d = s .args .src .now in
-    placed-left (c .present .result) (lending es cs) (flags (baseIn k d) (ownerIn k d) []) _ 0 es cs (c .present .ensures) (c .before .head-in .ensures)
+    placed-left (c .present .result) (lending es cs) (flags (baseIn k d) (ownerIn k d) []) _ 0 es cs (c .present .ensures)
+    (c .before .head-in .ensures)
     (filling-done (filling-start [] 0 es cs) refl) (omega arith) (omega arith)
     ∙ sym (placing-some (flags (baseIn k d) (ownerIn k d) []) (lending es cs))
     ∙ sym (ap (λ (x : Read). placingIf (answer x) (lending es cs))

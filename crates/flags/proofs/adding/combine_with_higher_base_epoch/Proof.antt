@@ -55,7 +55,8 @@ returns-2 c =
     let n : at-look-up .look-up .result .count ≡ held (a .epoch) (ours b) = ap (λ (s : Spot). s .count) (at-look-up .look-up .ensures) in
     let p : held (a .epoch) (ours b) + a .added-bytes ≤ largest = omega (arith, n, at-if1 .if1 .left, b .fits .added-bytes) in
     at-place-around .place-around .ensures
-    ∙ ap (λ (k : ℕ). placing (ok (flags (a .base) (owner b) (union (ours b) (a .epoch ⦂ (k + a .added-bytes) ∷ theirs b)))) (lending (a .epochs .now) (a .counts .now))) n
+    ∙ ap (λ (k : ℕ). placing (ok (flags (a .base) (owner b) (union (ours b) (a .epoch ⦂ (k + a .added-bytes) ∷ theirs b))))
+    (lending (a .epochs .now) (a .counts .now))) n
     ∙ sym (ap (λ (x : Answer Flags). placing x (lending (a .epochs .now) (a .counts .now)))
     (raised-made (a .epoch) (a .added-bytes) (a .base) (owner b) (ours b) (theirs b) (above b) p))
 

@@ -59,7 +59,8 @@ returns-2 c =
     let b = c .before .before .before .before .before .before .before in
     let e : told b ≡ false = sym (c .before .before .fit .ensures) ∙ c .before .if1 .left in
     refused-left (c .refused .result) (lending _ _) _ (c .refused .ensures)
-    ∙ sym (placing-short (flagsOf (holding (b .args .flags) (b .args .from-epochs .now) (b .args .from-counts .now))) (lending _ _) (rw (proper-long (is-proper b)) e))
+    ∙ sym (placing-short (flagsOf (holding (b .args .flags) (b .args .from-epochs .now) (b .args .from-counts .now))) (lending _ _)
+    (rw (proper-long (is-proper b)) e))
 
 pub hand-on-spec : {M : Type 1} → statement M
 hand-on-spec =

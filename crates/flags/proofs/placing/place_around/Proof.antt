@@ -123,7 +123,8 @@ returns c =
     let r = room (fitted k) in
     let q = around-placed (s .pre .0) (s .pre .1 .1) (s .pre .1 .0) (s .args .count) (k .copy-records .ensures) (u .union-into .ensures) in
     let h = c .before .new-head .ensures ∙ ap (headFor (s .args .base) (placed s .owner)) (q .behind ∙ zero-add (length (records s))) in
-    placed-left (c .present .result) (lending _ _) (placed s) _ _ _ _ (c .present .ensures) h q (omega (arith, long s, r .0)) (omega (arith, long s, r .1))
+    placed-left (c .present .result) (lending _ _) (placed s) _ _ _ _ (c .present .ensures) h q (omega (arith, long s, r .0))
+    (omega (arith, long s, r .1))
 
 same-length : tie.Need-same-length
 same-length c =

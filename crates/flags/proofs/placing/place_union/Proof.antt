@@ -52,7 +52,8 @@ returns-2 : tie.Need-returns-2
 returns-2 c =
     let b = c .before .before .before .before .before .before .before .before .before in
     let e : told b ≡ false = sym (c .before .before .union-fits .ensures) ∙ c .before .if1 .left in
-    refused-left (c .refused .result) (lending _ _) _ (c .refused .ensures) ∙ sym (placing-short (placed b) (lending _ _) (rw (zero-add (length (records b))) at e))
+    refused-left (c .refused .result) (lending _ _) _ (c .refused .ensures)
+    ∙ sym (placing-short (placed b) (lending _ _) (rw (zero-add (length (records b))) at e))
 
 pub place-union-spec : {M : Type 1} → statement M
 place-union-spec =

@@ -148,7 +148,8 @@ module _ (c : tie.After-loop Inv-loop μ-loop) where
   abbrev at-theirs : tie.At-loop Inv-loop μ-loop
   at-theirs = c .before
 
-  theirs-left : left-here at-theirs ≡ stretch (at-theirs .loop .b) (length (begun at-theirs .args .their-epochs .now)) (theirs (begun at-theirs)) ++ []
+  theirs-left : left-here at-theirs ≡ stretch (at-theirs .loop .b) (length (begun at-theirs .args .their-epochs .now))
+      (theirs (begun at-theirs)) ++ []
   theirs-left = left-theirs (begun at-theirs .pre .0) (begun at-theirs .pre .1 .0) (at-theirs .loop .a) (at-theirs .loop .b) (c .loop-test .left)
 
 copy-run-requires-3 : tie.Need-copy-run-requires-3 Inv-loop μ-loop

@@ -51,7 +51,8 @@ returns-3 c =
     let a = b .args in
     let p : a .ours .base < a .theirs .base = omega (arith, at-if1 .if1 .left, at-if2 .if2 .left) in
     at-combine-with-higher-base-epoch-remove-bytes .combine-with-higher-base-epoch-remove-bytes .ensures
-    ∙ sym (ap (λ (x : Answer Flags). placing x (lending (a .epochs .now) (a .counts .now))) (removed-above (a .strategy) (removal b) (ours b) (theirs b) p))
+    ∙ sym (ap (λ (x : Answer Flags). placing x (lending (a .epochs .now) (a .counts .now)))
+    (removed-above (a .strategy) (removal b) (ours b) (theirs b) p))
 
 pub combine-proper-spec : {M : Type 1} → statement M
 combine-proper-spec =

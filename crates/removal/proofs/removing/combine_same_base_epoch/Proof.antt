@@ -31,7 +31,8 @@ returns : tie.Need-returns
 returns c =
     let b = c .before .before .before .before .before .before .before .before .before in
     let a = b .args in
-    refused-placing (c .refused .result) (lending (a .epochs .now) (a .counts .now)) (removedBeside (a .strategy) (ours b) (theirs b)) _ (c .refused .ensures)
+    refused-placing (c .refused .result) (lending (a .epochs .now) (a .counts .now)) (removedBeside (a .strategy) (ours b) (theirs b)) _
+    (c .refused .ensures)
     (beside-disputed (a .strategy) (ours b) (theirs b)
     (refused-owner _ (a .strategy) (ownerOf (a .ours)) (ownerOf (a .theirs)) (c .before .before .combine-owners .ensures) (c .before .if1 .taken)))
 

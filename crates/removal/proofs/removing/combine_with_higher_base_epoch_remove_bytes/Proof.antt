@@ -91,7 +91,8 @@ returns-3 c =
     let w : MaybeOwner = o .combine-owners .result .owner in
     let i = ap (λ (m : MaybeOwner). m .id) (known .owner-id .ensures) ∙ owner-bytes (ownerOf (a .ours)) in
     removed .remove-bytes .ensures
-    ∙ ap (λ (j : List ℕ). placing (taken j (removal s) (unionUnder (ours s) (theirs s) (ownerIf (w .owned) (w .id)))) (lending (a .epochs .now) (a .counts .now))) i
+    ∙ ap (λ (j : List ℕ). placing (taken j (removal s) (unionUnder (ours s) (theirs s) (ownerIf (w .owned) (w .id))))
+    (lending (a .epochs .now) (a .counts .now))) i
     ∙ sym (ap (λ (x : Answer Flags). placing x (lending (a .epochs .now) (a .counts .now)))
     (above-owned (a .strategy) (removal s) (ours s) (theirs s) (ours s .records) (some o) _
     (answered-owner _ (combinedOwner (a .strategy) (ownerOf (a .ours)) (ownerOf (a .theirs))) (o .combine-owners .ensures)

@@ -23,14 +23,18 @@ returns-2 c =
     let start = at-if1 .before .before .before .before .before .before .before .before .before in
     let a = start .args in
     at-combine-absent .combine-absent .ensures
-    ∙ sym (optional-absent (holding (a .ours) (a .our-epochs .now) (a .our-counts .now)) (holding (a .theirs) (a .their-epochs .now) (a .their-counts .now)) _ (a .strategy) _ _ (at-if1 .if1 .left) (sym (at-is-proper .is-proper .ensures) ∙ at-if2 .if2 .taken))
+    ∙ sym (optional-absent (holding (a .ours) (a .our-epochs .now) (a .our-counts .now))
+    (holding (a .theirs) (a .their-epochs .now) (a .their-counts .now)) _ (a .strategy) _ _ (at-if1 .if1 .left)
+    (sym (at-is-proper .is-proper .ensures) ∙ at-if2 .if2 .taken))
 
 returns-3 : tie.Need-returns-3
 returns-3 c =
     let start = c .before .before .before .before .before .before .before .before .before .before .before .before in
     let a = start .args in
     refused-left _ (lending _ _) _ (c .refused .ensures)
-    ∙ sym (optional-bad (holding (a .ours) (a .our-epochs .now) (a .our-counts .now)) (holding (a .theirs) (a .their-epochs .now) (a .their-counts .now)) _ (a .strategy) _ _ (c .before .before .before .if1 .left) (sym (c .before .before .is-proper .ensures) ∙ c .before .if2 .left))
+    ∙ sym (optional-bad (holding (a .ours) (a .our-epochs .now) (a .our-counts .now))
+    (holding (a .theirs) (a .their-epochs .now) (a .their-counts .now)) _ (a .strategy) _ _ (c .before .before .before .if1 .left)
+    (sym (c .before .before .is-proper .ensures) ∙ c .before .if2 .left))
 
 pub optional-combine-removed-bytes-spec : {M : Type 1} → statement M
 optional-combine-removed-bytes-spec =

@@ -56,7 +56,8 @@ returns-2 : tie.Need-returns-2
 returns-2 c =
     let b = c .before .before .before .before .before .before .before .before .before .before .before in
     let a = b .args in
-    refused-placing (c .refused .result) (lending (a .epochs .now) (a .counts .now)) (taken (a .id) (sectioned (rows b)) (joined b)) _ (c .refused .ensures)
+    refused-placing (c .refused .result) (lending (a .epochs .now) (a .counts .now)) (taken (a .id) (sectioned (rows b)) (joined b)) _
+    (c .refused .ensures)
     (taken-others (a .id) (rows b) (joined b) (sym (c .before .before .only-under .ensures) ∙ c .before .if1 .left))
 
 pub remove-rows-spec : {M : Type 1} → statement M

@@ -36,7 +36,8 @@ module _ (at-if1 : tie.Then1) where
       → placingRemoval (keyPart i (start .args .flags .base) (start .args .removed-key-bytes)) (lent start)
       ≡ splitKey (holding (start .args .flags) (start .args .epochs .now) (start .args .counts .now)) (start .args .removed-key-bytes) (lent start)
   then-split i e =
-      key-proper (holding (start .args .flags) (start .args .epochs .now) (start .args .counts .now)) (start .args .removed-key-bytes) (lent start) i e tested
+      key-proper (holding (start .args .flags) (start .args .epochs .now) (start .args .counts .now)) (start .args .removed-key-bytes)
+      (lent start) i e tested
 
 -- there are bytes
 some-bytes : (at-if2 : tie.Else2) → 0 < start (at-if2 .before) .args .removed-key-bytes
@@ -83,7 +84,8 @@ returns-4 : tie.Need-returns-4
 returns-4 c =
     let b = c .before .before .before .before .before .before in
     let a = b .args in
-    key-bad (holding (a .flags) (a .epochs .now) (a .counts .now)) (a .removed-key-bytes) (lent b) (sym (c .before .is-proper .ensures) ∙ c .if1 .left)
+    key-bad (holding (a .flags) (a .epochs .now) (a .counts .now)) (a .removed-key-bytes) (lent b)
+    (sym (c .before .is-proper .ensures) ∙ c .if1 .left)
 
 pub split-key-removed-bytes-spec : {M : Type 1} → statement M
 split-key-removed-bytes-spec =

@@ -47,7 +47,8 @@ module _ (at-if1 : tie.Then1) where
   then-split : (i : List ℕ) → i ≡ our-id
       → leaving (lent start) (placedSplit (length (sections records (start .args .removed-value-bytes)))
       (valuePart i (start .args .flags .base) records (start .args .removed-value-bytes)) (lent start))
-      ≡ splitValue (holding (start .args .flags) (start .args .epochs .now) (start .args .counts .now)) (start .args .removed-value-bytes) (lent start)
+      ≡ splitValue (holding (start .args .flags) (start .args .epochs .now) (start .args .counts .now)) (start .args .removed-value-bytes)
+      (lent start)
   then-split i e =
       value-proper (holding (start .args .flags) (start .args .epochs .now) (start .args .counts .now)) (start .args .removed-value-bytes)
       (lent start) i e tested
@@ -121,7 +122,8 @@ returns-3 : tie.Need-returns-3
 returns-3 c =
     let b = c .before .before .before .before .before .before in
     let a = b .args in
-    value-bad (holding (a .flags) (a .epochs .now) (a .counts .now)) (a .removed-value-bytes) (lent b) (sym (c .before .is-proper .ensures) ∙ c .if1 .left)
+    value-bad (holding (a .flags) (a .epochs .now) (a .counts .now)) (a .removed-value-bytes) (lent b)
+    (sym (c .before .is-proper .ensures) ∙ c .if1 .left)
 
 slice-aggregate-sectioned-storage-removal : tie.Need-slice-aggregate-sectioned-storage-removal
 slice-aggregate-sectioned-storage-removal c =

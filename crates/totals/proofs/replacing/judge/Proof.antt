@@ -88,7 +88,8 @@ returns-3 c =
     let s = begin at-made in
     let p = s .pre in
     ap (λ (k : ℕ). ok (k - gone at-made .gone .given .0 .0 + at-made .made .given .0 .0)) (sym (length-rows (p .0 .room)))
-    ∙ verdict-rows (olds s) (news s) (table s) (went (gone at-made)) (p .0 .rises) (p .0 .full) (under-ascends _ (p .1 .0)) (under-ascends _ (p .1 .1))
+    ∙ verdict-rows (olds s) (news s) (table s) (went (gone at-made)) (p .0 .rises) (p .0 .full) (under-ascends _ (p .1 .0))
+    (under-ascends _ (p .1 .1))
     (came at-made)
 
 pub judge-spec : {M : Type 1} → statement M

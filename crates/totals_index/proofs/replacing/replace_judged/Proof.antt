@@ -157,7 +157,8 @@ is-spelled = refl
 -- what was judged of the table
 abbrev Told : Judging → List Total → Bool → Head → List ℕ → List ℕ → Bool → Head → List ℕ → List ℕ → Type 0
 Told jd ts op old oes ocs np new nes ncs = verdictOf jd
-    ≡ countedRows (verdict (jd .rows) ts (properGiven op (holding old oes ocs) && properGiven np (holding new nes ncs)) (given op (holding old oes ocs)) (given np (holding new nes ncs)))
+    ≡ countedRows (verdict (jd .rows) ts (properGiven op (holding old oes ocs) && properGiven np (holding new nes ncs))
+    (given op (holding old oes ocs)) (given np (holding new nes ncs)))
 
 -- a head's machine value, and that it has its type
 abbrev head-vals : Head → List Val
@@ -280,7 +281,8 @@ module _ {M : Type 1} (𝓤 : URA M) (H : Heap 𝓤) (A : Atoms 𝓤) (W : Given
   all-said : (j : ℕ) (r : Counted) (w₂ : Tables) (ts : List Total) → j ≡ rowsTold (counted r) → ts ≡ over (structs (rowsIn j w₂)) ys →
       Put jd ys work good old new judged r w₂
       → after (counted r) (beside ts w₂) ≡ replacingStructs (jd .rows) ys work good old new
-  all-said j r w₂ ts e₃ e₄ d = ap (λ (z : List Total). after (counted r) (beside z w₂)) (e₄ ∙ ap (λ (m : ℕ). over (structs (rowsIn m w₂)) ys) e₃) ∙ d .all-left
+  all-said j r w₂ ts e₃ e₄ d =
+      ap (λ (z : List Total). after (counted r) (beside z w₂)) (e₄ ∙ ap (λ (m : ℕ). over (structs (rowsIn m w₂)) ys) e₃) ∙ d .all-left
 
   module _ (r : Counted) (v : Val) (ts′ : List Total) (os′ : List (List ℕ)) (es′ us′ : List ℕ) (len₁ : length ts′ ≡ length ys)
       (len₂ : length os′ ≡ length os) (len₃ : length es′ ≡ length es) (len₄ : length us′ ≡ length us) where

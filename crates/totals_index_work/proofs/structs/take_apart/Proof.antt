@@ -255,7 +255,8 @@ module _ {M : Type 1} (𝓤 : URA M) (H : Heap 𝓤) (A : Atoms 𝓤) (W : Given
         assigns ! (bin ! (load ! (from ! (fld ! refl (stop !))) (look-in ! 16 (sub ! 0 refl (whole !))))
         (load ! (from ! (stop !)) (look ! 7 refl)) tt) (from ! (stop !)) (init ! 11 refl (tt, tt)) $
         rewrite ! 11 (λ (p : ℕ). ‵ (fat fullShare tyPtr l₁₃ 0 (vptr b₃ p))) (sym (place-is 2 o₃ i)) refl $
-        move ! (2 ∷ []) $ elem-out ! u16 (Is u16) (shows 𝓤 H A u16) (uint-vals w16) (uint-tells w16) fullShare (filled i (totalEpochsOf ys) es) i 0 b₃ o₃
+        move ! (2 ∷ []) $ elem-out ! u16 (Is u16) (shows 𝓤 H A u16) (uint-vals w16) (uint-tells w16) fullShare
+        (filled i (totalEpochsOf ys) es) i 0 b₃ o₃
         (in-filled (totalEpochsOf ys) es in-es) (λ _.
         assigns ! (of-opd ! (load ! (from ! (fld ! refl (stop !))) (look-in ! 7 (sub ! 1 refl (whole !)))))
         (from ! (hop ! (look ! 13 refl) (stop !))) (store ! 0 refl (tt, record { fits = epoch-fits (getD ys i no-total) g })) $

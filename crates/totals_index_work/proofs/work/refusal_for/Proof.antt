@@ -11,12 +11,14 @@ use Rattle.totals_index_work.proofs.work.refusal_for.Tie as tie
 returns : tie.Need-returns
 returns c =
     let proper = c .before .before .before in
-    ap (λ (r : Refusal). refused (number r)) (refusal-room (proper .before .args .judged) (proper .if1 .taken) (c .before .if2 .taken) (c .if3 .taken))
+    ap (λ (r : Refusal). refused (number r))
+    (refusal-room (proper .before .args .judged) (proper .if1 .taken) (c .before .if2 .taken) (c .if3 .taken))
 
 returns-2 : tie.Need-returns-2
 returns-2 c =
     let proper = c .before .before .before in
-    ap (λ (r : Refusal). refused (number r)) (refusal-overflow (proper .before .args .judged) (proper .if1 .taken) (c .before .if2 .taken) (c .if3 .left))
+    ap (λ (r : Refusal). refused (number r))
+    (refusal-overflow (proper .before .args .judged) (proper .if1 .taken) (c .before .if2 .taken) (c .if3 .left))
 
 returns-3 : tie.Need-returns-3
 returns-3 c =

@@ -19,7 +19,8 @@ returns c =
 returns-2 : tie.Need-returns-2
 returns-2 c =
     let at-fits = c .before .before in
-    let a = at-fits .before .before .before .before .before .before .before .args in
+    let start = at-fits .before .before .before .before .before .before .before in
+    let a = start .args in
     when-false _ _ _ (sym (at-fits .fits2 .ensures) ∙ c .before .if1 .left)
     (ap (λ (x : Answer ℕ). after x (tables (a .owners .now) (a .epochs .now) (a .totals .now))) (c .refusal-for .ensures))
 
