@@ -1,4 +1,6 @@
 // Every public call under a name and in a form that C can call: a static library. A slice passes as a pointer and a length.
+#![tactic(auto)]
+
 mod adding;
 mod heads;
 mod owners;

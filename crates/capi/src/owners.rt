@@ -1,6 +1,5 @@
 // The owner rule, for C.
 ghost use Rattle.std.specs.Prelude.{◌≡◌};
-ghost use Rattle.fields_spec.specs.Lending.{was};
 ghost use Rattle.capi_spec.specs.Told.{owner_told};
 ghost use Rattle.capi_spec.specs.Calls.{owner_c};
 

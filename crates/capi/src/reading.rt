@@ -1,7 +1,6 @@
 // Reading flags, for C.
 ghost use Rattle.std.specs.Prelude.{◌≡◌};
 ghost use Rattle.records_spec.specs.Answers.{tables_were, tables_left};
-ghost use Rattle.fields_spec.specs.Lending.{was};
 ghost use Rattle.records_spec.specs.Outcomes.{after};
 ghost use Rattle.records_spec.specs.declared.head.Kind.TheVariants.{SingleEpoch, MultiEpoch, SingleEpochOwned, MultiEpochOwned};
 ghost use Rattle.codec_spec.specs.Calls.{deserialized_as, deserialized};

@@ -1,6 +1,5 @@
 // Repairing old flag bytes, for C.
 ghost use Rattle.std.specs.Prelude.{◌≡◌};
-ghost use Rattle.fields_spec.specs.Lending.{was};
 ghost use Rattle.repair_spec.specs.Calls.{repaired_into, repair_was, repair_left};
 ghost use Rattle.records_spec.specs.Outcomes.{after};
 ghost use Rattle.capi_spec.specs.Told.{repair_answer, told_as};

@@ -1,7 +1,6 @@
 // Replacing flags in a table of totals that is a slice of structs, for C.
 ghost use Rattle.totals_index_spec.specs.Calls.{beside};
 ghost use Rattle.capi_spec.specs.Given.{flags_were_c};
-ghost use Rattle.fields_spec.specs.Lending.{was, left};
 ghost use Rattle.rows_spec.specs.Rows.{rows_were, rows_left};
 ghost use Rattle.capi_spec.specs.Calls.{SaysStructsC};
 

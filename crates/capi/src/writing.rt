@@ -1,6 +1,5 @@
 // Writing flags and their sizes, for C.
 ghost use Rattle.std.specs.Prelude.{◌≡◌};
-ghost use Rattle.fields_spec.specs.Lending.{was, left};
 ghost use Rattle.codec_spec.specs.Sizes.{approximate};
 ghost use Rattle.records_spec.specs.Outcomes.{after};
 ghost use Rattle.capi_spec.specs.Given.{is_true, changes_given, flags_were_c};

@@ -1,4 +1,6 @@
 // What C gives, as the calls take it. A byte that names no kind, removal or strategy is found before a call is made.
+#![tactic(auto)]
+
 ghost use Rattle.std.specs.Prelude.{◌≡◌, ◌&&◌};
 ghost use Rattle.capi_spec.specs.Given.{is_true, is_kind, is_kind_if, kind_found, head_given, changes_given};
 ghost use Rattle.capi_spec.specs.Given.{is_strategy, strategy_given, can_merge, can_replace, is_removal, removed_given};

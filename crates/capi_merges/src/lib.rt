@@ -1,4 +1,6 @@
 // The adding and the removing merge on what C gives, told as C gets it.
+#![tactic(auto)]
+
 mod adding;
 mod removing;
 

@@ -1,4 +1,6 @@
 // The split, the sum and the calls on a removal on what C gives, told as C gets it.
+#![tactic(auto)]
+
 ghost use Rattle.std.specs.Prelude.{◌≡◌};
 ghost use Rattle.capi_spec.specs.Given.{flags_were_c, holding_rows_c};
 ghost use Rattle.rows_spec.specs.Rows.{rows_were, rows_left};

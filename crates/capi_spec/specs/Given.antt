@@ -1,7 +1,6 @@
 -- What C gives, as the calls take it. A byte stands for each of a kind, a removal's kind, a strategy and a truth.
 -- Assumes nothing.
 use Rattle.std.specs.Prelude.{ℕ, Bool, true, false, cond, ◌&&◌, List, leb, ltb, eqb}
-use Rattle.fields_spec.specs.Lending.{Slice, was}
 use Rattle.records_spec.specs.Flags.{kind_of_byte, Held, holding}
 use Rattle.records_spec.specs.declared.head.Kind.{Kind}
 use Rattle.records_spec.specs.declared.head.Kind.TheVariants.{SingleEpoch}
@@ -54,8 +53,8 @@ abbrev pub holding_c : CHead → List ℕ → List ℕ → CHeld
 holding_c h es cs = record { head = h; epochs = es; counts = cs }
 
 -- as a head and two slices were when the call began
-abbrev pub flags_were_c : CHead → Slice ℕ → Slice ℕ → CHeld
-flags_were_c h es cs = holding_c h (was es) (was cs)
+abbrev pub flags_were_c : CHead → List ℕ → List ℕ → CHeld
+flags_were_c h es cs = holding_c h es cs
 
 -- whether their byte is that of a kind
 abbrev pub are_kind : CHeld → Bool

@@ -1,4 +1,6 @@
 // What the calls answer, as C gets it. In a refused answer everything but the number is 0.
+#![tactic(auto)]
+
 ghost use Rattle.std.specs.Prelude.{◌≡◌};
 ghost use Rattle.records_spec.specs.Refusals.{number};
 ghost use Rattle.records_spec.specs.Answers.{counted, present_in};

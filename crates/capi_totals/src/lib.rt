@@ -1,4 +1,6 @@
 // The change of totals in three slices on what C gives, told as C gets it.
+#![tactic(auto)]
+
 ghost use Rattle.std.specs.Prelude.{◌≡◌};
 ghost use Rattle.capi_spec.specs.Given.{flags_were_c};
 ghost use Rattle.rows_spec.specs.Rows.{rows_were, rows_left};

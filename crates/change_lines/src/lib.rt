@@ -1,6 +1,7 @@
 // The list of changes as lines of text.
+#![tactic(auto)]
+
 ghost use Rattle.std.specs.Prelude.{◌+◌, ◌≤◌, ◌≡◌, length};
-ghost use Rattle.fields_spec.specs.Lending.{was, left};
 ghost use Rattle.fields_spec.specs.Writing.{Put};
 ghost use Rattle.repair_spec.specs.Changes.{line};
 ghost use Rattle.change_lines_spec.specs.Text.{words, change_of};

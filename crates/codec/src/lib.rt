@@ -1,4 +1,6 @@
 // Flag bytes: reading, writing, and their sizes.
+#![tactic(auto)]
+
 mod reading;
 
 pub use codec_judging::{base_in, head_in, head_size, judge, judge_as};

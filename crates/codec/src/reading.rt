@@ -1,6 +1,5 @@
 // Reading flag bytes: the head, and the records by way of blocks.
 ghost use Rattle.std.specs.Prelude.{◌≡◌, true, false, List, ℕ};
-ghost use Rattle.fields_spec.specs.Lending.{was};
 ghost use Rattle.records_spec.specs.Flags.{multi, lending};
 ghost use Rattle.records_spec.specs.Answers.{shown, tables_were, tables_left};
 ghost use Rattle.records_spec.specs.Outcomes.{refused};

@@ -1,6 +1,5 @@
 // Reading records a block at a time: a block into tables of its own, and all blocks to judge them, which writes nothing else.
 ghost use Rattle.std.specs.Prelude.{◌≡◌, ◌≤◌, length, drop};
-ghost use Rattle.fields_spec.specs.Lending.{was, left};
 ghost use Rattle.codec_spec.specs.Reading.{parse};
 ghost use Rattle.codec_spec.specs.Inner.Blocks.{block_records, Blocked, scan_of};
 

@@ -1,6 +1,5 @@
 // The head of flags in their bytes: its size, base, owner and number of records.
 ghost use Rattle.std.specs.Prelude.{◌≡◌, ◌≤◌, length, take, drop, true};
-ghost use Rattle.fields_spec.specs.Lending.{was};
 ghost use Rattle.codec_spec.specs.Reading.{base_in, owner_in};
 ghost use Rattle.records_spec.specs.Flags.{agrees, id_of, head_for, owner_length};
 ghost use Rattle.codec_spec.specs.Bytes.{head_size, behind_kind, behind_owner};

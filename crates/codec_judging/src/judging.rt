@@ -1,6 +1,5 @@
 // Judging flag bytes, which writes nothing.
 ghost use Rattle.std.specs.Prelude.{◌≡◌, ◌≤◌, length, true, false};
-ghost use Rattle.fields_spec.specs.Lending.{was};
 ghost use Rattle.codec_spec.specs.Reading.{no_flags, refused_at, base_in, owner_in, read_as, read};
 ghost use Rattle.records_spec.specs.Flags.{multi, agrees, head_for};
 ghost use Rattle.codec_spec.specs.Bytes.{head_size};

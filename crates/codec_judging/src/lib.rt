@@ -1,4 +1,6 @@
 // Reading the records of flag bytes, and judging them without writing.
+#![tactic(auto)]
+
 mod block;
 mod filling;
 mod head;

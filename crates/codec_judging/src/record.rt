@@ -1,6 +1,5 @@
 // One record of flag bytes.
 ghost use Rattle.std.specs.Prelude.{◌≡◌, ◌≤◌, length, drop};
-ghost use Rattle.fields_spec.specs.Lending.{was};
 ghost use Rattle.codec_spec.specs.Reading.{next};
 ghost use Rattle.codec_spec.specs.Inner.Blocks.{got_of};
 

@@ -1,6 +1,5 @@
 // Reading records in two passes: all are judged, and then read once more into the lent tables.
 ghost use Rattle.std.specs.Prelude.{◌≡◌, ◌+◌, ◌≤◌, ◌<◌, length, drop};
-ghost use Rattle.fields_spec.specs.Lending.{was, left};
 ghost use Rattle.records_spec.specs.Inner.Tables.{Placed};
 ghost use Rattle.codec_spec.specs.Reading.{parse};
 ghost use Rattle.codec_spec.specs.Inner.Blocks.{block_records, Sound, filled, filled_from};

@@ -1,5 +1,7 @@
 // Flag bytes: what reading and writing answer and leave, and sizes.
 // No function: types, definitions, examples and laws, which the contracts of `codec` cite. See specs/ and proofs/.
+#![tactic(auto)]
+
 mod blocks;
 mod head;
 mod judging;

@@ -1,4 +1,6 @@
 // Writing flag bytes, and their sizes.
+#![tactic(auto)]
+
 mod sizes;
 mod writing;
 

@@ -1,6 +1,5 @@
 // The sizes of flag bytes.
 ghost use Rattle.std.specs.Prelude.{◌≡◌, ◌+◌, ◌*◌, ◌≤◌, leb, length};
-ghost use Rattle.fields_spec.specs.Lending.{was};
 ghost use Rattle.records_spec.specs.Flags.{owned, owner_if, owner_of, owner_length};
 ghost use Rattle.records_spec.specs.Answers.{counted, flags_were};
 ghost use Rattle.codec_spec.specs.Bytes.{owner_bytes, unowned_head, owned_head};

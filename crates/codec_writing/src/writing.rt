@@ -1,6 +1,5 @@
 // Writing flag bytes.
 ghost use Rattle.std.specs.Prelude.{◌≡◌, ◌+◌, ◌≤◌, length};
-ghost use Rattle.fields_spec.specs.Lending.{was, left};
 ghost use Rattle.fields_spec.specs.Writing.{Put};
 ghost use Rattle.records_spec.specs.Flags.{owner_of};
 ghost use Rattle.codec_spec.specs.Bytes.{owner_bytes, head_bytes, records_bytes, unowned_head};

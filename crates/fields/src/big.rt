@@ -1,6 +1,5 @@
 // Big-endian fields of two bytes.
 ghost use Rattle.std.specs.Prelude.{◌≡◌, ◌+◌, ◌≤◌, length, take, drop};
-ghost use Rattle.fields_spec.specs.Lending.{was, left};
 ghost use Rattle.fields_spec.specs.Big.{big, said};
 ghost use Rattle.fields_spec.specs.Writing.{Put};
 

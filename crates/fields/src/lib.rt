@@ -1,4 +1,6 @@
 // The fields of flag bytes: varints and big-endian numbers, read and written at a place of a lent slice.
+#![tactic(auto)]
+
 mod big;
 mod limits;
 mod varint;

@@ -1,6 +1,5 @@
 // Varints: minimal ones of counts up to 32 bits.
 ghost use Rattle.std.specs.Prelude.{◌≡◌, true, ◌&&◌, ◌+◌, ◌*◌, ◌≤◌, ◌<◌, ltb, length, take, drop};
-ghost use Rattle.fields_spec.specs.Lending.{was, left};
 ghost use Rattle.fields_spec.specs.Inner.Selects.{Selected};
 ghost use Rattle.fields_spec.specs.Varint.{varint, value, found};
 ghost use Rattle.fields_spec.specs.Inner.Varints.{Ending, is_whole, judged_at, read_at, Passed};

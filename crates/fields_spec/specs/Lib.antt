@@ -1,4 +1,3 @@
-pub mod Lending
 pub mod Big
 pub mod Varint
 pub mod Writing

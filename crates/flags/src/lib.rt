@@ -1,3 +1,5 @@
+#![tactic(auto)]
+
 ghost use Rattle.records_spec.specs.Answers.{placing};
 // Owners and the adding merge of flags.
 mod adding;

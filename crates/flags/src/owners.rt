@@ -1,6 +1,5 @@
 // The owner rule, for heads and for encodings.
 ghost use Rattle.std.specs.Prelude.{◌≡◌};
-ghost use Rattle.fields_spec.specs.Lending.{was};
 ghost use Rattle.records_spec.specs.Flags.{owner_of};
 ghost use Rattle.codec_spec.specs.Reading.{read};
 ghost use Rattle.flags_spec.specs.Owners.{disputed, choice, combined_owner, chosen_as, owner_read, unless_refused};

@@ -1,6 +1,5 @@
 // Numbers and bytes as digits.
 ghost use Rattle.std.specs.Prelude.{◌≡◌, ◌+◌, ◌≤◌, ◌<◌, length};
-ghost use Rattle.fields_spec.specs.Lending.{was, left};
 ghost use Rattle.fields_spec.specs.Writing.{Put};
 ghost use Rattle.listing_spec.specs.Inner.Sizes.{most_digits, Sized};
 ghost use Rattle.listing_spec.specs.Text.{decimal, hex_digit, hex};

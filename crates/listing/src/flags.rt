@@ -1,6 +1,5 @@
 // The text of flags, and of what a call answered.
 ghost use Rattle.std.specs.Prelude.{◌≡◌, ◌≤◌, length};
-ghost use Rattle.fields_spec.specs.Lending.{was, left};
 ghost use Rattle.fields_spec.specs.Writing.{Put};
 ghost use Rattle.records_spec.specs.Outcomes.{refused};
 ghost use Rattle.listing_spec.specs.Inner.Heads.{head_text, outcome_text, Listable};

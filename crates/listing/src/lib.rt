@@ -1,10 +1,11 @@
 // Flags as lines of text.
+#![tactic(auto)]
+
 mod digits;
 mod flags;
 mod lines;
 
 ghost use Rattle.std.specs.Prelude.{◌≡◌, ◌≤◌, length};
-ghost use Rattle.fields_spec.specs.Lending.{was, left};
 ghost use Rattle.records_spec.specs.Answers.{writing, counted};
 ghost use Rattle.records_spec.specs.Outcomes.{after};
 ghost use Rattle.listing_spec.specs.Listed.{listed, most_listed, record_places};

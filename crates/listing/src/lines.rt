@@ -1,7 +1,6 @@
 // The lines of the text.
 ghost use Rattle.std.specs.Prelude.{◌≡◌, ◌++◌, ◌+◌, ◌*◌, ◌≤◌, length};
 ghost use Rattle.records_spec.specs.Answers.{records_were};
-ghost use Rattle.fields_spec.specs.Lending.{was, left};
 ghost use Rattle.fields_spec.specs.Writing.{Put};
 ghost use Rattle.records_spec.specs.Tables.{records_of, ◌⦂◌};
 ghost use Rattle.records_spec.specs.Flags.{owner_of};

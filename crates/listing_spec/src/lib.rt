@@ -1,5 +1,6 @@
 // Flags as lines of text.
 // No function: types, definitions, examples and laws, which the contracts of `listing` cite. See specs/ and proofs/.
+#![tactic(auto)]
 
 // The most bytes that are listed: `most_listed`, by the proof of `listing::list`.
 pub const MOST_LISTED: usize = 7203;

@@ -1,7 +1,8 @@
 // Repairs the old flag bytes on standard input: canonical bytes to standard output, the list of changes to standard error.
+#![tactic(auto)]
+
 ghost use Rattle.std.specs.Prelude.{◌≤◌, ◌≡◌, length, take};
 ghost use Rattle.io.specs.Counts.{IsPrefixLen};
-ghost use Rattle.fields_spec.specs.Lending.{left};
 ghost use Rattle.records_spec.specs.Refusals.{number};
 ghost use Rattle.listing_spec.specs.Text.{word_line};
 ghost use Rattle.records_spec.specs.Outcomes.{refused};

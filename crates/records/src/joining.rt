@@ -1,7 +1,6 @@
 // What a union is joined from: the next of two records, found without a branch, and runs of records.
 ghost use Rattle.std.specs.Prelude.{◌≡◌, true, ◌+◌, ◌≤◌, ◌<◌, length, drop};
 ghost use Rattle.records_spec.specs.Answers.{records_were};
-ghost use Rattle.fields_spec.specs.Lending.{was, left};
 ghost use Rattle.fields_spec.specs.Inner.Selects.{Selected};
 ghost use Rattle.records_spec.specs.Tables.{records_of, rising};
 ghost use Rattle.records_spec.specs.Inner.Tables.{Placed};

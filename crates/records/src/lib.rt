@@ -1,4 +1,6 @@
 // Flags by value: the head, refusals and answers, and the two lent tables that hold records.
+#![tactic(auto)]
+
 mod answer;
 mod head;
 mod joining;

@@ -1,7 +1,6 @@
 // The two tables of records: place i of the one holds an epoch, place i of the other its count.
 ghost use Rattle.std.specs.Prelude.{◌≡◌, true, ◌+◌, ◌≤◌, ◌<◌, length, take, drop};
 ghost use Rattle.records_spec.specs.Answers.{flags_were, records_were};
-ghost use Rattle.fields_spec.specs.Lending.{was, left};
 ghost use Rattle.records_spec.specs.Tables.{records_of, ascending, rising, place_of, union, without, over};
 ghost use Rattle.records_spec.specs.Inner.Tables.{Table, Placed};
 ghost use Rattle.records_spec.specs.Inner.Unions.{InBoth, Stepped, spot_of};

@@ -2,7 +2,6 @@
 -- Assumes nothing.
 use Rattle.std.specs.Prelude.{ℕ, Bool, true, false, ◌&&◌, List, leb, length}
 use Rattle.std.proofs.Math.Option.{Option, none, some}
-use Rattle.fields_spec.specs.Lending.{Slice, was, left}
 use Rattle.records_spec.specs.Refusals.{number}
 use Rattle.records_spec.specs.Outcomes.{Answer, ok, refused, ◌>>=◌, After, after, leaving, placed}
 use Rattle.records_spec.specs.Tables.{At, records_of, epochs_of, counts_of, over}
@@ -81,17 +80,17 @@ writing xs out = leaving out (placed_bytes xs out)
 -- ---- as contracts name them
 
 -- flags that a call is given: a head beside two slices
-abbrev pub flags_were : Head → Slice ℕ → Slice ℕ → Held
-flags_were h es cs = holding h (was es) (was cs)
+abbrev pub flags_were : Head → List ℕ → List ℕ → Held
+flags_were h es cs = holding h es cs
 
 -- the records that two slices held
-abbrev pub records_were : Slice ℕ → Slice ℕ → List At
-records_were es cs = records_of (was es) (was cs)
+abbrev pub records_were : List ℕ → List ℕ → List At
+records_were es cs = records_of es cs
 
 -- two lent tables as they came
-abbrev pub tables_were : Slice ℕ → Slice ℕ → Lent
-tables_were es cs = lending (was es) (was cs)
+abbrev pub tables_were : List ℕ → List ℕ → Lent
+tables_were es cs = lending es cs
 
 -- and as they are left
-abbrev pub tables_left : Slice ℕ → Slice ℕ → Lent
-tables_left es cs = lending (left es) (left cs)
+abbrev pub tables_left : List ℕ → List ℕ → Lent
+tables_left es cs = lending es cs

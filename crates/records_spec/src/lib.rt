@@ -1,5 +1,7 @@
 // Flags: heads, refusals, answers, and the two tables that hold records.
 // No function: types, definitions, examples and laws, which the contracts of `records` cite. See specs/ and proofs/.
+#![tactic(auto)]
+
 mod answer;
 mod head;
 mod refusal;

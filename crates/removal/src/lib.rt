@@ -1,4 +1,6 @@
 // The removal layer: the removing merge of flags, and with it what the crates below have for callers (rows, sums and splitting).
+#![tactic(auto)]
+
 mod remaining;
 mod removing;
 mod sections;

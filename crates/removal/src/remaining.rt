@@ -1,6 +1,5 @@
 // Putting what remains of a union after the sections into the lent tables, where they have room.
 ghost use Rattle.std.specs.Prelude.{◌≡◌, ◌≤◌, length};
-ghost use Rattle.fields_spec.specs.Lending.{was, left};
 ghost use Rattle.records_spec.specs.Tables.{records_of, union};
 ghost use Rattle.records_spec.specs.Inner.Tables.{Table, Placed};
 ghost use Rattle.records_spec.specs.Flags.{flags, owner_if};

@@ -1,4 +1,6 @@
 // Repair of flag bytes from before the canonical rule.
+#![tactic(auto)]
+
 mod marking;
 mod repairing;
 

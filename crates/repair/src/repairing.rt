@@ -1,6 +1,5 @@
 // Repairing old flag bytes: reading them as a map would, writing canonical ones, and listing each change.
 ghost use Rattle.std.specs.Prelude.{◌≡◌, true, false, List, [], ℕ, ◌≤◌, ◌<◌, length};
-ghost use Rattle.fields_spec.specs.Lending.{was, left};
 ghost use Rattle.records_spec.specs.Flags.{multi};
 ghost use Rattle.codec_spec.specs.Bytes.{head_size};
 ghost use Rattle.records_spec.specs.Outcomes.{ok, after};

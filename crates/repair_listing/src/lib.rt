@@ -1,4 +1,6 @@
 // The list of what a repair changes.
+#![tactic(auto)]
+
 mod change;
 mod listing;
 

@@ -1,7 +1,6 @@
 // The list of changes. Lines that have no room are counted and not written, so that one pass tells how many there are and another
 // writes them.
 ghost use Rattle.std.specs.Prelude.{◌≡◌, cond, not, [], ◌∷◌, ◌+◌, ◌≤◌, ◌<◌, ltb, eqb, length, set};
-ghost use Rattle.fields_spec.specs.Lending.{was, left};
 ghost use Rattle.repair_spec.specs.Changes.{change_number, line, line_if, kept_lines, record_lines, dropped};
 ghost use Rattle.repair_spec.specs.Repairing.{lines_of};
 ghost use Rattle.repair_spec.specs.Inner.Steps.{old_of, higher, lines_from, Listed, Settled};

@@ -1,4 +1,6 @@
 // Reading old records, whose varints may be longer than minimal.
+#![tactic(auto)]
+
 mod old;
 mod padded;
 

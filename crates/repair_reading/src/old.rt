@@ -1,6 +1,5 @@
 // One record of old flag bytes.
 ghost use Rattle.std.specs.Prelude.{◌≡◌, ◌+◌, ◌≤◌, length, take, drop};
-ghost use Rattle.fields_spec.specs.Lending.{was};
 ghost use Rattle.fields_spec.specs.Big.{said};
 ghost use Rattle.fields_spec.specs.Varint.{found, notCanonical};
 ghost use Rattle.repair_spec.specs.Olds.{old_at};

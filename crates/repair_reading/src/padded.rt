@@ -1,6 +1,5 @@
 // Varints that are longer than minimal, or say more than 32 bits hold.
 ghost use Rattle.std.specs.Prelude.{◌≡◌, suc, ◌+◌, ◌-◌, ◌≤◌, ◌<◌, length, take, drop};
-ghost use Rattle.fields_spec.specs.Lending.{was};
 ghost use Rattle.fields_spec.specs.Varint.{high, value};
 ghost use Rattle.repair_spec.specs.Inner.Steps.{count_capped};
 

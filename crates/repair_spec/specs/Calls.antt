@@ -1,6 +1,5 @@
 -- What the call of this crate answers and leaves. Assumes nothing.
 use Rattle.std.specs.Prelude.{ℕ, ◌&&◌, List, [], ◌∷◌, leb, length}
-use Rattle.fields_spec.specs.Lending.{Slice, was, left}
 use Rattle.records_spec.specs.Refusals.{number}
 use Rattle.records_spec.specs.Tables.{over}
 use Rattle.records_spec.specs.Outcomes.{Answer, ok, refused, ◌>>=◌, After, leaving, placed}
@@ -31,12 +30,12 @@ abbrev pub repair_lent : List ℕ → List ℕ → List ℕ → RepairLent
 repair_lent out os cs = record { out = out; offsets = os; changes = cs }
 
 -- as three slices were when the call began
-abbrev pub repair_was : Slice ℕ → Slice ℕ → Slice ℕ → RepairLent
-repair_was out os cs = repair_lent (was out) (was os) (was cs)
+abbrev pub repair_was : List ℕ → List ℕ → List ℕ → RepairLent
+repair_was out os cs = repair_lent out os cs
 
 -- and as the call leaves them
-abbrev pub repair_left : Slice ℕ → Slice ℕ → Slice ℕ → RepairLent
-repair_left out os cs = repair_lent (left out) (left os) (left cs)
+abbrev pub repair_left : List ℕ → List ℕ → List ℕ → RepairLent
+repair_left out os cs = repair_lent out os cs
 
 -- all that repairing leaves: the sizes or a refusal, and the lent output and list
 abbrev pub RepairAfter : Type 0

@@ -1,5 +1,7 @@
 // Repair of flag bytes from before the canonical rule.
 // No function: types, definitions, examples and laws, which the contracts of `repair` cite. See specs/ and proofs/.
+#![tactic(auto)]
+
 mod change;
 mod limits;
 mod listing;

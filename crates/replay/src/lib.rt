@@ -1,4 +1,6 @@
 // Replaying stored answers: makes the call that a question asks for, and holds what it answers against the stored reply.
+#![tactic(auto)]
+
 mod heads;
 mod owners;
 mod reads;

@@ -1,4 +1,6 @@
 // Replaying the merges: 10 to 13.
+#![tactic(auto)]
+
 use flags_spec::MergingOwnersStrategy;
 use records_spec::{Answered, Head, OWNER_LENGTH};
 use rows_spec::StorageRemovedBytes;

@@ -1,4 +1,6 @@
 // Replaying the calls on removals: the splits and the sums.
+#![tactic(auto)]
+
 mod removals;
 mod splits;
 

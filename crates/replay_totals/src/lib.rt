@@ -1,4 +1,6 @@
 // Replaying the change of a table of totals: 24.
+#![tactic(auto)]
+
 use records_spec::{Counted, OWNER_LENGTH};
 use wire::{
     TABLE_PLACES, byte_of, take_bool, take_counts, take_epochs, take_head, take_ids, take_totals,

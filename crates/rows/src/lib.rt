@@ -1,4 +1,6 @@
 // Rows of a sectioned removal in three lent tables, their order, and the removal state.
+#![tactic(auto)]
+
 mod order;
 mod removed;
 mod row;

@@ -1,6 +1,5 @@
 // The order of rows: by identifier, byte by byte, then by epoch.
 ghost use Rattle.std.specs.Prelude.{◌≡◌, ◌<◌, [], length, get_or};
-ghost use Rattle.fields_spec.specs.Lending.{was};
 ghost use Rattle.rows_spec.specs.Order.{by, order};
 ghost use Rattle.rows_spec.specs.Rows.{row, compared};
 

@@ -1,7 +1,6 @@
 -- Rows of a sectioned removal, and the three lent tables that hold them: document 01, "Removal sums".
 -- Assumes nothing.
 use Rattle.std.specs.Prelude.{ℕ, ◌≤◌, Bool, true, ◌&&◌, List, [], ◌∷◌, ◌++◌, leb, length, take, get_or, set}
-use Rattle.fields_spec.specs.Lending.{Slice, was, left}
 use Rattle.records_spec.specs.Tables.{At, ◌⦂◌, records_of, epochs_of, counts_of, over}
 use Rattle.rows_spec.specs.Order.{order, is_less}
 use Rattle.rows_spec.specs.declared.order.Order.{Order}
@@ -61,12 +60,12 @@ abbrev pub tables : List (List ℕ) → List ℕ → List ℕ → Tables
 tables is es bs = record { ids = is; epochs = es; bytes = bs }
 
 -- the tables that three lent slices were as the call began
-abbrev pub rows_were : Slice (List ℕ) → Slice ℕ → Slice ℕ → Tables
-rows_were is es bs = tables (was is) (was es) (was bs)
+abbrev pub rows_were : List (List ℕ) → List ℕ → List ℕ → Tables
+rows_were is es bs = tables is es bs
 
 -- and as the call leaves them
-abbrev pub rows_left : Slice (List ℕ) → Slice ℕ → Slice ℕ → Tables
-rows_left is es bs = tables (left is) (left es) (left bs)
+abbrev pub rows_left : List (List ℕ) → List ℕ → List ℕ → Tables
+rows_left is es bs = tables is es bs
 
 -- identifiers and sections, place by place
 unfoldable pub rows_of : List (List ℕ) → List At → List Row

@@ -1,6 +1,7 @@
 // Prints what the flag bytes on standard input say.
+#![tactic(auto)]
+
 ghost use Rattle.std.specs.Prelude.{◌≤◌, ◌≡◌, length, take};
-ghost use Rattle.fields_spec.specs.Lending.{was, left};
 ghost use Rattle.io.specs.Counts.{IsPrefixLen};
 ghost use Rattle.listing_spec.specs.Listed.{listed, longest_text};
 

@@ -1,4 +1,6 @@
 // Splitting a removal: which epochs give how many of its bytes.
+#![tactic(auto)]
+
 mod giving;
 mod key;
 mod value;

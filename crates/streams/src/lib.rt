@@ -1,6 +1,7 @@
 // Standard input read to its end, and what the programs say where a stream fails.
+#![tactic(auto)]
+
 ghost use Rattle.std.specs.Prelude.{◌≡◌};
-ghost use Rattle.fields_spec.specs.Lending.{left};
 ghost use Rattle.streams.specs.Reading.{meaning, Within};
 
 use libc::{STDERR_FILENO, STDIN_FILENO, STDOUT_FILENO};

@@ -1,4 +1,6 @@
 // The sum of two removals, in place.
+#![tactic(auto)]
+
 mod sum;
 
 pub use sum::add_assign;

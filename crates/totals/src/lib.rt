@@ -1,4 +1,6 @@
 // Totals per owner and epoch: a lent table of rows, and what replacing one element's flags does to it.
+#![tactic(auto)]
+
 mod judging;
 mod replacing;
 

@@ -1,6 +1,5 @@
 // Replacing one element's flags in a table of structs: judged first, then taken apart, changed and put together.
 ghost use Rattle.std.specs.Prelude.{◌≡◌, ◌&&◌};
-ghost use Rattle.fields_spec.specs.Lending.{was, left};
 ghost use Rattle.rows_spec.specs.Rows.{rows_were, rows_left};
 ghost use Rattle.totals_spec.specs.Calls.{given, proper_given};
 ghost use Rattle.totals_spec.specs.Inner.Steps.{counted_rows};

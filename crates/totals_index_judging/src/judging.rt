@@ -1,7 +1,6 @@
 // Judging a change over the table as it stands, row by row, before anything is written.
 ghost use Rattle.std.specs.Prelude.{◌≡◌, true, cond, ◌-◌, ◌≤◌, length};
 ghost use Rattle.records_spec.specs.Answers.{flags_were};
-ghost use Rattle.fields_spec.specs.Lending.{was};
 ghost use Rattle.rows_spec.specs.Order.{is_less};
 ghost use Rattle.rows_spec.specs.Rows.{row, rows_in, compared};
 ghost use Rattle.totals_spec.specs.Table.{total_at};

@@ -1,4 +1,6 @@
 // What is done in the work area: rows taken apart into it, changed there, and put together again.
+#![tactic(auto)]
+
 mod structs;
 mod work;
 

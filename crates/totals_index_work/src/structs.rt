@@ -1,6 +1,5 @@
 // A table of structs, taken apart into three columns and put together from them.
 ghost use Rattle.std.specs.Prelude.{◌≡◌, ◌≤◌, length};
-ghost use Rattle.fields_spec.specs.Lending.{was, left};
 ghost use Rattle.records_spec.specs.Tables.{over};
 ghost use Rattle.rows_spec.specs.Rows.{tables, rows_in, over_rows, Room, rows_were, rows_left};
 ghost use Rattle.totals_index_spec.specs.Structs.{columns, structs};

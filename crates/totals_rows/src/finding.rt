@@ -1,6 +1,5 @@
 // Finding a row by halves.
 ghost use Rattle.std.specs.Prelude.{◌≡◌, [], ◌+◌, ◌<◌, length, get_or};
-ghost use Rattle.fields_spec.specs.Lending.{was};
 ghost use Rattle.rows_spec.specs.Order.{is_less};
 ghost use Rattle.rows_spec.specs.Rows.{row, compared, tables, rows_were};
 ghost use Rattle.totals_spec.specs.Inner.Steps.{place_in, rows_between, spot_in, Standing};

@@ -1,4 +1,6 @@
 // Rows of totals in three lent slices: their order, finding, moving, and the rows of one owner taken and added.
+#![tactic(auto)]
+
 mod finding;
 mod moving;
 mod table;

@@ -1,7 +1,6 @@
 // Writing a change that was judged: the old counts are taken from the front, then the new ones added from the back, so that no row is
 // moved twice by either.
 ghost use Rattle.std.specs.Prelude.{◌≡◌, true, cond, ◌+◌, ◌<◌, ltb, [], length};
-ghost use Rattle.fields_spec.specs.Lending.{was};
 ghost use Rattle.records_spec.specs.Inner.Tables.{Table};
 ghost use Rattle.rows_spec.specs.Rows.{tables, rows_in, over_rows, Room, rows_were, rows_left};
 ghost use Rattle.totals_spec.specs.Table.{add_counts, take_counts};

@@ -1,4 +1,6 @@
 // Replays the list of stored answers on standard input, and says how many agree.
+#![tactic(auto)]
+
 use libc::STDIN_FILENO;
 use vectors_list::{PLACES, TextLine, differs, note};
 

@@ -1,4 +1,6 @@
 // The list of stored answers: its lines, read byte by byte, and the tally of what came of them.
+#![tactic(auto)]
+
 mod line;
 mod names;
 mod tally;

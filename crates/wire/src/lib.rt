@@ -1,4 +1,6 @@
 // The fields of stored questions and replies: reading a question, and holding an answer against a reply.
+#![tactic(auto)]
+
 mod question;
 mod reply;
 
