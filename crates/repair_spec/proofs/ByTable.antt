@@ -103,7 +103,7 @@ Highest before h = (e : ℕ) → some_above e before ≡ ltb e h
 highest_kept : (x : Option Change) (o : Old) (before : List ℕ) (h : ℕ) → Highest before h → Highest (keeping x o before) (higher x o h)
 unfolding some_above
 highest_kept (some c) o before h s e = s e
-highest_kept none o before h s e = rw s (by (dec_lt e o.epoch) (dec_lt o.epoch h))
+highest_kept none o before h s e = rw (s e) (by (dec_lt e o.epoch) (dec_lt o.epoch h))
   where
     by : Dec (e < o.epoch) → Dec (o.epoch < h) → cond (ltb e o.epoch) true (ltb e h) ≡ ltb e (cond (ltb o.epoch h) h o.epoch)
     by (yes p) (yes q) = rw (lt-ltb e o.epoch p, lt-ltb o.epoch h q, lt-ltb e h (omega arith))

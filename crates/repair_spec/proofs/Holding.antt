@@ -130,7 +130,7 @@ onto_canonical : (base : ℕ) (m : List At) (os : List Old) → Short os → Can
 onto_canonical base m [] s p = rw (map_none base m) p
 onto_canonical base m (o ∷ os) s p =
     fits_cases base o
-    (λ f. rw (map_fits base m o os f) (onto_canonical base _ os s.1 (put_canonical base (o.epoch ⦂ o.count) m f.above s.0 f.small p)))
+    (λ f. rw (map_fits base m o os f) (onto_canonical base (put (o.epoch ⦂ o.count) m) os s.1 (put_canonical base (o.epoch ⦂ o.count) m f.above s.0 f.small p)))
     (λ n. rw (map_not base m o os n) (onto_canonical base m os s.1 p))
 
 -- WHAT IS LEFT IS CANONICAL

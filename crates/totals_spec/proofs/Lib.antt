@@ -2,7 +2,7 @@
 pub mod ByWords
 pub mod Totals
 pub mod Counts
-pub mod Named
+pub mod NamedTotals
 pub mod Accepted
 pub mod Fitting
 pub mod Recounted

@@ -13,7 +13,7 @@ use Rattle.totals_spec.specs.Recount.{named}
 use Rattle.totals_spec.specs.Replacing.{replaced_rows, replaced}
 use Rattle.totals_spec.specs.Theorems.{names, not_named}
 use Rattle.totals_spec.proofs.Totals.{same_totals}
-use Rattle.totals_spec.proofs.Named.{names_append, not_counted, not_ascends, not_above, not_total}
+use Rattle.totals_spec.proofs.NamedTotals.{names_append, not_counted, not_ascends, not_above, not_total}
 use Rattle.totals_spec.proofs.Accepted.{accepted, IsProper, is_proper, replaced_proper, replaced_total}
 
 module _ (os ns t : List Row) where

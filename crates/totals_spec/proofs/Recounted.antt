@@ -21,7 +21,7 @@ use Rattle.totals_spec.specs.Theorems.{names}
 use Rattle.totals_spec.proofs.Totals.{total_none, above_none, same_totals}
 use Rattle.totals_spec.proofs.Counts.{add_ascends, add_above, total_added, covers}
 use Rattle.totals_spec.proofs.Accepted.{accepted, is_proper, proper_is, replaced_proper, replaced_total}
-use Rattle.totals_spec.proofs.Named.{names_total}
+use Rattle.totals_spec.proofs.NamedTotals.{names_total}
 
 -- ---- a proper table
 
