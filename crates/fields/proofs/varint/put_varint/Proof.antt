@@ -52,45 +52,41 @@ module _ (s : tie.Start) where
   put_four h = putting_more (put_three (omega arith)) (at + 4) (count / 268435456) (omega arith) (omega arith) (omega arith)
 
   first-in : at < length out
-  first-in = parts_inside put_none (length_pos count) s.pre
+  first-in = parts_inside put_none (length_pos count) s.requires
 
   second-in : 128 ≤ count → at + 1 < length one
-  second-in h = parts_inside (put_one h) (length_pos (count / 128)) s.pre
+  second-in h = parts_inside (put_one h) (length_pos (count / 128)) s.requires
 
   third-in : 16384 ≤ count → at + 2 < length two
-  third-in h = parts_inside (put_two h) (length_pos (count / 16384)) s.pre
+  third-in h = parts_inside (put_two h) (length_pos (count / 16384)) s.requires
 
   fourth-in : 2097152 ≤ count → at + 3 < length three
-  fourth-in h = parts_inside (put_three h) (length_pos (count / 2097152)) s.pre
+  fourth-in h = parts_inside (put_three h) (length_pos (count / 2097152)) s.requires
 
   fifth-in : 268435456 ≤ count → at + 4 < length four
-  fifth-in h = parts_inside (put_four h) (length_pos (count / 268435456)) s.pre
+  fifth-in h = parts_inside (put_four h) (length_pos (count / 268435456)) s.requires
 
-returns : tie.Need-returns
-returns c = let s = c.before in putting_last (put_none s) (at s + 1) c.if1.true refl
+returns : tie.Need-returns-then-count-lt128
+returns c = putting_last (put_none c.before) (at c.before + 1) c.if-count-lt128.true refl
 
-returns-2 : tie.Need-returns-2
+returns-2 : tie.Need-returns-then-count-lt16384
 returns-2 c =
-    let s = c.before.before in
-    putting_last (put_one s (omega arith)) (at s + 2) (omega (arith, s.ranges.count.fits)) (omega arith)
+    putting_last (put_one c.before.before (omega arith)) (at c.before.before + 2) (omega (arith, c.ranges.count.fits)) (omega arith)
 
-returns-3 : tie.Need-returns-3
+returns-3 : tie.Need-returns-then-count-lt2097152
 returns-3 c =
-    let s = c.before.before.before in
-    putting_last (put_two s (omega arith)) (at s + 3) (omega (arith, s.ranges.count.fits)) (omega arith)
+    putting_last (put_two c.before.before.before (omega arith)) (at c.before.before.before + 3) (omega (arith, c.ranges.count.fits)) (omega arith)
 
-returns-4 : tie.Need-returns-4
+returns-4 : tie.Need-returns-then-count-lt268435456
 returns-4 c =
-    let s = c.before.before.before.before in
-    putting_last (put_three s (omega arith)) (at s + 4) (omega (arith, s.ranges.count.fits)) (omega arith)
+    putting_last (put_three c.before.before.before.before (omega arith)) (at c.before.before.before.before + 4) (omega (arith, c.ranges.count.fits)) (omega arith)
 
-returns-5 : tie.Need-returns-5
+returns-5 : tie.Need-returns
 returns-5 c =
-    let s = c.before.before.before.before in
-    putting_last (put_four s (omega arith)) (at s + 5) (omega (arith, s.ranges.count.fits)) (omega arith)
+    putting_last (put_four c.before.before.before.before (omega arith)) (at c.before.before.before.before + 5) (omega (arith, c.ranges.count.fits)) (omega arith)
 
-pub put-varint-spec : {M : Type 1} → statement M
-put-varint-spec =
+pub put_varint_spec : {M : Type 1} → statement M
+put_varint_spec =
     tie.close
     (tie.spec
     (λ c. search rules)
@@ -103,37 +99,37 @@ put-varint-spec =
     (λ c. first-in c.before)
     (λ c. search rules)
     (λ c. search rules)
-    (λ c. let s = c.before.before in second-in s (omega arith))
+    (λ c. second-in c.before.before (omega arith))
     (λ c. search rules)
     (λ c. search rules)
     returns-2
     (λ c. search rules)
     (λ c. search rules)
     (λ c. search rules)
-    (λ c. let s = c.before.before in second-in s (omega arith))
+    (λ c. second-in c.before.before (omega arith))
     (λ c. search rules)
     (λ c. search rules)
-    (λ c. let s = c.before.before.before in third-in s (omega arith))
+    (λ c. third-in c.before.before.before (omega arith))
     (λ c. search rules)
     (λ c. search rules)
     returns-3
     (λ c. search rules)
     (λ c. search rules)
     (λ c. search rules)
-    (λ c. let s = c.before.before.before in third-in s (omega arith))
+    (λ c. third-in c.before.before.before (omega arith))
     (λ c. search rules)
     (λ c. search rules)
-    (λ c. let s = c.before.before.before.before in fourth-in s (omega arith))
+    (λ c. fourth-in c.before.before.before.before (omega arith))
     (λ c. search rules)
     (λ c. search rules)
     returns-4
     (λ c. search rules)
     (λ c. search rules)
     (λ c. search rules)
-    (λ c. let s = c.before.before.before.before in fourth-in s (omega arith))
+    (λ c. fourth-in c.before.before.before.before (omega arith))
     (λ c. search rules)
     (λ c. search rules)
-    (λ c. let s = c.before.before.before.before in fifth-in s (omega arith))
+    (λ c. fifth-in c.before.before.before.before (omega arith))
     (λ c. search rules)
     (λ c. search rules)
     returns-5)

@@ -12,7 +12,7 @@ use Rattle.fields.proofs.varint.read_third.Statement.{statement}
 use Rattle.fields.proofs.varint.read_third.Tie as tie
 
 -- five bytes are there
-module _ (c : tie.Else1) where
+module _ (c : tie.Else-src-at-lt5) where
   abbrev start : tie.Start
   start = c.before.before
 
@@ -29,56 +29,53 @@ module _ (c : tie.Else1) where
   long = omega arith
 
   small : two < 16384
-  small = omega (arith, start.pre.1.1, groups_below d at 2)
+  small = omega (arith, start.requires.1.1, groups_below d at 2)
 
 -- the third is known, after the test for five
-abbrev there : tie.After-wide → tie.Else1
+abbrev there : tie.After-wide → tie.Else-src-at-lt5
 there c = c.before.before.before
 
-read-fifth-requires : tie.Need-read-fifth-requires
+read-fifth-requires : tie.Need-read_fifth-requires
 read-fifth-requires c κs =
-    let third = c.before.before.before in
-    let f = there third in
-    let p = (start f).pre.1 in
+    let f = there c.before.before.before in
+    let p = (start f).requires.1 in
     let h : (127 < get_or (d f) (at f + 2) 0) × (127 < get_or (d f) (at f + 3) 0) = both_true _ _
-    (sym c.before.before.both_high.ensures ∙ c.before.if2.true) in (
+    (sym c.both_high.ensures ∙ c.if-both_high.true) in (
       omega arith,
       (
         fourth_passed (d f) (at f) (two f) p.0 p.1 (long f) h.0 h.1,
-        ap₂ (λ (x y : ℕ). two f + x * 16384 + y * 2097152) third.wide.ensures c.wide2.ensures
+        ap₂ (λ (x y : ℕ). two f + x * 16384 + y * 2097152) c.wide.ensures c.wide-then-both_high.ensures
             ∙ four_say (d f) (at f) (two f) p.0 p.1 (long f),
       ),
     )
 
 -- the varint ends with the third or the fourth byte
-module _ (c : tie.Else2) where
+module _ (c : tie.Else-both_high) where
   abbrev third : tie.After-wide
   third = c.before.before
 
-  abbrev five : tie.Else1
+  abbrev five : tie.Else-src-at-lt5
   five = there third
 
-returns-3 : tie.Need-returns-3
+returns-3 : tie.Need-returns-then-last_of-eq0
 returns-3 c =
-    let e = c.before.before in
-    let f = five e in
-    let p = (start f).pre.1 in
-    chosen_zero (d f) (at f) (two f) p.0 p.1 (long f) (sym e.before.both_high.ensures ∙ e.if2.false) _ c.before.last_of.ensures
-    c.if3.true
+    let f = five c.before.before in
+    let p = (start f).requires.1 in
+    chosen_zero (d f) (at f) (two f) p.0 p.1 (long f) (sym c.both_high.ensures ∙ c.if-both_high.false) _ c.last_of.ensures
+    c.if-last_of-eq0.true
 
-returns-4 : tie.Need-returns-4
+returns-4 : tie.Need-returns
 returns-4 c =
-    let e = c.before.before.before.before in
-    let f = five e in
-    let p = (start f).pre.1 in
-    let part = c.before.fourth-part in
-    ap (λ (x : ℕ). Whole (record { count = two f + x * 16384 + part.result; next = c.behind-third.result })) (third e).wide.ensures
-    ∙ chosen_read (d f) (at f) (two f) p.0 p.1 (long f) (sym e.before.both_high.ensures ∙ e.if2.false) _
-    c.before.before.before.last_of.ensures part.result c.behind-third.result part.ensures.0 c.behind-third.ensures
-    c.before.before.if3.false
+    let f = five c.before.before.before.before in
+    let p = (start f).requires.1 in
+    let part = c.fourth_part in
+    ap (λ (x : ℕ). Whole (record { count = two f + x * 16384 + part.result; next = c.behind_third.result })) (third c.before.before.before.before).wide.ensures
+    ∙ chosen_read (d f) (at f) (two f) p.0 p.1 (long f) (sym c.both_high.ensures ∙ c.if-both_high.false) _
+    c.last_of.ensures part.result c.behind_third.result part.ensures.0 c.behind_third.ensures
+    c.if-last_of-eq0.false
 
-pub read-third-spec : {M : Type 1} → statement M
-read-third-spec =
+pub read_third_spec : {M : Type 1} → statement M
+read_third_spec =
     tie.close
     (tie.spec
     (λ c. search rules)
@@ -94,13 +91,13 @@ read-third-spec =
     (λ c κs. search rules)
     (λ c κs. search rules)
     (λ c. search rules)
-    (λ c. let third = c.before.before.before in omega (arith, c.wide2.ensures, third.wide.ensures, small (there third)))
+    (λ c. omega (arith, c.wide-then-both_high.ensures, c.wide.ensures, small (there c.before.before.before)))
     read-fifth-requires
     (λ c. search rules)
     (λ c κs. search rules)
     returns-3
     (λ c κs. search rules)
-    (λ c. let e = c.before.before.before in omega (arith, (third e).wide.ensures, c.fourth-part.ensures.1, small (five e)))
+    (λ c. omega (arith, (third c.before.before.before).wide.ensures, c.fourth_part.ensures.1, small (five c.before.before.before)))
     (λ c. search rules)
     (λ c κs. search rules)
     returns-4)

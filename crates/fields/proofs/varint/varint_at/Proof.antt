@@ -21,57 +21,54 @@ module _ (s : tie.Start) where
   at = s.args.at
 
   first-in : at < length d
-  first-in = first_inside d at s.pre
+  first-in = first_inside d at s.requires
 
 -- the first byte has the top bit set, so a second is there
-module _ (c : tie.Else1) where
+module _ (c : tie.Else-first-lt128) where
   abbrev start : tie.Start
   start = c.before.before.before
 
   first-passed : Passed (d start) (at start) 1
-  first-passed = first_more (d start) (at start) (first-in start) c.if1.false
+  first-passed = first_more (d start) (at start) (first-in start) c.if-first-lt128.false
 
   second-inside : at start + 1 < length (d start)
-  second-inside = whole_inside (d start) (at start) 1 first-passed start.pre
+  second-inside = whole_inside (d start) (at start) 1 first-passed start.requires
 
 -- what two bytes say
-module _ (c : tie.After-wide3) where
-  abbrev more : tie.Else1
+module _ (c : tie.After-wide-3) where
+  abbrev more : tie.Else-first-lt128
   more = c.before.before.before
 
   abbrev given : tie.Start
   given = start more
 
-  two : c.before.wide2.result + c.wide3.result * 128 ≡ value (take 2 (drop (at given) (d given)))
+  two : c.wide-2.result + c.wide-3.result * 128 ≡ value (take 2 (drop (at given) (d given)))
   two =
-      ap₂ (λ (x y : ℕ). x + y * 128) c.before.wide2.ensures c.wide3.ensures
+      ap₂ (λ (x y : ℕ). x + y * 128) c.wide-2.ensures c.wide-3.ensures
       ∙ value_on (d given) (at given) 1 (get_or (d given) (at given) 0 % 128) (second-inside more) (first_value (d given) (at given) (first-in given))
 
-returns : tie.Need-returns
+returns : tie.Need-returns-then-first-lt128
 returns c =
-    let s = c.before.before.before.before in
-    (λ i. Whole (record { count = c.wide.ensures i; next = at s + 1 }))
-    ∙ ap (read_at (at s)) (sym (first_whole (d s) (at s) (first-in s) c.before.if1.true))
+    (λ i. Whole (record { count = c.wide.ensures i; next = at c.before.before.before.before + 1 }))
+    ∙ ap (read_at (at c.before.before.before.before)) (sym (first_whole (d c.before.before.before.before) (at c.before.before.before.before) (first-in c.before.before.before.before) c.if-first-lt128.true))
 
-returns-2 : tie.Need-returns-2
+returns-2 : tie.Need-returns-then-second-lt128
 returns-2 c =
-    let w = c.before in
-    let s = given w in
-    passed_read (d s) (at s) 1 (first-passed (more w)) (second-inside (more w)) c.if2.true (omega arith) _ (at s + 2) s.pre (two w) refl
+    let s = given c.before in
+    passed_read (d s) (at s) 1 (first-passed (more c.before)) (second-inside (more c.before)) c.if-second-lt128.true (omega arith) _ (at s + 2) s.requires (two c.before) refl
 
-varint-third-requires : tie.Need-varint-third-requires
+varint-third-requires : tie.Need-varint_third-requires
 varint-third-requires c κs =
-    let w = c.before in
-    let s = given w in
-    (s.pre, (passed_more (d s) (at s) 1 (first-passed (more w)) (second-inside (more w)) 2 refl c.if2.false, two w))
+    let s = given c.before in
+    (s.requires, (passed_more (d s) (at s) 1 (first-passed (more c.before)) (second-inside (more c.before)) 2 refl c.if-second-lt128.false, two c.before))
 
-pub varint-at-spec : {M : Type 1} → statement M
-varint-at-spec =
+pub varint_at_spec : {M : Type 1} → statement M
+varint_at_spec =
     tie.close
     (tie.spec
     (λ c. first-in c.before.before)
     (λ c κs. search rules)
-    (λ c. let s = c.before.before.before.before in omega (arith, first-in s))
+    (λ c. omega (arith, first-in c.before.before.before.before))
     returns
     (λ c. omega (arith, second-inside c))
     (λ c. second-inside c.before)

@@ -22,10 +22,10 @@ module _ (s : tie.Start) where
 
   -- two groups say less than 16,384
   two-small : s.args.two < 16384
-  two-small = omega (arith, s.pre.1.1, value_below 2 (take 2 (drop at d)) (simp length-take (omega arith)))
+  two-small = omega (arith, s.requires.1.1, value_below 2 (take 2 (drop at d)) (simp length-take (omega arith)))
 
   third-inside : at + 2 < length d
-  third-inside = whole_inside d at 2 s.pre.1.0 s.pre.0
+  third-inside = whole_inside d at 2 s.requires.1.0 s.requires.0
 
 -- the third byte is read: what three bytes say
 module _ (c : tie.After-wide) where
@@ -33,22 +33,22 @@ module _ (c : tie.After-wide) where
   start = c.before.before.before
 
   three : start.args.two + c.wide.result * 16384 ≡ value (take 3 (drop (at start) (d start)))
-  three = ap (λ (x : ℕ). start.args.two + x * 16384) c.wide.ensures ∙ value_on (d start) (at start) 2 _ (third-inside start) start.pre.1.1
+  three = ap (λ (x : ℕ). start.args.two + x * 16384) c.wide.ensures ∙ value_on (d start) (at start) 2 _ (third-inside start) start.requires.1.1
 
 -- it has the top bit set, so a fourth is there
-module _ (c : tie.Else1) where
+module _ (c : tie.Else-third-lt128) where
   abbrev third : tie.After-wide
   third = c.before
 
   third_passed : Passed (d (start third)) (at (start third)) 3
-  third_passed = passed_more (d (start third)) (at (start third)) 2 (start third).pre.1.0 (third-inside (start third)) 3 refl c.if1.false
+  third_passed = passed_more (d (start third)) (at (start third)) 2 (start third).requires.1.0 (third-inside (start third)) 3 refl c.if-third-lt128.false
 
   fourth-inside : at (start third) + 3 < length (d (start third))
-  fourth-inside = whole_inside (d (start third)) (at (start third)) 3 third_passed (start third).pre.0
+  fourth-inside = whole_inside (d (start third)) (at (start third)) 3 third_passed (start third).requires.0
 
 -- the fourth byte is read: what four bytes say
-module _ (c : tie.After-wide2) where
-  abbrev more : tie.Else1
+module _ (c : tie.After-wide-2) where
+  abbrev more : tie.Else-third-lt128
   more = c.before.before
 
   abbrev begun : tie.Start
@@ -57,54 +57,52 @@ module _ (c : tie.After-wide2) where
   abbrev three_say : ℕ
   three_say = begun.args.two + (third more).wide.result * 16384
 
-  four : three_say + c.wide2.result * 2097152 ≡ value (take 4 (drop (at begun) (d begun)))
-  four = ap (λ (x : ℕ). three_say + x * 2097152) c.wide2.ensures
+  four : three_say + c.wide-2.result * 2097152 ≡ value (take 4 (drop (at begun) (d begun)))
+  four = ap (λ (x : ℕ). three_say + x * 2097152) c.wide-2.ensures
       ∙ value_on (d begun) (at begun) 3 three_say (fourth-inside more) (three (third more))
 
 -- it has the top bit set too, so a fifth is there
-module _ (c : tie.Else2) where
-  abbrev fourth : tie.After-wide2
+module _ (c : tie.Else-fourth-lt128) where
+  abbrev fourth : tie.After-wide-2
   fourth = c.before
 
   abbrev given : tie.Start
   given = begun fourth
 
   fourth_passed : Passed (d given) (at given) 4
-  fourth_passed = passed_more (d given) (at given) 3 (third_passed (more fourth)) (fourth-inside (more fourth)) 4 refl c.if2.false
+  fourth_passed = passed_more (d given) (at given) 3 (third_passed (more fourth)) (fourth-inside (more fourth)) 4 refl c.if-fourth-lt128.false
 
   fifth-inside : at given + 4 < length (d given)
-  fifth-inside = whole_inside (d given) (at given) 4 fourth_passed given.pre.0
+  fifth-inside = whole_inside (d given) (at given) 4 fourth_passed given.requires.0
 
-returns : tie.Need-returns
+returns : tie.Need-returns-then-third-lt128
 returns c =
     let s = start c.before in
-    passed_read (d s) (at s) 2 s.pre.1.0 (third-inside s) c.if1.true (omega arith) _ (at s + 3) s.pre.0 (three c.before) refl
+    passed_read (d s) (at s) 2 s.requires.1.0 (third-inside s) c.if-third-lt128.true (omega arith) _ (at s + 3) s.requires.0 (three c.before) refl
 
-returns-2 : tie.Need-returns-2
+returns-2 : tie.Need-returns-then-fourth-lt128
 returns-2 c =
-    let f = c.before in
-    let s = begun f in
-    passed_read (d s) (at s) 3 (third_passed (more f)) (fourth-inside (more f)) c.if2.true (omega arith) _ (at s + 4) s.pre.0 (four f) refl
+    let s = begun c.before in
+    passed_read (d s) (at s) 3 (third_passed (more c.before)) (fourth-inside (more c.before)) c.if-fourth-lt128.true (omega arith) _ (at s + 4) s.requires.0 (four c.before) refl
 
-add-t19 : tie.Need-overflow-add-t19
+add-t19 : tie.Need-overflow_add-result-2
 add-t19 c =
     let f = fourth c.before.before in
-    omega (arith, c.wide3.ensures, f.wide2.ensures, (third (more f)).wide.ensures, two-small (begun f))
+    omega (arith, c.wide-3.ensures, f.wide-2.ensures, (third (more f)).wide.ensures, two-small (begun f))
 
-returns-3 : tie.Need-returns-3
+returns-3 : tie.Need-returns
 returns-3 c =
-    let m = c.before.before in
-    let s = given m in
-    let i = fifth-inside m in
-    let f = fifth_whole (d s) (at s) 4 refl (fourth_passed m) i s.pre.0 in
+    let s = given c.before.before in
+    let i = fifth-inside c.before.before in
+    let f = fifth_whole (d s) (at s) 4 refl (fourth_passed c.before.before) i s.requires.0 in
     let e : get_or (d s) (at s + 4) 0 % 16 ≡ get_or (d s) (at s + 4) 0 % 128 = omega arith in
-    passed_read (d s) (at s) 4 (fourth_passed m) i (omega arith) (omega arith) _ (at s + 5) s.pre.0
-    (ap₂ (λ (x y : ℕ). x + y * 268435456) (four (fourth m)) (c.wide3.ensures ∙ e)
+    passed_read (d s) (at s) 4 (fourth_passed c.before.before) i (omega arith) (omega arith) _ (at s + 5) s.requires.0
+    (ap₂ (λ (x y : ℕ). x + y * 268435456) (four (fourth c.before.before)) (c.wide-3.ensures ∙ e)
     ∙ value_on (d s) (at s) 4 (value (take 4 (drop (at s) (d s)))) i refl)
     refl
 
-pub varint-third-spec : {M : Type 1} → statement M
-varint-third-spec =
+pub varint_third_spec : {M : Type 1} → statement M
+varint_third_spec =
     tie.close
     (tie.spec
     (λ c. omega (arith, third-inside c.before))
@@ -118,7 +116,7 @@ varint-third-spec =
     (λ c. fourth-inside c.before)
     (λ c κs. search rules)
     (λ c. search rules)
-    (λ c. omega (arith, c.wide2.ensures, (third (more c)).wide.ensures, two-small (begun c)))
+    (λ c. omega (arith, c.wide-2.ensures, (third (more c)).wide.ensures, two-small (begun c)))
     (λ c. omega (arith, fourth-inside (more c.before)))
     returns-2
     (λ c. omega (arith, fifth-inside c))

@@ -13,8 +13,7 @@ use borrow.Author.Rules.{rules}
 use Rattle.fields_spec.specs.Varint.{varint, groups}
 use Rattle.fields_spec.proofs.Varints.{length_between}
 use Rattle.fields_spec.proofs.Table.{at, both, both_left, both_right}
-use Rattle.fields.proofs.varint.varint_len.Statement.{statement}
-use Rattle.fields.proofs.varint.varint_len.Tie as tie
+use Rattle.fields.proofs.varint.varint_len.Goals as goal
 
 lengths : List ℕ
 lengths =
@@ -40,25 +39,19 @@ entry k x h hi lo =
     let b = eqb→eq v (length (varint (2 ^ k - 1))) (both_right p q t) in
     sym (length_between (2 ^ k / 2) (2 ^ k - 1) x (omega arith) (omega arith) (sym a) (sym b))
 
-sub-bits : tie.Need-overflow-sub-bits
-sub-bits c = leading_le 32 c.args.count
+pub overflow_sub-bits : goal.overflow_sub-bits
+overflow_sub-bits c = leading_le 32 c.args.count
 
-cast-result : tie.Need-overflow-cast-result
-cast-result c = search rules
+pub overflow_cast-result : goal.overflow_cast-result
+overflow_cast-result c = search rules
 
-mul-result : tie.Need-overflow-mul-result
-mul-result c = search rules
+pub offset_bounds-bits : goal.offset_bounds-bits
+offset_bounds-bits c = search rules
 
-array-read-result : tie.Need-array-read-result
-array-read-result c = search rules
-
-returns : tie.Need-returns
+pub returns : goal.returns
 unfolding lengths
 returns c =
     let x : ℕ = c.args.count in
     let s = leading_length 32 x c.ranges.count.fits in
     let is : 32 - count_leading_zeros 32 x ≡ s.0 = omega (arith, s.1) in
     ap (λ (k : ℕ). get_or lengths k 0) is ∙ entry s.0 x (omega (arith, s.1)) s.2 s.3
-
-pub varint-len-spec : {M : Type 1} → statement M
-varint-len-spec = tie.close (tie.spec sub-bits cast-result mul-result array-read-result returns)
