@@ -2,7 +2,7 @@
 
 // Flags without their records.
 #[repr(C)]
-#[derive(Drop)]
+#[derive(Clone, Copy)]
 pub struct CHead {
     pub kind: u8,
     pub base: u16,
@@ -12,7 +12,7 @@ pub struct CHead {
 
 // Flags or none, or a refusal.
 #[repr(C)]
-#[derive(Drop)]
+#[derive(Clone, Copy)]
 pub struct CFlags {
     pub refusal: u32,
     pub present: u8,
@@ -21,7 +21,7 @@ pub struct CFlags {
 
 // A number, or a refusal.
 #[repr(C)]
-#[derive(Drop)]
+#[derive(Clone, Copy)]
 pub struct CCount {
     pub refusal: u32,
     pub count: u64,
@@ -29,7 +29,7 @@ pub struct CCount {
 
 // A removal without its rows: kind 0 none, 1 a number of bytes, 2 a number of rows.
 #[repr(C)]
-#[derive(Drop)]
+#[derive(Clone, Copy)]
 pub struct CRemoval {
     pub kind: u8,
     pub bytes: u32,
@@ -38,7 +38,7 @@ pub struct CRemoval {
 
 // A removal, or a refusal.
 #[repr(C)]
-#[derive(Drop)]
+#[derive(Clone, Copy)]
 pub struct CSum {
     pub refusal: u32,
     pub removal: CRemoval,
@@ -46,7 +46,7 @@ pub struct CSum {
 
 // The removal of a value's bytes and the number of records visited, or a refusal.
 #[repr(C)]
-#[derive(Drop)]
+#[derive(Clone, Copy)]
 pub struct CValueSplit {
     pub refusal: u32,
     pub removal: CRemoval,
@@ -55,7 +55,7 @@ pub struct CValueSplit {
 
 // Whose owner it is, 0 none, 1 ours, 2 theirs, or a refusal.
 #[repr(C)]
-#[derive(Drop)]
+#[derive(Clone, Copy)]
 pub struct COwner {
     pub refusal: u32,
     pub which: u8,
@@ -63,14 +63,14 @@ pub struct COwner {
 
 // 32 bytes that name who paid.
 #[repr(C)]
-#[derive(Drop)]
+#[derive(Clone, Copy)]
 pub struct CId {
     pub bytes: [u8; 32],
 }
 
 // An owner or none, or a refusal.
 #[repr(C)]
-#[derive(Drop)]
+#[derive(Clone, Copy)]
 pub struct CMaybeOwner {
     pub refusal: u32,
     pub present: u8,
@@ -79,7 +79,7 @@ pub struct CMaybeOwner {
 
 // How many bytes and lines of a repair stand in what was lent for them, or a refusal.
 #[repr(C)]
-#[derive(Drop)]
+#[derive(Clone, Copy)]
 pub struct CRepaired {
     pub refusal: u32,
     pub bytes: usize,

@@ -3,7 +3,7 @@
 #![tactic(auto)]
 
 // The line behind those that were put, and how many bytes their text has.
-#[derive(Drop)]
+#[derive(Clone, Copy)]
 pub struct Chunk {
     pub next: usize,
     pub size: usize,

@@ -6,7 +6,7 @@ pub const BLOCK_RECORDS: usize = 64;
 
 // What reading a block finds: the first fault and its place; or how many records there are, the place behind them, and the epoch of the
 // last.
-#[derive(Drop)]
+#[derive(Clone, Copy)]
 pub enum Block {
     Faulty(Refusal, usize),
     Read { n: usize, next: usize, last: u16 },

@@ -2,14 +2,14 @@
 use records_spec::{Head, Refusal};
 
 // What judging records finds: the first fault and its place, or how many they are.
-#[derive(Drop)]
+#[derive(Clone, Copy)]
 pub enum Scan {
     Faulty(Refusal, usize),
     Records(usize),
 }
 
 // No flags, flags, or a refusal with the place of its fault.
-#[derive(Drop)]
+#[derive(Clone, Copy)]
 pub enum Verdict {
     Absent,
     Present,
@@ -17,7 +17,7 @@ pub enum Verdict {
 }
 
 // A verdict with the flags' head, which is all zeros where there are none.
-#[derive(Drop)]
+#[derive(Clone, Copy)]
 pub struct Judgement {
     pub verdict: Verdict,
     pub head: Head,

@@ -2,7 +2,7 @@
 use records_spec::Refusal;
 
 // What reading a record finds: why it is refused, or its epoch, its count and the place behind it.
-#[derive(Drop)]
+#[derive(Clone, Copy)]
 pub enum GotRecord {
     Bad(Refusal),
     Good { epoch: u16, count: u32, next: usize },

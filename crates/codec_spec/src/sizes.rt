@@ -4,7 +4,7 @@
 pub const LONGEST_RECORD: usize = 7;
 
 // How many changes there are about, and the size of each, if given.
-#[derive(Drop)]
+#[derive(Clone, Copy)]
 pub enum Changes {
     NotGiven,
     Given(u16, u8),

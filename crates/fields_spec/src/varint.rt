@@ -1,7 +1,7 @@
 // What judging and reading a varint find.
 
 // Where the varint at a place ends, or why it is refused, with the place.
-#[derive(Drop)]
+#[derive(Clone, Copy)]
 pub enum Judged {
     // The bytes end first, or ten bytes all have the top bit set.
     Incomplete(usize),
@@ -12,14 +12,14 @@ pub enum Judged {
 }
 
 // What a varint says, and the place behind it.
-#[derive(Drop)]
+#[derive(Clone, Copy)]
 pub struct Varint {
     pub count: u32,
     pub next: usize,
 }
 
 // What reading a varint finds: as judging, with what it says.
-#[derive(Drop)]
+#[derive(Clone, Copy)]
 pub enum Reading {
     Incomplete(usize),
     NotCanonical(usize),

@@ -2,7 +2,7 @@
 use records_spec::{MaybeOwner, Refusal};
 
 // Which owner a merge keeps where both sides are owned and differ.
-#[derive(Drop)]
+#[derive(Clone, Copy)]
 pub enum MergingOwnersStrategy {
     RaiseIssue,
     UseOurs,
@@ -10,7 +10,7 @@ pub enum MergingOwnersStrategy {
 }
 
 // Whose owner stands, or why none is chosen.
-#[derive(Drop)]
+#[derive(Clone, Copy)]
 pub enum Choice {
     Ours,
     Theirs,
@@ -19,7 +19,7 @@ pub enum Choice {
 }
 
 // The owner of a merge, or that the choice is refused, with no owner.
-#[derive(Drop)]
+#[derive(Clone, Copy)]
 pub struct ChosenOwner {
     pub refused: bool,
     pub owner: MaybeOwner,

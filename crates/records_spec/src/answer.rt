@@ -3,7 +3,7 @@ use crate::head::Head;
 use crate::refusal::Refusal;
 
 // No flags, flags, or a refusal.
-#[derive(Drop)]
+#[derive(Clone, Copy)]
 pub enum Outcome {
     Absent,
     Present,
@@ -11,14 +11,14 @@ pub enum Outcome {
 }
 
 // An outcome with the flags' head, which is all zeros where there are none.
-#[derive(Drop)]
+#[derive(Clone, Copy)]
 pub struct Answered {
     pub outcome: Outcome,
     pub head: Head,
 }
 
 // A number, or a refusal.
-#[derive(Drop)]
+#[derive(Clone, Copy)]
 pub enum Counted {
     Count(usize),
     Refused(Refusal),

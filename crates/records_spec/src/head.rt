@@ -7,7 +7,7 @@ pub const OWNER_LENGTH: usize = 32;
 pub type OwnerId = [u8; OWNER_LENGTH];
 
 // The four kinds, in the order of their bytes.
-#[derive(Drop)]
+#[derive(Clone, Copy)]
 pub enum Kind {
     SingleEpoch,
     MultiEpoch,
@@ -16,21 +16,21 @@ pub enum Kind {
 }
 
 // What a byte 0 says.
-#[derive(Drop)]
+#[derive(Clone, Copy)]
 pub enum KindByte {
     Known(Kind),
     Unknown,
 }
 
 // An owner or none; the bytes of none are not read, and are zeros in an answer.
-#[derive(Drop)]
+#[derive(Clone, Copy)]
 pub struct MaybeOwner {
     pub owned: bool,
     pub id: OwnerId,
 }
 
 // Flags without their records, which stand in the first `records` places of two tables.
-#[derive(Drop)]
+#[derive(Clone, Copy)]
 pub struct Head {
     pub kind: Kind,
     pub base: u16,

@@ -1,7 +1,7 @@
 // Why a call is refused.
 
 // The refusals of documents 01 and 02, in the order of their numbers.
-#[derive(Drop)]
+#[derive(Clone, Copy)]
 pub enum Refusal {
     UnknownType,
     WrongSize,

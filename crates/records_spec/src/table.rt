@@ -1,7 +1,7 @@
 // What looking at the two tables of records finds.
 
 // What stands around an epoch: how many records are below it, how many are at most there, and the count there, or 0.
-#[derive(Drop)]
+#[derive(Clone, Copy)]
 pub struct Spot {
     pub below: usize,
     pub upto: usize,
@@ -9,7 +9,7 @@ pub struct Spot {
 }
 
 // The next record of a union, and the places behind it in the two tables.
-#[derive(Drop)]
+#[derive(Clone, Copy)]
 pub struct NextRecord {
     pub epoch: u16,
     pub count: u32,

@@ -1,7 +1,7 @@
 // What repairing changes.
 
 // The changes, in the order of their numbers.
-#[derive(Drop)]
+#[derive(Clone, Copy)]
 pub enum Change {
     ReEncoded,
     TooLarge,

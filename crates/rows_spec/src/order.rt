@@ -1,7 +1,7 @@
 // How two rows stand to each other.
 
 // How one thing stands to another.
-#[derive(Drop)]
+#[derive(Clone, Copy)]
 pub enum Order {
     Less,
     Equal,

@@ -2,7 +2,7 @@
 use records_spec::Refusal;
 
 // None, one number, or a number of rows.
-#[derive(Drop)]
+#[derive(Clone, Copy)]
 pub enum Removed {
     None,
     Basic(u32),
@@ -10,20 +10,20 @@ pub enum Removed {
 }
 
 // A removal; its rows stand in the first places of three tables.
-#[derive(Drop)]
+#[derive(Clone, Copy)]
 pub struct StorageRemovedBytes {
     pub removed: Removed,
 }
 
 // A removal whose rows stand in lent tables, or a refusal.
-#[derive(Drop)]
+#[derive(Clone, Copy)]
 pub enum AnsweredRemoval {
     Done(StorageRemovedBytes),
     Refused(Refusal),
 }
 
 // Whether something was removed, or a refusal.
-#[derive(Drop)]
+#[derive(Clone, Copy)]
 pub enum HasRemoval {
     Yes,
     No,
@@ -31,7 +31,7 @@ pub enum HasRemoval {
 }
 
 // A number of bytes, or a refusal.
-#[derive(Drop)]
+#[derive(Clone, Copy)]
 pub enum TotalBytes {
     Bytes(u32),
     Refused(Refusal),

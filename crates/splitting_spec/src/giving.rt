@@ -1,7 +1,7 @@
 // What visiting the records finds.
 
 // How many records were visited, and what they left for the base.
-#[derive(Drop)]
+#[derive(Clone, Copy)]
 pub struct Visited {
     pub records: usize,
     pub left: u32,

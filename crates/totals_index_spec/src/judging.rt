@@ -3,7 +3,7 @@ use totals_spec::Named;
 
 // What is known of a table after some of its rows: whether they are proper, the last of them, how many old counts no row holds yet, whether
 // every total fits, how many rows do not go, and how many new counts make a row.
-#[derive(Drop)]
+#[derive(Clone, Copy)]
 pub struct Judging {
     pub rows: usize,
     pub upto: usize,

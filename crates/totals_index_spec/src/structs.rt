@@ -2,7 +2,7 @@
 
 // A row of the table: who paid, in which epoch, and how many bytes in all.
 #[repr(C)]
-#[derive(Drop)]
+#[derive(Clone, Copy)]
 pub struct Total {
     pub owner: [u8; 32],
     pub epoch: u16,

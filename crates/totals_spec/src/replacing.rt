@@ -1,7 +1,7 @@
 // Whose rows a change is about.
 
 // An owner, and how many records are named under it.
-#[derive(Drop)]
+#[derive(Clone, Copy)]
 pub struct Named {
     pub owner: [u8; 32],
     pub records: usize,

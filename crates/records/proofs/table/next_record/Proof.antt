@@ -9,33 +9,25 @@ use Rattle.records_spec.proofs.Unions.{some_ours, step_ours, step_theirs, step_s
 use Rattle.records.proofs.table.next_record.Statement.{statement}
 use Rattle.records.proofs.table.next_record.Tie as tie
 
-some_left : (c : tie.Then1) → let s = c.before.before.before.before.before in s.args.i < length s.args.our-epochs.now
+some_left : (c : tie.Then-their_epochs-j) → c.args.i < length c.args.our_epochs.now
 some_left c =
-    let s = c.before.before.before.before.before in
-    some_ours s.requires.0 s.requires.1.0 s.requires.1.1 c.if1.true
+    some_ours c.requires.0 c.requires.1.0 c.requires.1.1 c.if-their_epochs-j.true
 
-returns : tie.Need-returns
+returns : tie.Need-returns-then-their_epochs-j
 returns c =
-    let t = c.before.before in
-    let s = t.before.before.before.before.before in
-    step_ours s.requires.0 s.requires.1.0 s.requires.1.1 (some_left t) (asc_end _ s.args.j _ t.if1.true)
+    step_ours c.requires.0 c.requires.1.0 c.requires.1.1 (some_left c.before.before) (asc_end _ c.args.j _ c.if-their_epochs-j.true)
 
-returns-2 : tie.Need-returns-2
+returns-2 : tie.Need-returns-then-our_epochs-i
 returns-2 c =
-    let s = c.before.before.before.before.before.before.before.before in
-    step_theirs s.requires.0 s.requires.1.0 s.requires.1.1 c.before.before.before.if1.false (asc_end _ s.args.i _ c.before.if2.true)
+    step_theirs c.requires.0 c.requires.1.0 c.requires.1.1 c.if-their_epochs-j.false (asc_end _ c.args.i _ c.if-our_epochs-i.true)
 
-returns-3 : tie.Need-returns-3
+returns-3 : tie.Need-returns
 returns-3 c =
-    let at-lesser = c.before.before.before.before.before in
-    let at-if2 = at-lesser.before.before in
-    let at-if1 = at-if2.before.before in
-    let s = at-if1.before.before.before.before.before in
-    step_selected s.requires.0 s.requires.1.0 s.requires.1.1 at-if1.if1.false at-if2.if2.false
-    at-lesser.lesser.ensures c.before.before.standing.ensures c.before.upto.ensures c.upto2.ensures
+    step_selected c.requires.0 c.requires.1.0 c.requires.1.1 c.if-their_epochs-j.false c.if-our_epochs-i.false
+    c.lesser.ensures c.standing.ensures c.upto.ensures c.upto-2.ensures
 
-pub next-record-spec : {M : Type 1} → statement M
-next-record-spec =
+pub next_record_spec : {M : Type 1} → statement M
+next_record_spec =
     tie.close
     (tie.spec
     (λ c. omega (arith, some_left c))
