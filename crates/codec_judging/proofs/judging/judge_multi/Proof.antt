@@ -15,22 +15,21 @@ use borrow.Author.Rules.{rules}
 use Rattle.codec_judging.proofs.judging.judge_multi.Statement.{statement}
 use Rattle.codec_judging.proofs.judging.judge_multi.Tie as tie
 
-returns : tie.Need-returns
+returns : tie.Need-returns-then-src-size
 returns c =
-    let start = c.before.before.before.before in
-    let a = start.args in
-    c.refused-at.ensures ∙ ap judgement
-    (sym (multi_short a.kind a.src.now start.requires (omega (arith, c.before.before.head_size_lem.ensures))))
+    let a = c.args in
+    c.refused_at.ensures ∙ ap judgement
+    (sym (multi_short a.kind a.src.now c.requires (omega (arith, c.head_size-size.ensures))))
 
 -- the records are judged, and from there back: the base was read, the head is there, its size, the start
-module _ (c : tie.After-judge-records) where
-  abbrev based : tie.After-base-in
+module _ (c : tie.After-judge_records) where
+  abbrev based : tie.After-base_in-base
   based = c.before.before.before
 
-  abbrev long : tie.Else1
+  abbrev long : tie.Else-src-size
   long = based.before
 
-  abbrev sized : tie.After-head-size
+  abbrev sized : tie.After-head_size-size
   sized = long.before
 
   abbrev start : tie.Start
@@ -43,44 +42,40 @@ module _ (c : tie.After-judge-records) where
   src = start.args.src.now
 
 -- they are sound
-module _ (c : tie.After-n) where
-  abbrev judged : tie.After-judge-records
-  judged = c.before.before.before.before
+module _ (c : tie.In-Records) where
+  abbrev judged : tie.After-judge_records
+  judged = c.before.before.before
 
   abbrev n : ℕ
-  n = c.n.given.0.0
+  n = c.in-Records.n
 
   scanned : Scanned (length (src judged)) (base_in (kind judged) (src judged)) (owner_in (kind judged) (src judged))
       (records_in (kind judged) (src judged)).fault (records_in (kind judged) (src judged)).records n
   scanned =
-      scan_records (kind judged) (src judged) _ _ _ (sized judged).head_size_lem.ensures (based judged).base-in.ensures
-      judged.judge-records.ensures (start judged).pre (long judged).if1.left n c.n.given.1
+      scan_records (kind judged) (src judged) _ _ _ (sized judged).head_size-size.ensures (based judged).base_in-base.ensures
+      judged.judge_records.ensures (start judged).requires (long judged).if-src-size.false n c.in-Records.is
 
-judged-present-requires : tie.Need-judged-present-requires
+judged-present-requires : tie.Need-judged_present-requires
 judged-present-requires c κs =
-    let k = c.before in
-    let j = judged k in
-    (omega (arith, (sized j).head_size_lem.ensures, (long j).if1.left), agrees_multi (kind j) (n k) (start j).pre (scanned k).some_records)
+    let j = judged c in
+    (omega (arith, (sized j).head_size-size.ensures, (long j).if-src-size.false), agrees_multi (kind j) (n c) (start j).requires (scanned c).some_records)
 
-returns-2 : tie.Need-returns-2
+returns-2 : tie.Need-returns-in-Faulty
 returns-2 c =
-    let j = c.before.before.before.before.before.before in
-    let g = c.before.before.refusal.given in
-    c.refused-at2.ensures
-    ∙ ap judgement (sym (scan_faulty (kind j) (src j) _ _ _ (sized j).head_size_lem.ensures (based j).base-in.ensures
-    j.judge-records.ensures (start j).requires (long j).if1.false g.0.0 g.0.1.0 g.1))
+    c.refused_at-in-Faulty.ensures
+    ∙ ap judgement (sym (scan_faulty (kind c.before.before.before.before) (src c.before.before.before.before) _ _ _ (sized c.before.before.before.before).head_size-size.ensures (based c.before.before.before.before).base_in-base.ensures
+    c.judge_records.ensures (start c.before.before.before.before).requires (long c.before.before.before.before).if-src-size.false c.in-Faulty.refusal c.in-Faulty.place c.in-Faulty.is))
 
-returns-3 : tie.Need-returns-3
+returns-3 : tie.Need-returns-in-Records
 returns-3 c =
-    let k = c.before.before in
-    let j = judged k in
+    let j = judged c.before in
     c.judged_present.ensures
-    ∙ ap (λ (m : ℕ). record { verdict = Present; head = head_for (base_in (kind j) (src j)) (owner_in (kind j) (src j)) m }) (scanned k).count
-    ∙ ap judgement (sym (scan_read (kind j) (src j) _ _ _ (sized j).head_size_lem.ensures (based j).base-in.ensures
-    j.judge-records.ensures (start j).pre (long j).if1.left (n k) k.n.given.1))
+    ∙ ap (λ (m : ℕ). record { verdict = Present; head = head_for (base_in (kind j) (src j)) (owner_in (kind j) (src j)) m }) (scanned c.before).count
+    ∙ ap judgement (sym (scan_read (kind j) (src j) _ _ _ (sized j).head_size-size.ensures (based j).base_in-base.ensures
+    j.judge_records.ensures (start j).requires (long j).if-src-size.false (n c.before) c.in-Records.is))
 
-pub judge-multi-spec : {M : Type 1} → statement M
-judge-multi-spec =
+pub judge_multi_spec : {M : Type 1} → statement M
+judge_multi_spec =
     tie.close
     (tie.spec
     (λ c κs. search rules)

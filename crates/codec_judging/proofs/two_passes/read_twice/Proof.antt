@@ -17,7 +17,7 @@ use Rattle.codec_judging.proofs.two_passes.read_twice.Statement.{statement}
 use Rattle.codec_judging.proofs.two_passes.read_twice.Tie as tie
 
 -- the records are judged
-module _ (c : tie.After-judge-records) where
+module _ (c : tie.After-judge_records) where
   abbrev start : tie.Start
   start = c.before.before.before.before.before.before.before.before
 
@@ -28,23 +28,23 @@ module _ (c : tie.After-judge-records) where
   found = rest src start.args.at start.args.prev
 
 -- none is at fault, and there are so many
-module _ (c : tie.After-n) where
-  abbrev judged : tie.After-judge-records
-  judged = c.before.before.before.before.before.before
+module _ (c : tie.In-Records) where
+  abbrev judged : tie.After-judge_records
+  judged = c.before.before.before.before.before
 
   abbrev given : tie.Start
   given = start judged
 
-  sound : ((found judged).fault ≡ none) × (c.n.given.0.0 ≡ length (found judged).records)
-  sound = judged_sound (length (src judged)) (found judged).fault _ _ (sym c.n.given.1 ∙ judged.judge-records.ensures)
+  sound : ((found judged).fault ≡ none) × (c.in-Records.n ≡ length (found judged).records)
+  sound = judged_sound (length (src judged)) (found judged).fault _ _ (sym c.in-Records.is ∙ judged.judge_records.ensures)
 
-  abbrev so-many : Sound (src judged) given.args.at c.n.given.0.0
+  abbrev so-many : Sound (src judged) given.args.at c.in-Records.n
   so-many = record { before = given.args.prev; no_fault = sound.0; all_there = sym sound.1 }
 
 -- what `fit` told, of these records
 module _ (c : tie.After-fit) where
-  abbrev known : tie.After-n
-  known = c.before.before
+  abbrev known : tie.In-Records
+  known = c.before
 
   abbrev of : tie.Start
   of = given known
@@ -57,49 +57,41 @@ module _ (c : tie.After-fit) where
       ap (λ (n : ℕ). room_for (of.args.k + n) (length of.args.epochs.now) (length of.args.counts.now)) (sym (sound known).1)
       ∙ sym c.fit.ensures
 
-judge-records-requires : tie.Need-judge-records-requires
-judge-records-requires c κs = let s = c.before.before.before.before.before.before.before in
-    (omega (arith, s.requires.0), (s.requires.1.0, s.requires.1.1))
+judge-records-requires : tie.Need-judge_records-requires
+judge-records-requires c κs = (omega (arith, c.requires.0), (c.requires.1.0, c.requires.1.1))
 
-add_fit : tie.Need-overflow-add-fit
+add_fit : tie.Need-overflow_add-k
 add_fit c =
-    let n = c.before in
-    let s = given n in
-    omega (arith, (sound n).1, rest_long (src (judged n)) s.args.at s.args.prev (omega (arith, s.pre.0)), s.pre.0, s.good)
+    let s = given c in
+    omega (arith, (sound c).1, rest_long (src (judged c)) s.args.at s.args.prev (omega (arith, s.requires.0)), s.requires.0, s.well_formed)
 
-fill-records-requires : tie.Need-fill-records-requires
+fill-records-requires : tie.Need-fill_records-requires
 fill-records-requires c κs =
-    let f = c.before.before.before in
-    let r = room_both_lem _ _ _ (sym f.fit.ensures ∙ c.before.before.if1.true) in
-    (so-many (known f), (r.0, r.1))
+    let r = room_both_lem _ _ _ (sym c.fit.ensures ∙ c.if-fit.true) in
+    (so-many (known c.before.before.before), (r.0, r.1))
 
-returns : tie.Need-returns
+returns : tie.Need-returns-then-fit
 returns c =
-    let put = c.before.before.before.before in
-    let roomy = put.before.before.before in
-    let f = roomy.before in
-    let a = (of f).args in
-    let p = put.fill-records.ensures (so-many (known f)) in
-    filled_all (length a.src.now) a.k (records f) a.epochs.now a.counts.now (found (judged (known f))).fault _ _ _
-    (sound (known f)).0 (told f ∙ roomy.if1.true) p.behind p.epochs_set p.counts_set
+    let a = (of c.before.before.before.before.before.before.before.before).args in
+    let p = c.fill_records.ensures (so-many (known c.before.before.before.before.before.before.before.before)) in
+    filled_all (length a.src.now) a.k (records c.before.before.before.before.before.before.before.before) a.epochs.now a.counts.now (found (judged (known c.before.before.before.before.before.before.before.before))).fault _ _ _
+    (sound (known c.before.before.before.before.before.before.before.before)).0 (told c.before.before.before.before.before.before.before.before ∙ c.if-fit.true) p.behind p.epochs_set p.counts_set
 
-returns-2 : tie.Need-returns-2
+returns-2 : tie.Need-returns-in-Faulty
 returns-2 c =
-    let j = c.before.before.before.before.before.before.before in
-    let s = start j in
+    let s = start c.before.before.before.before.before in
     let a = s.args in
-    judged_faulty (length (src j)) a.k (found j).fault (found j).records a.epochs.now a.counts.now _ _
-    (sound_some (src j) a.at a.prev s.pre.0.1) (sym c.before.refusal.given.1 ∙ j.judge-records.ensures)
+    judged_faulty (length (src c.before.before.before.before.before)) a.k (found c.before.before.before.before.before).fault (found c.before.before.before.before.before).records a.epochs.now a.counts.now _ _
+    (sound_some (src c.before.before.before.before.before) a.at a.prev s.requires.0.1) (sym c.in-Faulty.is ∙ c.judge_records.ensures)
 
-returns-3 : tie.Need-returns-3
+returns-3 : tie.Need-returns-else-fit
 returns-3 c =
-    let f = c.before in
-    let a = (of f).args in
-    filled_short (length a.src.now) a.k (records f) a.epochs.now a.counts.now (found (judged (known f))).fault
-    (sound (known f)).0 (told f ∙ c.if1.false)
+    let a = (of c.before).args in
+    filled_short (length a.src.now) a.k (records c.before) a.epochs.now a.counts.now (found (judged (known c.before))).fault
+    (sound (known c.before)).0 (told c.before ∙ c.if-fit.false)
 
-pub read-twice-spec : {M : Type 1} → statement M
-read-twice-spec =
+pub read_twice_spec : {M : Type 1} → statement M
+read_twice_spec =
     tie.close
     (tie.spec
     judge-records-requires

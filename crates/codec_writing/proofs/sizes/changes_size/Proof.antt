@@ -8,17 +8,17 @@ use borrow.Author.Rules.{rules}
 use Rattle.codec_writing.proofs.sizes.changes_size.Statement.{statement}
 use Rattle.codec_writing.proofs.sizes.changes_size.Tie as tie
 
-most : (c : tie.After-known-told) → let g = c.before.changes.given in g.0.0 * (2 + g.0.1.0) ≤ 65535 * 257
-most c = mul-le-mul {n₂ = 65535} {m₂ = 257} (omega (arith, c.known-told.given)) (omega (arith, c.known-told.given))
+most : (c : tie.In-Given) → c.in-Given.count * (2 + c.in-Given.bytes) ≤ 65535 * 257
+most c = mul-le-mul {n₂ = 65535} {m₂ = 257} (omega (arith, c.in-Given.known_told-1-own.given)) (omega (arith, c.in-Given.known_told-1-own.given))
 
-mul-result : tie.Need-overflow-mul-result
+mul-result : tie.Need-overflow_mul-result
 mul-result c = omega (arith, most c)
 
-returns-2 : tie.Need-returns-2
-returns-2 c = (ap changes_size (sym c.before.changes.given.1), most c)
+returns-2 : tie.Need-returns-in-Given
+returns-2 c = (ap changes_size (sym c.in-Given.is), most c)
 
-pub changes-size-spec : {M : Type 1} → statement M
-changes-size-spec =
+pub changes_size_spec : {M : Type 1} → statement M
+changes_size_spec =
     tie.close
     (tie.spec
     (λ c. search rules)

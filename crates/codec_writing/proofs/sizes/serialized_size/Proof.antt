@@ -14,53 +14,46 @@ use Rattle.codec_writing.proofs.sizes.serialized_size.Statement.{statement}
 use Rattle.codec_writing.proofs.sizes.serialized_size.Tie as tie
 
 -- the flags are proper
-right : (c : tie.Then1) →
-    let start = c.before.before.before.before in
-    let a = start.args in IsProper a.flags a.epochs.now a.counts.now
+right : (c : tie.Then-is_proper) →
+    let a = c.args in IsProper a.flags a.epochs.now a.counts.now
 right c =
-    let start = c.before.before.before.before in
-    let a = start.args in proper_inv a.flags a.epochs.now a.counts.now (sym c.before.is_proper.ensures ∙ c.if1.true)
+    let a = c.args in proper_inv a.flags a.epochs.now a.counts.now (sym c.is_proper.ensures ∙ c.if-is_proper.true)
 
-slice-aggregate-records-size : tie.Need-slice-aggregate-records-size
+slice-aggregate-records-size : tie.Need-slice_bounds-records_size-end
 slice-aggregate-records-size c =
-    let start = c.before.before.before.before.before.before in
-    let a = start.args in sym (held_counts a.flags a.epochs.now a.counts.now (right c.before.before))
+    let a = c.args in sym (held_counts a.flags a.epochs.now a.counts.now (right c.before))
 
-add-t10 : tie.Need-overflow-add-t10
+add-t10 : tie.Need-overflow_add-result
 add-t10 c =
-    let start = c.before.before.before.before.before.before.before in
-    let a = start.args in
-    let p = right c.before.before.before in
+    let a = c.args in
+    let p = right c.before.before in
     omega (
       arith,
-      c.before.before.head-bytes-size.ensures.1,
-      c.records-size.ensures.1,
+      c.head_bytes_size.ensures.1,
+      c.records_size.ensures.1,
       held_counts a.flags a.epochs.now
           a.counts.now p,
       p.counts_long,
-      start.well-formed,
+      c.well_formed,
     )
 
-returns : tie.Need-returns
+returns : tie.Need-returns-then-is_proper
 returns c =
-    let at-is-proper = c.before.before.before.before in
-    let start = at-is-proper.before.before.before in
-    let a = start.args in
-    let n = length_flags a.flags a.epochs.now a.counts.now (right c.before.before.before) in
-    let e : c.before.before.head-bytes-size.result + c.records-size.result ≡ length
+    let a = c.args in
+    let n = length_flags a.flags a.epochs.now a.counts.now (right c.before.before) in
+    let e : c.head_bytes_size.result + c.records_size.result ≡ length
     (bytes_of (flags_of (holding a.flags a.epochs.now a.counts.now))) =
-    omega (arith, n, c.before.before.head-bytes-size.ensures.0, c.records-size.ensures.0) in
+    omega (arith, n, c.head_bytes_size.ensures.0, c.records_size.ensures.0) in
     ap ok e ∙ sym (size_proper (holding a.flags a.epochs.now a.counts.now)
-    (sym at-is-proper.is_proper.ensures ∙ c.before.before.before.if1.true))
+    (sym c.is_proper.ensures ∙ c.if-is_proper.true))
 
-returns-2 : tie.Need-returns-2
+returns-2 : tie.Need-returns
 returns-2 c =
-    let start = c.before.before.before.before in
-    let a = start.args in
-    sym (size_improper (holding a.flags a.epochs.now a.counts.now) (sym c.before.is_proper.ensures ∙ c.if1.false))
+    let a = c.args in
+    sym (size_improper (holding a.flags a.epochs.now a.counts.now) (sym c.is_proper.ensures ∙ c.if-is_proper.false))
 
-pub serialized-size-spec : {M : Type 1} → statement M
-serialized-size-spec =
+pub serialized_size_spec : {M : Type 1} → statement M
+serialized_size_spec =
     tie.close
     (tie.spec
     (λ c κs. search rules)

@@ -20,8 +20,8 @@ use Rattle.codec_writing.proofs.writing.put_head.Statement.{statement}
 use Rattle.codec_writing.proofs.writing.put_head.Tie as tie
 
 -- it is known whether there is an owner, and from there back: the kind's byte, the start
-module _ (c : tie.After-is-owned) where
-  abbrev typed : tie.After-kind-byte
+module _ (c : tie.After-is_owned) where
+  abbrev typed : tie.After-kind_byte
   typed = c.before
 
   abbrev start : tie.Start
@@ -37,65 +37,61 @@ module _ (c : tie.After-is-owned) where
   bytes = head_bytes head.kind (owner_of head) head.base
 
 -- there is one
-module _ (c : tie.Then1) where
-  abbrev asked : tie.After-is-owned
+module _ (c : tie.Then-is_owned) where
+  abbrev asked : tie.After-is_owned
   asked = c.before
 
   abbrev has : owned (head asked).kind ≡ true
-  has = sym asked.is-owned.ensures ∙ c.if1.true
+  has = sym asked.is_owned.ensures ∙ c.if-is_owned.true
 
-put-owner-requires : tie.Need-put-owner-requires
+put-owner-requires : tie.Need-put_owner-at-requires
 put-owner-requires c κs =
-    let t = c.before.before in
-    let h : 3 + length (head (asked t)).owner ≤ length (out (asked t)) = rw (has t) at (start (asked t)).pre in
+    let h : 3 + length (head (asked c.before.before)).owner ≤ length (out (asked c.before.before)) = rw (has c.before.before) at (start (asked c.before.before)).requires in
     simp length-set (omega arith)
 
 -- the kind and the owner are written; the base epoch is left
-module _ (c : tie.After-put-owner) where
-  abbrev with-owner : tie.Then1
+module _ (c : tie.After-put_owner-at) where
+  abbrev with-owner : tie.Then-is_owned
   with-owner = c.before.before.before
 
-  abbrev told : tie.After-is-owned
+  abbrev told : tie.After-is_owned
   told = asked with-owner
 
-  owned-part : Parts (bytes told) 0 (out told) (big 2 (head told).base) c.put-owner.result c.put-owner.new.0
+  owned-part : Parts (bytes told) 0 (out told) (big 2 (head told).base) c.put_owner-at.result c.put_owner-at.new.out
   owned-part =
       rw (has with-owner) (parts_put
       (head_part (head told).kind (some (head told).owner) (head told).base (typed told).kind_byte.result (out told)
       (typed told).kind_byte.ensures)
-      refl c.put-owner.ensures)
+      refl c.put_owner-at.ensures)
 
-put-be16-requires : tie.Need-put-be16-requires
+put-be16-requires : tie.Need-put_be16-requires
 put-be16-requires c κs =
-    let p = c.before.before.before in
-    let t = told p in
+    let t = told c.before.before.before in
     let h = length_head (head t).kind (owner_of (head t)) (head t).base in
-    omega (arith, length_big 2 (head t).base, parts_room (owned-part p) (omega (arith, (start t).pre, h)))
+    omega (arith, length_big 2 (head t).base, parts_room (owned-part c.before.before.before) (omega (arith, (start t).requires, h)))
 
-returns : tie.Need-returns
-returns c = let p = c.before.before.before.before.before.before in parts_last (owned-part p) c.before.before.put-be16.ensures
+returns : tie.Need-returns-then-is_owned
+returns c = parts_last (owned-part c.before.before.before.before.before.before) c.put_be16.ensures
 
 -- there is none
-returns-2 : tie.Need-returns-2
+returns-2 : tie.Need-returns
 returns-2 c =
-    let none_there = c.before.before.before.before in
-    let t = none_there.before in
-    let e : owned (head t).kind ≡ false = sym t.is-owned.ensures ∙ none_there.if1.false in
+    let e : owned (head c.before.before.before.before.before).kind ≡ false = sym c.is_owned.ensures ∙ c.if-is_owned.false in
     rw e (parts_last
-    (head_part (head t).kind none (head t).base (typed t).kind_byte.result (out t) (typed t).kind_byte.ensures)
-    c.before.before.put-be162.ensures)
+    (head_part (head c.before.before.before.before.before).kind none (head c.before.before.before.before.before).base (typed c.before.before.before.before.before).kind_byte.result (out c.before.before.before.before.before) (typed c.before.before.before.before.before).kind_byte.ensures)
+    c.put_be16-2.ensures)
 
-pub put-head-spec : {M : Type 1} → statement M
-put-head-spec =
+pub put_head_spec : {M : Type 1} → statement M
+put_head_spec =
     tie.close
     (tie.spec
     (λ c κs. search rules)
-    (λ c. omega (arith, c.before.before.requires))
+    (λ c. omega (arith, c.requires))
     (λ c κs. search rules)
     put-owner-requires
     put-be16-requires
     (λ c. put_long (returns c))
     returns
-    (λ c κs. simp length-set (omega (arith, (start c.before.before).pre)))
+    (λ c κs. simp length-set (omega (arith, (start c.before.before).requires)))
     (λ c. put_long (returns-2 c))
     returns-2)

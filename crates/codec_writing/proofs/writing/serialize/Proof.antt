@@ -21,7 +21,7 @@ use Rattle.codec_writing.proofs.writing.serialize.Statement.{statement}
 use Rattle.codec_writing.proofs.writing.serialize.Tie as tie
 
 -- the flags are proper
-module _ (c : tie.Then1) where
+module _ (c : tie.Then-is_proper) where
   abbrev start : tie.Start
   start = c.before.before.before.before.before
 
@@ -41,45 +41,44 @@ module _ (c : tie.Then1) where
   bytes = bytes_of (flags_of (holding head es cs))
 
   abbrev told : proper (holding head es cs) ≡ true
-  told = sym c.before.is_proper.ensures ∙ c.if1.true
+  told = sym c.is_proper.ensures ∙ c.if-is_proper.true
 
   right : IsProper head es cs
   right = proper_inv head es cs told
 
 -- it is told whether they fit, and from there back: the head's size, that they are proper
-module _ (c : tie.After-bytes-fit) where
-  abbrev sized : tie.After-head-bytes-size
-  sized = c.before.before
+module _ (c : tie.After-bytes_fit) where
+  abbrev sized : tie.After-head_bytes_size
+  sized = c.before
 
-  abbrev good : tie.Then1
+  abbrev good : tie.Then-is_proper
   good = sized.before
 
   abbrev size : ℕ
-  size = sized.head-bytes-size.result + counts_size (take (head good).records (cs good))
+  size = sized.head_bytes_size.result + counts_size (take (head good).records (cs good))
 
 -- they fit
-fits : (c : tie.Then2) → size c.before ≤ length (out (good c.before))
-fits c = leb-true (size c.before) _ (sym c.before.bytes_fit.ensures ∙ c.if2.true)
+fits : (c : tie.Then-bytes_fit) → size c.before ≤ length (out (good c.before))
+fits c = leb-true (size c.before) _ (sym c.bytes_fit.ensures ∙ c.if-bytes_fit.true)
 
 -- the head is written, and from there back: they fit, they are proper
-module _ (c : tie.After-put-head) where
-  abbrev roomy : tie.Then2
+module _ (c : tie.After-put_head-at) where
+  abbrev roomy : tie.Then-bytes_fit
   roomy = c.before.before
 
-  abbrev right-ones : tie.Then1
+  abbrev right-ones : tie.Then-is_proper
   right-ones = good roomy.before
 
-put-records-requires : tie.Need-put-records-requires
+put-records-requires : tie.Need-put_records-requires
 put-records-requires c κs =
-    let h = c.before.before.before.before.before in
-    let g = right-ones h in
-    let p = h.put-head.ensures in
-    let r = roomy h in (
+    let g = right-ones c.before.before.before in
+    let p = c.put_head-at.ensures in
+    let r = roomy c.before.before.before in (
       held_epochs (head g) (es g) (cs g) (right g) ∙ sym (held_counts (head g) (es g) (cs g) (right g)),
       omega (
         arith,
         fits r,
-        (sized r.before).head-bytes-size.ensures.0,
+        (sized r.before).head_bytes_size.ensures.0,
         p.behind,
         length_head (head g).kind (owner_of (head g)) (head g).base,
         put_long p,
@@ -87,59 +86,52 @@ put-records-requires c κs =
     )
 
 -- the records are written, after the head: together they are the flags
-module _ (c : tie.After-put-records) where
-  abbrev headed : tie.After-put-head
-  headed = c.before.before.before.before.before.before
+module _ (c : tie.After-put_records) where
+  abbrev headed : tie.After-put_head-at
+  headed = c.before.before.before.before
 
-  abbrev of : tie.Then1
+  abbrev of : tie.Then-is_proper
   of = right-ones headed
 
-  put : Put (bytes of) 0 c.put-records.result (out of) c.put-records.new.0
+  put : Put (bytes of) 0 c.put_records.result (out of) c.put_records.new.out
   put =
       rw (bytes_proper (head of) (es of) (cs of) (right of))
-      (parts_last (parts_put (parts_start _ 0 (out of)) refl headed.put-head.ensures) c.put-records.ensures)
+      (parts_last (parts_put (parts_start _ 0 (out of)) refl headed.put_head-at.ensures) c.put_records.ensures)
 
-returns : tie.Need-returns
+returns : tie.Need-returns-then-bytes_fit
 returns c =
-    let w = c.before.before in
-    let g = of w in
-    let r = roomy (headed w) in
+    let g = of c.before.before in
+    let r = roomy (headed c.before.before) in
     let n = length_flags (head g) (es g) (cs g) (right g) in
-    put_written (bytes g) (out g) _ _ (put w) (omega (arith, n, fits r, (sized r.before).head-bytes-size.ensures.0))
+    put_written (bytes g) (out g) _ _ (put c.before.before) (omega (arith, n, fits r, (sized r.before).head_bytes_size.ensures.0))
     ∙ sym (serialized_proper (holding (head g) (es g) (cs g)) (out g) (told g))
 
-returns-2 : tie.Need-returns-2
+returns-2 : tie.Need-returns-then-is_proper
 returns-2 c =
-    let f = c.before in
-    let g = good f in
+    let g = good c.before in
     let n = length_flags (head g) (es g) (cs g) (right g) in
-    let m = leb-false (size f) (length (out g)) (sym f.bytes_fit.ensures ∙ c.if2.false) in
+    let m = leb-false (size c.before) (length (out g)) (sym c.bytes_fit.ensures ∙ c.if-bytes_fit.false) in
     sym (serialized_proper (holding (head g) (es g) (cs g)) (out g) (told g)
-    ∙ writing_short (bytes g) (out g) (omega (arith, n, m, (sized f).head-bytes-size.ensures.0)))
+    ∙ writing_short (bytes g) (out g) (omega (arith, n, m, (sized c.before).head_bytes_size.ensures.0)))
 
-returns-3 : tie.Need-returns-3
+returns-3 : tie.Need-returns
 returns-3 c =
-    let s = c.before.before.before.before.before in
-    let a = s.args in
+    let a = c.args in
     sym (serialized_improper (holding a.flags a.epochs.now a.counts.now) a.out.now
-    (sym c.before.is_proper.ensures ∙ c.if1.false))
+    (sym c.is_proper.ensures ∙ c.if-is_proper.false))
 
-pub serialize-spec : {M : Type 1} → statement M
-serialize-spec =
+pub serialize_spec : {M : Type 1} → statement M
+serialize_spec =
     tie.close
     (tie.spec
     (λ c κs. search rules)
     (λ c κs. search rules)
-    (λ c. let g = c.before.before in sym (held_counts (head g) (es g) (cs g) (right g)))
+    (λ c. sym (held_counts (head c.before) (es c.before) (cs c.before) (right c.before)))
     (λ c κs. search rules)
-    (λ c κs. omega (arith, fits c.before, (sized c.before.before).head-bytes-size.ensures.0))
-    (λ c.
-    let h = c.before.before.before.before in
-    let g = right-ones h in
+    (λ c κs. omega (arith, fits c.before, (sized c.before.before).head_bytes_size.ensures.0))
+    (λ c. let g = right-ones c.before.before.before in
     sym (held_epochs (head g) (es g) (cs g) (right g)))
-    (λ c.
-    let h = c.before.before.before.before.before in
-    let g = right-ones h in
+    (λ c. let g = right-ones c.before.before.before in
     sym (held_counts (head g) (es g) (cs g) (right g)))
     put-records-requires
     (λ c. put_long (put c.before.before))

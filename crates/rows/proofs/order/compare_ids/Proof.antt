@@ -9,53 +9,48 @@ use Rattle.rows_spec.proofs.Comparing.{by_less, by_greater, by_next, order_on, o
 use Rattle.rows.proofs.order.compare_ids.Statement.{statement}
 use Rattle.rows.proofs.order.compare_ids.Tie as tie
 
-abbrev invariant-loop : tie.invariant-loop
+abbrev invariant-loop : tie.invariant-loop-i
 invariant-loop a b i₀ i = (i ≤ length a) × (order a b ≡ order (drop i a) (drop i b))
 
-abbrev decreases-loop : tie.decreases-loop
+abbrev decreases-loop : tie.decreases-loop-i
 decreases-loop a b i₀ i = length a - i
 
 -- in a turn: the answer goes by the bytes at i, and then by those behind
-at_i : (c : tie.In-loop invariant-loop decreases-loop) →
-    let e = c.before.before.args in
-    let i = c.before.loop.i in
+at_i : (c : tie.In-loop-i invariant-loop decreases-loop) →
+    let e = c.args in
+    let i = c.loop-i.i in
     i < length e.b.now →
     order e.a.now e.b.now ≡ by (get_or e.a.now i 0) (get_or e.b.now i 0) (order (drop (i + 1) e.a.now) (drop (i + 1) e.b.now))
 at_i c h =
-    let e = c.before.before.args in
-    c.before.loop.invariant.1 ∙ order_on e.a.now e.b.now c.before.loop.i c.loop-test.true h
+    let e = c.args in
+    c.loop-i.invariant.1 ∙ order_on e.a.now e.b.now c.loop-i.i c.loop-i-test.true h
 
-loop-holds : tie.Need-loop-init invariant-loop decreases-loop
+loop-holds : tie.Need-loop-i-init invariant-loop decreases-loop
 loop-holds c = (omega arith, refl)
 
-returns : tie.Need-returns invariant-loop decreases-loop
-returns c = sym (c.before.before.loop.invariant.1 ∙ order_longer _ _ _ c.before.loop-test.true c.if1.true)
+returns : tie.Need-returns-then-b-i invariant-loop decreases-loop
+returns c = sym (c.loop-i.invariant.1 ∙ order_longer _ _ _ c.loop-i-test.true c.if-b-i.true)
 
-returns-2 : tie.Need-returns-2 invariant-loop decreases-loop
+returns-2 : tie.Need-returns-then-x-y invariant-loop decreases-loop
 returns-2 c =
-    let at-loop-test = c.before.before.before.before in
-    sym (at_i at-loop-test c.before.before.before.if1.false ∙ by_less _ _ _ c.if2.true)
+    sym (at_i c.before.before.before.before c.if-b-i.false ∙ by_less _ _ _ c.if-x-y.true)
 
-returns-3 : tie.Need-returns-3 invariant-loop decreases-loop
+returns-3 : tie.Need-returns-then-y-x invariant-loop decreases-loop
 returns-3 c =
-    let at-if1 = c.before.before.before.before in
-    let at-loop-test = at-if1.before in
-    sym (at_i at-loop-test at-if1.if1.false ∙ by_greater _ _ _ c.if3.true)
+    sym (at_i c.before.before.before.before.before c.if-b-i.false ∙ by_greater _ _ _ c.if-y-x.true)
 
-loop-again : tie.Need-loop-preserved invariant-loop decreases-loop
+loop-again : tie.Need-loop-i-preserved invariant-loop decreases-loop
 loop-again c =
-    let at-if1 = c.before.before.before.before in
-    let at-loop-test = at-if1.before in
-    (omega arith, at_i at-loop-test at-if1.if1.false ∙ by_next _ _ _ c.if3.false c.before.if2.false)
+    (omega arith, at_i c.before.before.before.before.before c.if-b-i.false ∙ by_next _ _ _ c.if-y-x.false c.if-x-y.false)
 
-returns-4 : tie.Need-returns-4 invariant-loop decreases-loop
-returns-4 c = sym (c.before.before.loop.invariant.1 ∙ order_shorter _ _ _ c.before.loop-test.false c.if4.true)
+returns-4 : tie.Need-returns-then-i-b invariant-loop decreases-loop
+returns-4 c = sym (c.loop-i.invariant.1 ∙ order_shorter _ _ _ c.loop-i-test.false c.if-i-b.true)
 
-returns-5 : tie.Need-returns-5 invariant-loop decreases-loop
-returns-5 c = sym (c.before.before.loop.invariant.1 ∙ order_ended _ _ _ c.before.loop-test.false c.if4.false)
+returns-5 : tie.Need-returns invariant-loop decreases-loop
+returns-5 c = sym (c.loop-i.invariant.1 ∙ order_ended _ _ _ c.loop-i-test.false c.if-i-b.false)
 
-pub compare-ids-spec : {M : Type 1} → statement M
-compare-ids-spec =
+pub compare_ids_spec : {M : Type 1} → statement M
+compare_ids_spec =
     tie.close
     (tie.spec
     invariant-loop

@@ -18,47 +18,37 @@ rows c = tables c.args.ids.now c.args.epochs.now c.args.bytes.now
 abbrev asked : Removal → Answer Bool
 asked r = ok (has_bytes r)
 
-any-bytes-requires : tie.Need-any-bytes-requires
+any-bytes-requires : tie.Need-any_bytes-requires
 any-bytes-requires c κs =
-    let at-proper = c.before.before.before.before in
-    let start = at-proper.before.before.before in
-    (proper_sectioned start.args.removal.removed _ (rows start)
-    (sym at-proper.removal-is-proper.ensures ∙ c.before.before.before.if1.true)
-    c.before.removed2.given.1).room
+    (proper_sectioned c.args.removal.removed _ (rows c.before.before.before.before.before)
+    (sym c.removal_is_proper.ensures ∙ c.if-removal_is_proper.true)
+    c.in-Sectioned.is).room
 
-returns : tie.Need-returns
+returns : tie.Need-returns-in-None
 returns c =
-    let start = c.before.before.before.before.before.before in
-    answered_proper asked start.args.removal.removed (rows start) c.before.before.before.removal-is-proper.ensures
-    c.before.before.if1.true None c.enum_told.given.1
+    answered_proper asked c.args.removal.removed (rows c.before.before.before.before.before) c.removal_is_proper.ensures
+    c.if-removal_is_proper.true None c.in-None.is
 
-returns-2 : tie.Need-returns-2
+returns-2 : tie.Need-returns-in-Basic
 returns-2 c =
-    let at-if1 = c.before.before.before.before in
-    let at-proper = at-if1.before in
-    let start = at-proper.before.before.before in
     c.yes_or_no.ensures
-    ∙ answered_proper asked start.args.removal.removed (rows start) at-proper.removal-is-proper.ensures at-if1.if1.true
+    ∙ answered_proper asked c.args.removal.removed (rows c.before.before.before.before.before.before) c.removal_is_proper.ensures c.if-removal_is_proper.true
     (Basic _)
-    c.before.before.removed.given.1
+    c.in-Basic.is
 
-returns-3 : tie.Need-returns-3
+returns-3 : tie.Need-returns-in-Sectioned
 returns-3 c =
-    let at-if1 = c.before.before.before.before.before in
-    let at-proper = at-if1.before in
-    let start = at-proper.before.before.before in
-    c.yes-or-no2.ensures ∙ ap ok c.before.any-bytes.ensures
-    ∙ answered_proper asked start.args.removal.removed (rows start) at-proper.removal-is-proper.ensures at-if1.if1.true
+    c.yes_or_no-in-Sectioned.ensures ∙ ap ok c.any_bytes.ensures
+    ∙ answered_proper asked c.args.removal.removed (rows c.before.before.before.before.before.before.before) c.removal_is_proper.ensures c.if-removal_is_proper.true
     (Sectioned _)
-    c.before.before.before.removed2.given.1
+    c.in-Sectioned.is
 
-returns-4 : tie.Need-returns-4
+returns-4 : tie.Need-returns
 returns-4 c =
-    let start = c.before.before.before.before in
-    answered_bad asked start.args.removal.removed (rows start) c.before.removal-is-proper.ensures c.if1.false
+    answered_bad asked c.args.removal.removed (rows c.before.before.before.before) c.removal_is_proper.ensures c.if-removal_is_proper.false
 
-pub has-removal-spec : {M : Type 1} → statement M
-has-removal-spec =
+pub has_removal_spec : {M : Type 1} → statement M
+has_removal_spec =
     tie.close
     (tie.spec
     (λ c κs. search rules)

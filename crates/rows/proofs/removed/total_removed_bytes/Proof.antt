@@ -20,47 +20,38 @@ rows c = tables c.args.ids.now c.args.epochs.now c.args.bytes.now
 abbrev asked : Removal → Answer ℕ
 asked r = total_within (total r)
 
-total-rows-requires : tie.Need-total-rows-requires
+total-rows-requires : tie.Need-total_rows-requires
 total-rows-requires c κs =
-    let at-proper = c.before.before.before.before in
-    let start = at-proper.before.before.before in
-    (proper_sectioned start.args.removal.removed _ (rows start)
-    (sym at-proper.removal-is-proper.ensures ∙ c.before.before.before.if1.true)
-    c.before.removed2.given.1).room
+    (proper_sectioned c.args.removal.removed _ (rows c.before.before.before.before.before)
+    (sym c.removal_is_proper.ensures ∙ c.if-removal_is_proper.true)
+    c.in-Sectioned.is).room
 
-returns : tie.Need-returns
+returns : tie.Need-returns-in-None
 returns c =
-    let start = c.before.before.before.before.before.before in
     sym (within_fits 0 (omega arith))
-    ∙ answered_proper asked start.args.removal.removed (rows start) c.before.before.before.removal-is-proper.ensures
-    c.before.before.if1.true None c.enum_told.given.1
+    ∙ answered_proper asked c.args.removal.removed (rows c.before.before.before.before.before) c.removal_is_proper.ensures
+    c.if-removal_is_proper.true None c.in-None.is
 
-returns-2 : tie.Need-returns-2
+returns-2 : tie.Need-returns-in-Basic
 returns-2 c =
-    let at-proper = c.before.before.before.before in
-    let start = at-proper.before.before.before in
-    sym (within_fits _ (omega (arith, c.known-told.given)))
-    ∙ answered_proper asked start.args.removal.removed (rows start) at-proper.removal-is-proper.ensures
-    c.before.before.before.if1.true
-    (Basic _) c.before.removed.given.1
+    sym (within_fits _ (omega (arith, c.in-Basic.known_told-1-own.given)))
+    ∙ answered_proper asked c.args.removal.removed (rows c.before.before.before.before.before) c.removal_is_proper.ensures
+    c.if-removal_is_proper.true
+    (Basic _) c.in-Basic.is
 
-returns-3 : tie.Need-returns-3
+returns-3 : tie.Need-returns-in-Sectioned
 returns-3 c =
-    let at-if1 = c.before.before.before.before in
-    let at-proper = at-if1.before in
-    let start = at-proper.before.before.before in
-    c.total-rows.ensures
-    ∙ answered_proper asked start.args.removal.removed (rows start) at-proper.removal-is-proper.ensures at-if1.if1.true
+    c.total_rows.ensures
+    ∙ answered_proper asked c.args.removal.removed (rows c.before.before.before.before.before.before) c.removal_is_proper.ensures c.if-removal_is_proper.true
     (Sectioned _)
-    c.before.before.removed2.given.1
+    c.in-Sectioned.is
 
-returns-4 : tie.Need-returns-4
+returns-4 : tie.Need-returns
 returns-4 c =
-    let start = c.before.before.before.before in
-    answered_bad asked start.args.removal.removed (rows start) c.before.removal-is-proper.ensures c.if1.false
+    answered_bad asked c.args.removal.removed (rows c.before.before.before.before) c.removal_is_proper.ensures c.if-removal_is_proper.false
 
-pub total-removed-bytes-spec : {M : Type 1} → statement M
-total-removed-bytes-spec =
+pub total_removed_bytes_spec : {M : Type 1} → statement M
+total_removed_bytes_spec =
     tie.close
     (tie.spec
     (λ c κs. search rules)
