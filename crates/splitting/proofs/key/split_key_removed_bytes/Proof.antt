@@ -18,77 +18,63 @@ use Rattle.splitting.proofs.key.split_key_removed_bytes.Tie as tie
 
 -- the lent tables
 abbrev lent : tie.Start → Tables
-lent c = tables c.args.ids.now c.args.row-epochs.now c.args.row-bytes.now
+lent c = tables c.args.ids.now c.args.row_epochs.now c.args.row_bytes.now
 
 -- the flags are proper
-module _ (at-if1 : tie.Then1) where
+module _ (at-if1 : tie.Then-is_proper) where
   abbrev start : tie.Start
   start = at-if1.before.before.before.before.before.before
 
   tested : proper (holding start.args.flags start.args.epochs.now start.args.counts.now) ≡ true
-  tested = sym at-if1.before.is_proper.ensures ∙ at-if1.if1.taken
+  tested = sym at-if1.before.is_proper.ensures ∙ at-if1.if-is_proper.true
 
   abbrev our-id : List ℕ
   our-id = id_of (owner_of start.args.flags)
 
   -- so the outcome is what is placed, under an identifier that is ours
   then-split : (i : List ℕ) → i ≡ our-id
-      → placing_removal (key_part i start.args.flags.base start.args.removed-key-bytes) (lent start)
-      ≡ split_key (holding start.args.flags start.args.epochs.now start.args.counts.now) start.args.removed-key-bytes (lent start)
+      → placing_removal (key_part i start.args.flags.base start.args.removed_key_bytes) (lent start)
+      ≡ split_key (holding start.args.flags start.args.epochs.now start.args.counts.now) start.args.removed_key_bytes (lent start)
   then-split i e =
-      key_proper (holding start.args.flags start.args.epochs.now start.args.counts.now) start.args.removed-key-bytes
+      key_proper (holding start.args.flags start.args.epochs.now start.args.counts.now) start.args.removed_key_bytes
       (lent start) i e tested
 
 -- there are bytes
-some_bytes : (at-if2 : tie.Else2) → 0 < (start at-if2.before).args.removed-key-bytes
-some_bytes at-if2 = omega (arith, at-if2.if2.false)
+some_bytes : (at-if2 : tie.Else-removed_key_bytes-eq0) → 0 < (start at-if2.before).args.removed_key_bytes
+some_bytes at-if2 = omega (arith, at-if2.if-removed_key_bytes-eq0.false)
 
-returns : tie.Need-returns
+returns : tie.Need-returns-then-removed_key_bytes-eq0
 returns c =
-    let at-if1 = c.before in
-    let b = start at-if1 in
-    key_none (our-id at-if1) b.args.flags.base b.args.removed-key-bytes (lent b) c.if2.true ∙ then-split at-if1 (our-id at-if1) refl
+    let b = start c.before in
+    key_none (our-id c.before) b.args.flags.base b.args.removed_key_bytes (lent b) c.if-removed_key_bytes-eq0.true ∙ then-split c.before (our-id c.before) refl
 
-put-row-requires : tie.Need-put-row-requires
+put-row-requires : tie.Need-put_row-requires
 put-row-requires c κs =
-    let at-if3 = c.before.before.before.before.before in
-    let at-rows-fit = at-if3.before in
-    let at-if1 = at-rows-fit.before.before.before.before.before in
-    room_in_lem 1 (lent (start at-if1)) (sym at-rows-fit.rows_fit.ensures ∙ at-if3.if3.true)
+    room_in_lem 1 (lent (start c.before.before.before.before.before.before.before.before.before.before.before)) (sym c.rows_fit.ensures ∙ c.if-rows_fit.true)
 
-returns-2 : tie.Need-returns-2
+returns-2 : tie.Need-returns-then-rows_fit
 returns-2 c =
-    let at-put-row = c.before.before.before.before.before in
-    let at-owner-id = at-put-row.before.before.before.before.before in
-    let at-if3 = at-owner-id.before in
-    let at-rows-fit = at-if3.before in
-    let at-if2 = at-rows-fit.before.before.before.before in
-    let at-if1 = at-if2.before in
-    let b = start at-if1 in
-    key_put at-owner-id.owner-id.result.id b.args.flags.base b.args.removed-key-bytes (lent b) (some_bytes at-if2)
-    (sym at-rows-fit.rows_fit.ensures ∙ at-if3.if3.true) at-put-row.put-row.ensures
-    ∙ then-split at-if1 at-owner-id.owner-id.result.id
-    (ap (λ (m : MaybeOwner). m.id) at-owner-id.owner-id.ensures ∙ owner_bytes_lem (owner_of b.args.flags))
+    let b = start c.before.before.before.before.before.before.before.before.before.before.before.before.before.before.before.before.before in
+    key_put c.owner_id-owner.result.id b.args.flags.base b.args.removed_key_bytes (lent b) (some_bytes c.before.before.before.before.before.before.before.before.before.before.before.before.before.before.before.before)
+    (sym c.rows_fit.ensures ∙ c.if-rows_fit.true) c.put_row.ensures
+    ∙ then-split c.before.before.before.before.before.before.before.before.before.before.before.before.before.before.before.before.before c.owner_id-owner.result.id
+    (ap (λ (m : MaybeOwner). m.id) c.owner_id-owner.ensures ∙ owner_bytes_lem (owner_of b.args.flags))
 
-returns-3 : tie.Need-returns-3
+returns-3 : tie.Need-returns-then-is_proper
 returns-3 c =
-    let at-rows-fit = c.before in
-    let at-if2 = at-rows-fit.before.before.before.before in
-    let at-if1 = at-if2.before in
-    let b = start at-if1 in
-    key_short (our-id at-if1) b.args.flags.base b.args.removed-key-bytes (lent b) (some_bytes at-if2)
-    (sym at-rows-fit.rows_fit.ensures ∙ c.if3.false)
-    ∙ then-split at-if1 (our-id at-if1) refl
+    let b = start c.before.before.before.before.before.before in
+    key_short (our-id c.before.before.before.before.before.before) b.args.flags.base b.args.removed_key_bytes (lent b) (some_bytes c.before.before.before.before.before)
+    (sym c.rows_fit.ensures ∙ c.if-rows_fit.false)
+    ∙ then-split c.before.before.before.before.before.before (our-id c.before.before.before.before.before.before) refl
 
-returns-4 : tie.Need-returns-4
+returns-4 : tie.Need-returns
 returns-4 c =
-    let b = c.before.before.before.before.before.before in
-    let a = b.args in
-    key_bad (holding a.flags a.epochs.now a.counts.now) a.removed-key-bytes (lent b)
-    (sym c.before.is_proper.ensures ∙ c.if1.false)
+    let a = c.args in
+    key_bad (holding a.flags a.epochs.now a.counts.now) a.removed_key_bytes (lent c.before.before.before.before.before.before)
+    (sym c.is_proper.ensures ∙ c.if-is_proper.false)
 
-pub split-key-removed-bytes-spec : {M : Type 1} → statement M
-split-key-removed-bytes-spec =
+pub split_key_removed_bytes_spec : {M : Type 1} → statement M
+split_key_removed_bytes_spec =
     tie.close
     (tie.spec
     (λ c κs. search rules)

@@ -24,15 +24,15 @@ use Rattle.splitting.proofs.value.split_value_removed_bytes.Tie as tie
 
 -- the lent tables
 abbrev lent : tie.Start → Tables
-lent c = tables c.args.ids.now c.args.row-epochs.now c.args.row-bytes.now
+lent c = tables c.args.ids.now c.args.row_epochs.now c.args.row_bytes.now
 
 -- the flags are proper
-module _ (at-if1 : tie.Then1) where
+module _ (at-if1 : tie.Then-is_proper) where
   abbrev start : tie.Start
   start = at-if1.before.before.before.before.before.before
 
   tested : proper (holding start.args.flags start.args.epochs.now start.args.counts.now) ≡ true
-  tested = sym at-if1.before.is_proper.ensures ∙ at-if1.if1.taken
+  tested = sym at-if1.before.is_proper.ensures ∙ at-if1.if-is_proper.true
 
   good : IsProper start.args.flags start.args.epochs.now start.args.counts.now
   good = proper_inv start.args.flags start.args.epochs.now start.args.counts.now tested
@@ -45,100 +45,85 @@ module _ (at-if1 : tie.Then1) where
 
   -- so the outcome is what is placed, under an identifier that is ours
   then-split : (i : List ℕ) → i ≡ our-id
-      → leaving (lent start) (placed_split (length (sections records start.args.removed-value-bytes))
-      (value_part i start.args.flags.base records start.args.removed-value-bytes) (lent start))
-      ≡ split_value (holding start.args.flags start.args.epochs.now start.args.counts.now) start.args.removed-value-bytes
+      → leaving (lent start) (placed_split (length (sections records start.args.removed_value_bytes))
+      (value_part i start.args.flags.base records start.args.removed_value_bytes) (lent start))
+      ≡ split_value (holding start.args.flags start.args.epochs.now start.args.counts.now) start.args.removed_value_bytes
       (lent start)
   then-split i e =
-      value_proper (holding start.args.flags start.args.epochs.now start.args.counts.now) start.args.removed-value-bytes
+      value_proper (holding start.args.flags start.args.epochs.now start.args.counts.now) start.args.removed_value_bytes
       (lent start) i e tested
 
 -- what was counted
-module _ (at-rows-at-base : tie.After-rows-at-base) where
-  abbrev then-1 : tie.Then1
+module _ (at-rows-at-base : tie.After-rows_at_base) where
+  abbrev then-1 : tie.Then-is_proper
   then-1 = at-rows-at-base.before.before.before.before
 
   -- the records visited
-  counted : at-rows-at-base.before.visit.result.records ≡ length (sections (records then-1) (start then-1).args.removed-value-bytes)
-  counted = ap (λ (x : Visited). x.records) at-rows-at-base.before.visit.ensures
+  counted : at-rows-at-base.before.visit-visits.result.records ≡ length (sections (records then-1) (start then-1).args.removed_value_bytes)
+  counted = ap (λ (x : Visited). x.records) at-rows-at-base.before.visit-visits.ensures
 
   -- the rows: those, and the base's
-  long : at-rows-at-base.before.visit.result.records + at-rows-at-base.rows-at-base.result
-      ≡ length (split (start then-1).args.flags.base (records then-1) (start then-1).args.removed-value-bytes)
+  long : at-rows-at-base.before.visit-visits.result.records + at-rows-at-base.rows_at_base.result
+      ≡ length (split (start then-1).args.flags.base (records then-1) (start then-1).args.removed_value_bytes)
   long =
-      rows_told_lem (start then-1).args.flags.base (records then-1) (start then-1).args.removed-value-bytes at-rows-at-base.rows-at-base.result
-      at-rows-at-base.before.visit.result at-rows-at-base.before.visit.ensures at-rows-at-base.rows-at-base.ensures
+      rows_told_lem (start then-1).args.flags.base (records then-1) (start then-1).args.removed_value_bytes at-rows-at-base.rows_at_base.result
+      at-rows-at-base.before.visit-visits.result at-rows-at-base.before.visit-visits.ensures at-rows-at-base.rows_at_base.ensures
 
-add-rows : tie.Need-overflow-add-rows
+add-rows : tie.Need-overflow_add-rows
 add-rows c =
     let b = start (then-1 c) in
     omega (
       arith,
       counted c,
-      sections_short (records (then-1 c)) b.args.removed-value-bytes,
+      sections_short (records (then-1 c)) b.args.removed_value_bytes,
       proper_long (good (then-1 c)),
       (good (then-1 c)).epochs_long,
-      c.rows-at-base.ensures,
-      base_short c.before.visit.result.left,
-      b.good,
+      c.rows_at_base.ensures,
+      base_short c.visit-visits.result.left,
+      b.well_formed,
     )
 
-sectioned-storage-removal-requires : tie.Need-sectioned-storage-removal-requires
+sectioned-storage-removal-requires : tie.Need-sectioned_storage_removal-removal-requires
 sectioned-storage-removal-requires c κs =
-    let at-if2 = c.before.before.before.before.before.before.before in
-    let at-rows-fit = at-if2.before in
-    let at-rows-at-base = at-rows-fit.before.before.before.before in
-    let at-if1 = then-1 at-rows-at-base in (
+    let at-if1 = then-1 c.before.before.before.before.before.before.before.before.before.before.before.before in (
       (proper_above (good at-if1)).even,
-      (long at-rows-at-base, fits _ _ (lent (start at-if1)) refl (sym at-rows-fit.rows_fit.ensures ∙ at-if2.if2.true)),
+      (long c.before.before.before.before.before.before.before.before.before.before.before.before, fits _ _ (lent (start at-if1)) refl (sym c.rows_fit.ensures ∙ c.if-rows_fit.true)),
     )
 
-returns : tie.Need-returns
+returns : tie.Need-returns-then-rows_fit
 returns c =
-    let at-sectioned-storage-removal = c.before.before.before.before.before in
-    let at-owner-id = at-sectioned-storage-removal.before.before.before.before.before.before.before in
-    let at-if2 = at-owner-id.before in
-    let at-rows-fit = at-if2.before in
-    let at-rows-at-base = at-rows-fit.before.before.before.before in
-    let at-if1 = then-1 at-rows-at-base in
+    let at-if1 = then-1 c.before.before.before.before.before.before.before.before.before.before.before.before.before.before.before.before.before.before in
     let b = start at-if1 in
-    value_placed at-owner-id.owner-id.result.id b.args.flags.base (records at-if1) b.args.removed-value-bytes _ _ (lent b)
-    (long at-rows-at-base) (counted at-rows-at-base) (sym at-rows-fit.rows_fit.ensures ∙ at-if2.if2.true)
-    at-sectioned-storage-removal.sectioned-storage-removal.ensures
-    ∙ then-split at-if1 at-owner-id.owner-id.result.id
-    (ap (λ (m : MaybeOwner). m.id) at-owner-id.owner-id.ensures ∙ owner_bytes_lem (owner_of b.args.flags))
+    value_placed c.owner_id-owner.result.id b.args.flags.base (records at-if1) b.args.removed_value_bytes _ _ (lent b)
+    (long c.before.before.before.before.before.before.before.before.before.before.before.before.before.before.before.before.before.before) (counted c.before.before.before.before.before.before.before.before.before.before.before.before.before.before.before.before.before.before) (sym c.rows_fit.ensures ∙ c.if-rows_fit.true)
+    c.sectioned_storage_removal-removal.ensures
+    ∙ then-split at-if1 c.owner_id-owner.result.id
+    (ap (λ (m : MaybeOwner). m.id) c.owner_id-owner.ensures ∙ owner_bytes_lem (owner_of b.args.flags))
 
-returns-2 : tie.Need-returns-2
+returns-2 : tie.Need-returns-then-is_proper
 returns-2 c =
-    let at-rows-fit = c.before in
-    let at-rows-at-base = at-rows-fit.before.before.before.before in
-    let at-if1 = then-1 at-rows-at-base in
+    let at-if1 = then-1 c.before.before.before.before.before in
     let b = start at-if1 in
-    value_short (our-id at-if1) b.args.flags.base (records at-if1) b.args.removed-value-bytes _ _ (lent b)
-    (long at-rows-at-base) (counted at-rows-at-base) (sym at-rows-fit.rows_fit.ensures ∙ c.if2.false)
+    value_short (our-id at-if1) b.args.flags.base (records at-if1) b.args.removed_value_bytes _ _ (lent b)
+    (long c.before.before.before.before.before) (counted c.before.before.before.before.before) (sym c.rows_fit.ensures ∙ c.if-rows_fit.false)
     ∙ then-split at-if1 (our-id at-if1) refl
 
-returns-3 : tie.Need-returns-3
+returns-3 : tie.Need-returns
 returns-3 c =
-    let b = c.before.before.before.before.before.before in
-    let a = b.args in
-    value_bad (holding a.flags a.epochs.now a.counts.now) a.removed-value-bytes (lent b)
-    (sym c.before.is_proper.ensures ∙ c.if1.false)
+    let a = c.args in
+    value_bad (holding a.flags a.epochs.now a.counts.now) a.removed_value_bytes (lent c.before.before.before.before.before.before)
+    (sym c.is_proper.ensures ∙ c.if-is_proper.false)
 
-slice-aggregate-sectioned-storage-removal : tie.Need-slice-aggregate-sectioned-storage-removal
+slice-aggregate-sectioned-storage-removal : tie.Need-slice_bounds-sectioned_storage_removal-end
 slice-aggregate-sectioned-storage-removal c =
-    let at-if2 = c.before.before.before in
-    let at-rows-at-base = at-if2.before.before.before.before.before in
-    sym (length-take-le _ _ (good (then-1 at-rows-at-base)).epochs_long)
+    sym (length-take-le _ _ (good (then-1 c.before.before.before.before.before.before.before.before)).epochs_long)
 
-slice-aggregate-sectioned-storage-removal-2 : tie.Need-slice-aggregate-sectioned-storage-removal-2
+slice-aggregate-sectioned-storage-removal-2 : tie.Need-slice_bounds-sectioned_storage_removal-end-then-rows_fit
 slice-aggregate-sectioned-storage-removal-2 c =
-    let at-if2 = c.before.before.before.before in
-    let at-rows-at-base = at-if2.before.before.before.before.before in
-    sym (length-take-le _ _ (good (then-1 at-rows-at-base)).counts_long)
+    sym (length-take-le _ _ (good (then-1 c.before.before.before.before.before.before.before.before.before)).counts_long)
 
-pub split-value-removed-bytes-spec : {M : Type 1} → statement M
-split-value-removed-bytes-spec =
+pub split_value_removed_bytes_spec : {M : Type 1} → statement M
+split_value_removed_bytes_spec =
     tie.close
     (tie.spec
     (λ c κs. search rules)
