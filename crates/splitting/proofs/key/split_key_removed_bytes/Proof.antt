@@ -26,7 +26,7 @@ module _ (at-if1 : tie.Then-is_proper) where
   start = at-if1.before.before.before.before.before.before
 
   tested : proper (holding start.args.flags start.args.epochs.now start.args.counts.now) ≡ true
-  tested = sym at-if1.before.is_proper.ensures ∙ at-if1.if-is_proper.true
+  tested = sym at-if1.is_proper.ensures ∙ at-if1.if-is_proper.true
 
   abbrev our-id : List ℕ
   our-id = id_of (owner_of start.args.flags)
@@ -50,22 +50,22 @@ returns c =
 
 put-row-requires : tie.Need-put_row-requires
 put-row-requires c κs =
-    room_in_lem 1 (lent (start c.before.before.before.before.before.before.before.before.before.before.before)) (sym c.rows_fit.ensures ∙ c.if-rows_fit.true)
+    room_in_lem 1 (lent (start c.before.before.before.before.before.before.before.before)) (sym c.rows_fit.ensures ∙ c.if-rows_fit.true)
 
 returns-2 : tie.Need-returns-then-rows_fit
 returns-2 c =
-    let b = start c.before.before.before.before.before.before.before.before.before.before.before.before.before.before.before.before.before in
-    key_put c.owner_id-owner.result.id b.args.flags.base b.args.removed_key_bytes (lent b) (some_bytes c.before.before.before.before.before.before.before.before.before.before.before.before.before.before.before.before)
+    let b = start c.before.before.before.before.before.before.before.before.before.before.before.before.before.before in
+    key_put c.owner_id-owner.result.id b.args.flags.base b.args.removed_key_bytes (lent b) (some_bytes c.before.before.before.before.before.before.before.before.before.before.before.before.before)
     (sym c.rows_fit.ensures ∙ c.if-rows_fit.true) c.put_row.ensures
-    ∙ then-split c.before.before.before.before.before.before.before.before.before.before.before.before.before.before.before.before.before c.owner_id-owner.result.id
+    ∙ then-split c.before.before.before.before.before.before.before.before.before.before.before.before.before.before c.owner_id-owner.result.id
     (ap (λ (m : MaybeOwner). m.id) c.owner_id-owner.ensures ∙ owner_bytes_lem (owner_of b.args.flags))
 
 returns-3 : tie.Need-returns-then-is_proper
 returns-3 c =
-    let b = start c.before.before.before.before.before.before in
-    key_short (our-id c.before.before.before.before.before.before) b.args.flags.base b.args.removed_key_bytes (lent b) (some_bytes c.before.before.before.before.before)
+    let b = start c.before.before.before in
+    key_short (our-id c.before.before.before) b.args.flags.base b.args.removed_key_bytes (lent b) (some_bytes c.before.before)
     (sym c.rows_fit.ensures ∙ c.if-rows_fit.false)
-    ∙ then-split c.before.before.before.before.before.before (our-id c.before.before.before.before.before.before) refl
+    ∙ then-split c.before.before.before (our-id c.before.before.before) refl
 
 returns-4 : tie.Need-returns
 returns-4 c =

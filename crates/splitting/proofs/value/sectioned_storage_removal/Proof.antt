@@ -48,7 +48,7 @@ module _ (c : tie.Else-left-eq0 invariant-loop decreases-loop) where
 sub-k : tie.Need-overflow_sub-k invariant-loop decreases-loop
 sub-k c =
     let l = (turn c).loop-j in
-    (placing_room l.inv (min l.left (get_or (start (turn c)).args.counts.now (l.j - 1) 0 - minimum)) (entered c).loop-j-test.true
+    (placing_room l.invariant (min l.left (get_or (start (turn c)).args.counts.now (l.j - 1) 0 - minimum)) (entered c).loop-j-test.true
     (omega (arith, c.if-left-eq0.false)) refl).0
 
 -- it is known what the record gives

@@ -32,7 +32,7 @@ module _ (at-if1 : tie.Then-is_proper) where
   start = at-if1.before.before.before.before.before.before
 
   tested : proper (holding start.args.flags start.args.epochs.now start.args.counts.now) ≡ true
-  tested = sym at-if1.before.is_proper.ensures ∙ at-if1.if-is_proper.true
+  tested = sym at-if1.is_proper.ensures ∙ at-if1.if-is_proper.true
 
   good : IsProper start.args.flags start.args.epochs.now start.args.counts.now
   good = proper_inv start.args.flags start.args.epochs.now start.args.counts.now tested
@@ -56,18 +56,18 @@ module _ (at-if1 : tie.Then-is_proper) where
 -- what was counted
 module _ (at-rows-at-base : tie.After-rows_at_base) where
   abbrev then-1 : tie.Then-is_proper
-  then-1 = at-rows-at-base.before.before.before.before
+  then-1 = at-rows-at-base.before.before
 
   -- the records visited
-  counted : at-rows-at-base.before.visit-visits.result.records ≡ length (sections (records then-1) (start then-1).args.removed_value_bytes)
-  counted = ap (λ (x : Visited). x.records) at-rows-at-base.before.visit-visits.ensures
+  counted : at-rows-at-base.visit-visits.result.records ≡ length (sections (records then-1) (start then-1).args.removed_value_bytes)
+  counted = ap (λ (x : Visited). x.records) at-rows-at-base.visit-visits.ensures
 
   -- the rows: those, and the base's
-  long : at-rows-at-base.before.visit-visits.result.records + at-rows-at-base.rows_at_base.result
+  long : at-rows-at-base.visit-visits.result.records + at-rows-at-base.rows_at_base.result
       ≡ length (split (start then-1).args.flags.base (records then-1) (start then-1).args.removed_value_bytes)
   long =
       rows_told_lem (start then-1).args.flags.base (records then-1) (start then-1).args.removed_value_bytes at-rows-at-base.rows_at_base.result
-      at-rows-at-base.before.visit-visits.result at-rows-at-base.before.visit-visits.ensures at-rows-at-base.rows_at_base.ensures
+      at-rows-at-base.visit-visits.result at-rows-at-base.visit-visits.ensures at-rows-at-base.rows_at_base.ensures
 
 add-rows : tie.Need-overflow_add-rows
 add-rows c =
@@ -85,27 +85,27 @@ add-rows c =
 
 sectioned-storage-removal-requires : tie.Need-sectioned_storage_removal-removal-requires
 sectioned-storage-removal-requires c κs =
-    let at-if1 = then-1 c.before.before.before.before.before.before.before.before.before.before.before.before in (
+    let at-if1 = then-1 c.before.before.before.before.before.before.before in (
       (proper_above (good at-if1)).even,
-      (long c.before.before.before.before.before.before.before.before.before.before.before.before, fits _ _ (lent (start at-if1)) refl (sym c.rows_fit.ensures ∙ c.if-rows_fit.true)),
+      (long c.before.before.before.before.before.before.before, fits _ _ (lent (start at-if1)) refl (sym c.rows_fit.ensures ∙ c.if-rows_fit.true)),
     )
 
 returns : tie.Need-returns-then-rows_fit
 returns c =
-    let at-if1 = then-1 c.before.before.before.before.before.before.before.before.before.before.before.before.before.before.before.before.before.before in
+    let at-if1 = then-1 c.before.before.before.before.before.before.before.before.before.before.before.before.before in
     let b = start at-if1 in
     value_placed c.owner_id-owner.result.id b.args.flags.base (records at-if1) b.args.removed_value_bytes _ _ (lent b)
-    (long c.before.before.before.before.before.before.before.before.before.before.before.before.before.before.before.before.before.before) (counted c.before.before.before.before.before.before.before.before.before.before.before.before.before.before.before.before.before.before) (sym c.rows_fit.ensures ∙ c.if-rows_fit.true)
+    (long c.before.before.before.before.before.before.before.before.before.before.before.before.before) (counted c.before.before.before.before.before.before.before.before.before.before.before.before.before) (sym c.rows_fit.ensures ∙ c.if-rows_fit.true)
     c.sectioned_storage_removal-removal.ensures
     ∙ then-split at-if1 c.owner_id-owner.result.id
     (ap (λ (m : MaybeOwner). m.id) c.owner_id-owner.ensures ∙ owner_bytes_lem (owner_of b.args.flags))
 
 returns-2 : tie.Need-returns-then-is_proper
 returns-2 c =
-    let at-if1 = then-1 c.before.before.before.before.before in
+    let at-if1 = then-1 c.before.before in
     let b = start at-if1 in
     value_short (our-id at-if1) b.args.flags.base (records at-if1) b.args.removed_value_bytes _ _ (lent b)
-    (long c.before.before.before.before.before) (counted c.before.before.before.before.before) (sym c.rows_fit.ensures ∙ c.if-rows_fit.false)
+    (long c.before.before) (counted c.before.before) (sym c.rows_fit.ensures ∙ c.if-rows_fit.false)
     ∙ then-split at-if1 (our-id at-if1) refl
 
 returns-3 : tie.Need-returns
@@ -116,20 +116,20 @@ returns-3 c =
 
 slice-aggregate-sectioned-storage-removal : tie.Need-slice_bounds-sectioned_storage_removal-end
 slice-aggregate-sectioned-storage-removal c =
-    sym (length-take-le _ _ (good (then-1 c.before.before.before.before.before.before.before.before)).epochs_long)
+    sym (length-take-le _ _ (good (then-1 c.before.before.before.before)).epochs_long)
 
 slice-aggregate-sectioned-storage-removal-2 : tie.Need-slice_bounds-sectioned_storage_removal-end-then-rows_fit
 slice-aggregate-sectioned-storage-removal-2 c =
-    sym (length-take-le _ _ (good (then-1 c.before.before.before.before.before.before.before.before.before)).counts_long)
+    sym (length-take-le _ _ (good (then-1 c.before.before.before.before)).counts_long)
 
 pub split_value_removed_bytes_spec : {M : Type 1} → statement M
 split_value_removed_bytes_spec =
     tie.close
     (tie.spec
     (λ c κs. search rules)
-    (λ c. sym (length-take-le _ _ (good c.before).epochs_long))
-    (λ c. sym (length-take-le _ _ (good c.before.before).counts_long))
-    (λ c κs. (proper_above (good c.before.before)).even)
+    (λ c. sym (length-take-le _ _ (good c).epochs_long))
+    (λ c. sym (length-take-le _ _ (good c).counts_long))
+    (λ c κs. (proper_above (good c)).even)
     (λ c κs. search rules)
     add-rows
     (λ c κs. search rules)
