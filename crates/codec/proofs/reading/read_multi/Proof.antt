@@ -10,68 +10,63 @@ use Rattle.codec_spec.proofs.Placing.{multi_faulty, multi_none, multi_some}
 use Rattle.codec.proofs.reading.read_multi.Statement.{statement}
 use Rattle.codec.proofs.reading.read_multi.Tie as tie
 
-returns : tie.Need-returns
+returns : tie.Need-returns-then-src-size
 returns c =
-    let s = c.before.before.before.before.before.before in
-    let a = s.args in
+    let a = c.args in
     left_refused (read_as a.kind a.src.now) a.epochs.now a.counts.now c.refused.result _ (length a.src.now)
     c.refused.ensures
-    (multi_short a.kind a.src.now s.requires (omega (arith, c.before.before.head_size_lem.ensures, c.before.if1.true)))
+    (multi_short a.kind a.src.now c.requires (omega (arith, c.head_size-size.ensures, c.if-src-size.true)))
 
 -- the blocks are read, and from there back: the base was read, the head is there, its size, the start
-module _ (c : tie.After-read-blocks) where
-  abbrev based : tie.After-base-in
+module _ (c : tie.After-read_blocks) where
+  abbrev based : tie.After-base_in-base
   based = c.before.before.before
 
-  abbrev long : tie.Else1
+  abbrev long : tie.Else-src-size
   long = based.before
 
-  abbrev sized : tie.After-head-size
+  abbrev sized : tie.After-head_size-size
   sized = long.before
 
   abbrev start : tie.Start
   start = sized.before.before.before.before
 
 -- they have records
-abbrev read : tie.After-n → tie.After-read-blocks
-read c = c.before.before.before.before.before.before
+abbrev read : tie.In-Records → tie.After-read_blocks
+read c = c.before.before.before.before.before
 
-returns-2 : tie.Need-returns-2
+returns-2 : tie.Need-returns-then-n-eq0
 returns-2 c =
-    let n = c.before.before.before in
-    let r = read n in
+    let r = read c.before.before in
     let a = (start r).args in
-    multi_none a.kind a.src.now a.epochs.now a.counts.now _ _ _ _ (sized r).head_size_lem.ensures (based r).base-in.ensures
-    (start r).pre (long r).if1.left _ r.read-blocks.ensures c.refused3.result _ n.n.given.1 c.before.if2.true
-    c.refused3.ensures
+    multi_none a.kind a.src.now a.epochs.now a.counts.now _ _ _ _ (sized r).head_size-size.ensures (based r).base_in-base.ensures
+    (start r).requires (long r).if-src-size.false _ r.read_blocks.ensures c.refused-then-n-eq0.result _ c.in-Records.is c.if-n-eq0.true
+    c.refused-then-n-eq0.ensures
 
-head-in-requires : tie.Need-head-in-requires
+head-in-requires : tie.Need-head_in-head-requires
 head-in-requires c κs =
-    let n = c.before.before in
-    let r = read n in (
-      omega (arith, (sized r).head_size_lem.ensures, (long r).if1.left),
-      agrees_multi (start r).args.kind n.n.given.0.0 (start r).pre (omega (arith, c.if2.false)),
+    let r = read c.before in (
+      omega (arith, (sized r).head_size-size.ensures, (long r).if-src-size.false),
+      agrees_multi (start r).args.kind c.in-Records.n (start r).requires (omega (arith, c.if-n-eq0.false)),
     )
 
-returns-3 : tie.Need-returns-3
+returns-3 : tie.Need-returns-in-Faulty
 returns-3 c =
-    let r = c.before.before.before.before.before.before.before.before in
-    let a = (start r).args in
-    multi_faulty a.kind a.src.now a.epochs.now a.counts.now _ _ _ _ (sized r).head_size_lem.ensures (based r).base-in.ensures
-    (start r).requires (long r).if1.false _ r.read-blocks.ensures c.refused2.result _ _ c.before.before.refusal.given.1
-    c.refused2.ensures
+    let a = (start c.before.before.before.before.before.before).args in
+    multi_faulty a.kind a.src.now a.epochs.now a.counts.now _ _ _ _ (sized c.before.before.before.before.before.before).head_size-size.ensures (based c.before.before.before.before.before.before).base_in-base.ensures
+    (start c.before.before.before.before.before.before).requires (long c.before.before.before.before.before.before).if-src-size.false _ c.read_blocks.ensures c.refused-in-Faulty.result _ _ c.in-Faulty.is
+    c.refused-in-Faulty.ensures
 
-returns-4 : tie.Need-returns-4
+returns-4 : tie.Need-returns-else-n-eq0
 returns-4 c =
-    let n = c.before.before.before.before in
-    let r = read n in
+    let r = read c.before.before.before in
     let a = (start r).args in
-    multi_some a.kind a.src.now a.epochs.now a.counts.now _ _ _ _ (sized r).head_size_lem.ensures (based r).base-in.ensures
-    (start r).pre (long r).if1.left _ r.read-blocks.ensures c.present.result _ _ n.n.given.1 c.before.before.if2.false
-    c.before.head_in.ensures c.present.ensures
+    multi_some a.kind a.src.now a.epochs.now a.counts.now _ _ _ _ (sized r).head_size-size.ensures (based r).base_in-base.ensures
+    (start r).requires (long r).if-src-size.false _ r.read_blocks.ensures c.present.result _ _ c.in-Records.is c.if-n-eq0.false
+    c.head_in-head.ensures c.present.ensures
 
-pub read-multi-spec : {M : Type 1} → statement M
-read-multi-spec =
+pub read_multi_spec : {M : Type 1} → statement M
+read_multi_spec =
     tie.close
     (tie.spec
     (λ c κs. search rules)

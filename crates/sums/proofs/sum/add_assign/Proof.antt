@@ -12,45 +12,33 @@ abbrev ours : tie.Start → Tables
 ours c = tables c.args.ids.now c.args.epochs.now c.args.bytes.now
 
 abbrev rhs : tie.Start → Tables
-rhs c = tables c.args.rhs-ids.now c.args.rhs-epochs.now c.args.rhs-bytes.now
+rhs c = tables c.args.rhs_ids.now c.args.rhs_epochs.now c.args.rhs_bytes.now
 
-returns : tie.Need-returns
+returns : tie.Need-returns-then-removal_is_proper-2
 returns c =
-    let at-add-proper = c.before.before.before.before.before in
-    let at-if2 = at-add-proper.before.before.before.before in
-    let at_right = at-if2.before in
-    let at-if1 = at_right.before in
-    let at_left = at-if1.before in
-    let b = at_left.before.before.before.before.before.before.before.before in
-    at-add-proper.add-proper.ensures
-    ∙ summed_proper b.args.version (holding_rows b.args.lhs.removed (ours b)) (holding_rows b.args.rhs.removed (rhs b))
-    (sym at_left.removal-is-proper.ensures ∙ at-if1.if1.true)
-    (sym at_right.removal-is-proper2.ensures ∙ at-if2.if2.true)
+    c.add_proper.ensures
+    ∙ summed_proper c.args.version (holding_rows c.args.lhs.removed (ours c.before.before.before.before.before.before.before.before.before.before.before.before.before.before.before.before.before)) (holding_rows c.args.rhs.removed (rhs c.before.before.before.before.before.before.before.before.before.before.before.before.before.before.before.before.before))
+    (sym c.removal_is_proper.ensures ∙ c.if-removal_is_proper.true)
+    (sym c.removal_is_proper-then-removal_is_proper.ensures ∙ c.if-removal_is_proper-2.true)
 
-returns-2 : tie.Need-returns-2
+returns-2 : tie.Need-returns-then-removal_is_proper
 returns-2 c =
-    let b = c.before.before.before.before.before.before.before.before.before.before.before in
-    summed_right_bad b.args.version (holding_rows b.args.lhs.removed (ours b)) (holding_rows b.args.rhs.removed (rhs b))
-    (sym c.before.removal-is-proper2.ensures ∙ c.if2.false)
+    summed_right_bad c.args.version (holding_rows c.args.lhs.removed (ours c.before.before.before.before.before.before.before.before)) (holding_rows c.args.rhs.removed (rhs c.before.before.before.before.before.before.before.before))
+    (sym c.removal_is_proper-then-removal_is_proper.ensures ∙ c.if-removal_is_proper-2.false)
 
-returns-3 : tie.Need-returns-3
+returns-3 : tie.Need-returns
 returns-3 c =
-    let b = c.before.before.before.before.before.before.before.before.before in
-    summed_left_bad b.args.version (holding_rows b.args.lhs.removed (ours b)) (holding_rows b.args.rhs.removed (rhs b))
-    (sym c.before.removal-is-proper.ensures ∙ c.if1.false)
+    summed_left_bad c.args.version (holding_rows c.args.lhs.removed (ours c.before.before.before.before.before.before)) (holding_rows c.args.rhs.removed (rhs c.before.before.before.before.before.before))
+    (sym c.removal_is_proper.ensures ∙ c.if-removal_is_proper.false)
 
-pub add-assign-spec : {M : Type 1} → statement M
-add-assign-spec =
+pub add_assign_spec : {M : Type 1} → statement M
+add_assign_spec =
     tie.close
     (tie.spec
     (λ c κs. search rules)
     (λ c κs. search rules)
-    (λ c κs.
-    let at_right = c.before.before.before.before in
-    let at-if1 = at_right.before in
-    let at_left = at-if1.before in
-    let right = sym at_right.removal-is-proper2.ensures ∙ c.before.before.before.if2.true in
-    (sym at_left.removal-is-proper.ensures ∙ at-if1.if1.true, right))
+    (λ c κs. let right = sym c.removal_is_proper-then-removal_is_proper.ensures ∙ c.if-removal_is_proper-2.true in
+    (sym c.removal_is_proper.ensures ∙ c.if-removal_is_proper.true, right))
     (λ c. search rules)
     (λ c. search rules)
     (λ c. search rules)

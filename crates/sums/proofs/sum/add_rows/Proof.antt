@@ -13,44 +13,34 @@ abbrev ours : tie.Start → Tables
 ours c = tables c.args.ids.now c.args.epochs.now c.args.bytes.now
 
 abbrev rhs : tie.Start → Tables
-rhs c = tables c.args.rhs-ids.now c.args.rhs-epochs.now c.args.rhs-bytes.now
+rhs c = tables c.args.rhs_ids.now c.args.rhs_epochs.now c.args.rhs_bytes.now
 
-join-in-place-requires : tie.Need-join-in-place-requires
-join-in-place-requires c κs =
-    let at-rows-fit = c.before.before.before.before in
-    let at-count-joined = at-rows-fit.before.before.before.before in
-    let b = at-count-joined.before.before.before.before.before.before.before.before in (
-      b.requires.0,
-      (
-        b.requires.1,
-        (
-          at-count-joined.count-joined.ensures,
-          room_in_lem _ (ours b)
-              (sym at-rows-fit.rows_fit.ensures ∙ c.before.before.before.if1.true),
-        ),
-      ),
-    )
+join-in-place-requires : tie.Need-join_in_place-requires
+join-in-place-requires c κs = (
+  c.requires.0,
+  (
+    c.requires.1,
+    (
+      c.count_joined-count.ensures,
+      room_in_lem _ (ours c.before.before.before.before.before.before.before.before.before.before)
+          (sym c.rows_fit.ensures ∙ c.if-rows_fit.true),
+    ),
+  ),
+)
 
-returns : tie.Need-returns
+returns : tie.Need-returns-then-rows_fit
 returns c =
-    let at-join-in-place = c.before.before.before.before.before in
-    let at-if1 = at-join-in-place.before.before.before.before in
-    let at-rows-fit = at-if1.before in
-    let at-count-joined = at-rows-fit.before.before.before.before in
-    let b = at-count-joined.before.before.before.before.before.before.before.before in
-    placing_fits (joined (rows_in b.args.n (ours b)) (rows_in b.args.m (rhs b))) _ (ours b) at-count-joined.count-joined.ensures _
-    (sym at-rows-fit.rows_fit.ensures ∙ at-if1.if1.true)
-    at-join-in-place.join-in-place.ensures
+    placing_fits (joined (rows_in c.args.n (ours c.before.before.before.before.before.before.before.before.before.before.before.before.before.before.before.before)) (rows_in c.args.m (rhs c.before.before.before.before.before.before.before.before.before.before.before.before.before.before.before.before))) _ (ours c.before.before.before.before.before.before.before.before.before.before.before.before.before.before.before.before) c.count_joined-count.ensures _
+    (sym c.rows_fit.ensures ∙ c.if-rows_fit.true)
+    c.join_in_place.ensures
 
-returns-2 : tie.Need-returns-2
+returns-2 : tie.Need-returns
 returns-2 c =
-    let at-count-joined = c.before.before.before.before.before in
-    let b = at-count-joined.before.before.before.before.before.before.before.before in
-    placing_short (joined (rows_in b.args.n (ours b)) (rows_in b.args.m (rhs b))) _ (ours b) at-count-joined.count-joined.ensures
-    (sym c.before.rows_fit.ensures ∙ c.if1.false)
+    placing_short (joined (rows_in c.args.n (ours c.before.before.before.before.before.before.before)) (rows_in c.args.m (rhs c.before.before.before.before.before.before.before))) _ (ours c.before.before.before.before.before.before.before) c.count_joined-count.ensures
+    (sym c.rows_fit.ensures ∙ c.if-rows_fit.false)
 
-pub add-rows-spec : {M : Type 1} → statement M
-add-rows-spec =
+pub add_rows_spec : {M : Type 1} → statement M
+add_rows_spec =
     tie.close
     (tie.spec
     (λ c κs. search rules)

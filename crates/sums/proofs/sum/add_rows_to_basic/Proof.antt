@@ -20,76 +20,71 @@ module _ (s : tie.Start) where
   ours = tables s.args.ids.now s.args.epochs.now s.args.bytes.now
 
   abbrev rhs : Tables
-  rhs = tables s.args.rhs-ids.now s.args.rhs-epochs.now s.args.rhs-bytes.now
+  rhs = tables s.args.rhs_ids.now s.args.rhs_epochs.now s.args.rhs_bytes.now
 
   abbrev rows : List Row
   rows = rows_in s.args.m rhs
 
 -- it is told whether they fit, and from there back: they were counted, the start
-module _ (c : tie.After-rows-fit) where
-  abbrev counted : tie.After-count-joined
-  counted = c.before.before.before.before
+module _ (c : tie.After-rows_fit) where
+  abbrev counted : tie.After-count_joined-count
+  counted = c.before
 
   abbrev start : tie.Start
   start = counted.before.before.before.before.before.before.before.before
 
   abbrev n : ℕ
-  n = start.args.removed-bytes
+  n = start.args.removed_bytes
 
-  count : counted.count-joined.result ≡ length (add_row (unknown n) (rows start))
-  count = counted.count-joined.ensures ∙ ap (length {A = Row}) (one_joined n start.pre)
+  count : counted.count_joined-count.result ≡ length (add_row (unknown n) (rows start))
+  count = counted.count_joined-count.ensures ∙ ap (length {A = Row}) (one_joined n start.requires)
 
 -- they do
-module _ (c : tie.Then1) where
-  abbrev told : tie.After-rows-fit
+module _ (c : tie.Then-rows_fit) where
+  abbrev told : tie.After-rows_fit
   told = c.before
 
-  room : Room (counted told).count-joined.result (ours (start told))
-  room = room_in_lem _ (ours (start told)) (sym told.rows_fit.ensures ∙ c.if1.true)
+  room : Room (counted told).count_joined-count.result (ours (start told))
+  room = room_in_lem _ (ours (start told)) (sym told.rows_fit.ensures ∙ c.if-rows_fit.true)
 
-join-in-place-requires : tie.Need-join-in-place-requires
+join-in-place-requires : tie.Need-join_in_place-requires
 join-in-place-requires c κs =
-    let f = c.before.before.before in
-    let s = start (told f) in
-    let l = sym (ap (length {A = Row}) (joined_nothing (rows s)) ∙ length_rows s.pre.room) in
-    (proper_none _, (s.pre, (l, first_room (n (told f)) s.pre (counted (told f)).count-joined.ensures (room f))))
+    let s = start (told c.before.before.before) in
+    let l = sym (ap (length {A = Row}) (joined_nothing (rows s)) ∙ length_rows s.requires.room) in
+    (proper_none _, (s.requires, (l, first_room (n (told c.before.before.before)) s.requires (counted (told c.before.before.before)).count_joined-count.ensures (room c.before.before.before))))
 
 -- the rows are put into ours
-abbrev fits : tie.After-join-in-place → tie.Then1
+abbrev fits : tie.After-join_in_place → tie.Then-rows_fit
 fits c = c.before.before.before.before
 
-join-in-place-requires-2 : tie.Need-join-in-place-requires-2
+join-in-place-requires-2 : tie.Need-join_in_place-requires-then-rows_fit
 join-in-place-requires-2 c κs =
-    let put = c.before.before.before.before.before.before.before.before.before.before.before in
-    let t = told (fits put) in
-    let k = (counted t).count-joined.ensures in
-    let r = room (fits put) in
-    let p = (start t).pre in
-    let first = put.join-in-place.ensures in
+    let t = told (fits c.before.before.before.before.before.before.before.before.before.before.before) in
+    let k = (counted t).count_joined-count.ensures in
+    let r = room (fits c.before.before.before.before.before.before.before.before.before.before.before) in
+    let p = (start t).requires in
+    let first = c.join_in_place.ensures in
     (then_proper (n t) p k r first, (one_proper (n t), (then_counted (n t) p k r first, then_room (n t) p k r first)))
 
-returns : tie.Need-returns
+returns : tie.Need-returns-then-rows_fit
 returns c =
-    let joined = c.before.before.before.before.before in
-    let put = joined.before.before.before.before.before.before.before.before.before.before.before.before in
-    let f = fits put in
+    let f = fits c.before.before.before.before.before.before.before.before.before.before.before.before.before.before.before.before.before in
     let t = told f in
-    placing_fits (add_row (unknown (n t)) (rows (start t))) _ (ours (start t)) (count t) _ (sym t.rows_fit.ensures ∙ f.if1.taken)
-    (then_over (n t) (start t).pre (counted t).count-joined.ensures (room f) put.join-in-place.ensures joined.join-in-place2.ensures)
+    placing_fits (add_row (unknown (n t)) (rows (start t))) _ (ours (start t)) (count t) _ (sym t.rows_fit.ensures ∙ f.if-rows_fit.true)
+    (then_over (n t) (start t).requires (counted t).count_joined-count.ensures (room f) c.join_in_place.ensures c.join_in_place-then-rows_fit.ensures)
 
-returns-2 : tie.Need-returns-2
+returns-2 : tie.Need-returns
 returns-2 c =
-    let t = c.before in
-    placing_short (add_row (unknown (n t)) (rows (start t))) _ (ours (start t)) (count t) (sym t.rows_fit.ensures ∙ c.if1.false)
+    placing_short (add_row (unknown (n c.before)) (rows (start c.before))) _ (ours (start c.before)) (count c.before) (sym c.rows_fit.ensures ∙ c.if-rows_fit.false)
 
-pub add-rows-to-basic-spec : {M : Type 1} → statement M
-add-rows-to-basic-spec =
+pub add_rows_to_basic_spec : {M : Type 1} → statement M
+add_rows_to_basic_spec =
     tie.close
     (tie.spec
     (λ c. search rules)
     (λ c. search rules)
     (λ c. search rules)
-    (λ c κs. let s = c.before.before.before.before.before.before.before in (s.requires, one_proper s.args.removed-bytes))
+    (λ c κs. (c.requires, one_proper c.args.removed_bytes))
     (λ c κs. search rules)
     join-in-place-requires
     (λ c. search rules)

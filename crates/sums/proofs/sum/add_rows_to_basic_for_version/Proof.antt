@@ -16,54 +16,44 @@ use Rattle.sums.proofs.sum.add_rows_to_basic_for_version.Tie as tie
 -- of what is given: the right one's tables, and what rows leave in ours
 module _ (s : tie.Start) where
   abbrev rhs : Tables
-  rhs = tables s.args.rhs-ids.now s.args.rhs-epochs.now s.args.rhs-bytes.now
+  rhs = tables s.args.rhs_ids.now s.args.rhs_epochs.now s.args.rhs_bytes.now
 
   abbrev left : List Row → RemovalAfter
   left l = placing_removal (sectioned l) (tables s.args.ids.now s.args.epochs.now s.args.bytes.now)
 
-returns : tie.Need-returns
+returns : tie.Need-returns-then-version-gt0
 returns c =
-    let added = c.before.before.before.before.before in
-    let later = added.before.before.before.before in
-    let s = later.before.before.before.before.before in
-    added.add-rows-to-basic.ensures ∙ ap (left s) (sym (basic_later s.args.version s.args.removed-bytes _ later.if1.true))
+    c.add_rows_to_basic.ensures ∙ ap (left c.before.before.before.before.before.before.before.before.before.before.before.before.before.before) (sym (basic_later c.args.version c.args.removed_bytes _ c.if-version-gt0.true))
 
 -- at version 0 the rows that are lost are counted
-module _ (c : tie.After-count-lost) where
-  abbrev first : tie.Else1
+module _ (c : tie.After-count_lost-lost) where
+  abbrev first : tie.Else-version-gt0
   first = c.before
 
   abbrev start : tie.Start
   start = first.before.before.before.before.before
 
-returns-2 : tie.Need-returns-2
+returns-2 : tie.Need-returns-then-lost-eq0
 returns-2 c =
-    let added = c.before.before.before.before.before in
-    let made = added.before.before.before.before in
-    let l = made.before in
-    let a = (start l).args in
-    added.add-rows-to-basic2.ensures
-    ∙ ap (left (start l)) (sym (basic_made a.version a.removed-bytes l.count-lost.ensures (omega (arith, made.if2.true))))
+    let a = (start c.before.before.before.before.before.before.before.before.before.before).args in
+    c.add_rows_to_basic-then-lost-eq0.ensures
+    ∙ ap (left (start c.before.before.before.before.before.before.before.before.before.before)) (sym (basic_made a.version a.removed_bytes c.count_lost-lost.ensures (omega (arith, c.if-lost-eq0.true))))
 
-add-rows-requires : tie.Need-add-rows-requires
+add-rows-requires : tie.Need-add_rows-requires
 add-rows-requires c κs =
-    let l = c.before.before.before.before.before.before.before in
-    (proper_none _, part_proper _ _ (rhs (start l)) l.count-lost.ensures.within (start l).requires)
+    (proper_none _, part_proper _ _ (rhs (start c.before.before.before.before.before.before.before)) c.count_lost-lost.ensures.within (start c.before.before.before.before.before.before.before).requires)
 
-returns-3 : tie.Need-returns-3
+returns-3 : tie.Need-returns
 returns-3 c =
-    let added = c.before.before.before.before.before in
-    let lost = added.before.before.before.before.before.before.before in
-    let l = lost.before in
-    let a = (start l).args in
-    let n = l.count-lost.ensures in
-    added.add-rows.ensures
-    ∙ ap (left (start l))
-    (joined_nothing _ ∙ part_rows _ _ (rhs (start l)) n.within
-    ∙ sym (basic_lost a.version a.removed-bytes n (omega (arith, (first l).if1.false)) (omega (arith, lost.if2.false))))
+    let a = (start c.before.before.before.before.before.before.before.before.before.before.before.before.before).args in
+    let n = c.count_lost-lost.ensures in
+    c.add_rows.ensures
+    ∙ ap (left (start c.before.before.before.before.before.before.before.before.before.before.before.before.before))
+    (joined_nothing _ ∙ part_rows _ _ (rhs (start c.before.before.before.before.before.before.before.before.before.before.before.before.before)) n.within
+    ∙ sym (basic_lost a.version a.removed_bytes n (omega (arith, (first c.before.before.before.before.before.before.before.before.before.before.before.before.before).if-version-gt0.false)) (omega (arith, c.if-lost-eq0.false))))
 
-pub add-rows-to-basic-for-version-spec : {M : Type 1} → statement M
-add-rows-to-basic-for-version-spec =
+pub add_rows_to_basic_for_version_spec : {M : Type 1} → statement M
+add_rows_to_basic_for_version_spec =
     tie.close
     (tie.spec
     (λ c κs. search rules)

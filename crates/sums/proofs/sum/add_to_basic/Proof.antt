@@ -19,39 +19,29 @@ abbrev ours : tie.Start → Tables
 ours c = tables c.args.ids.now c.args.epochs.now c.args.bytes.now
 
 abbrev rhs : tie.Start → Tables
-rhs c = tables c.args.rhs-ids.now c.args.rhs-epochs.now c.args.rhs-bytes.now
+rhs c = tables c.args.rhs_ids.now c.args.rhs_epochs.now c.args.rhs_bytes.now
 
 -- what is left where the right state is y
 abbrev left : tie.Start → Removed → RemovalAfter
-left c y = placing_removal (sum c.args.version (basic c.args.removed-bytes) (removal_in y (rhs c))) (ours c)
+left c y = placing_removal (sum c.args.version (basic c.args.removed_bytes) (removal_in y (rhs c))) (ours c)
 
-returns-2 : tie.Need-returns-2
+returns-2 : tie.Need-returns-in-Basic
 returns-2 c =
-    let b = c.before.before.before.before.before.before.before.before in
-    ap (λ (n : ℕ). done (Basic n) (ours b)) c.saturating-add.ensures ∙ placing_basic (ours b) _ ∙ ap (left b)
-    (sym c.before.before.rhs.given.1)
+    ap (λ (n : ℕ). done (Basic n) (ours c.before.before.before.before.before.before)) c.saturating_add.ensures ∙ placing_basic (ours c.before.before.before.before.before.before) _ ∙ ap (left c.before.before.before.before.before.before)
+    (sym c.in-Basic.is)
 
-pub add-to-basic-spec : {M : Type 1} → statement M
-add-to-basic-spec =
+pub add_to_basic_spec : {M : Type 1} → statement M
+add_to_basic_spec =
     tie.close
     (tie.spec
     (λ c. search rules)
     (λ c. search rules)
     (λ c κs. search rules)
     (λ c. search rules)
-    (λ c κs.
-    let at-rhs2 = c.before.before.before.before in
-    let start = at-rhs2.before.before.before.before.before.before in
-    proper_sectioned start.args.rhs _ (rhs start) start.requires at-rhs2.rhs2.given.1)
-    (λ c.
-    let start = c.before.before.before.before.before.before in
-    placing_basic (ours start) _ ∙ ap (left start) (sym c.enum_told.given.1))
+    (λ c κs. proper_sectioned c.args.rhs _ (rhs c.before.before.before.before.before.before.before.before) c.requires c.in-Sectioned.is)
+    (λ c. placing_basic (ours c.before.before.before.before.before) _ ∙ ap (left c.before.before.before.before.before) (sym c.in-None.is))
     returns-2
     (λ c. search rules)
     (λ c. search rules)
     (λ c. search rules)
-    (λ c.
-    let at-add-rows-to-basic-for-version = c.before.before.before.before.before in
-    let at-rhs2 = at-add-rows-to-basic-for-version.before.before.before.before.before in
-    let start = at-rhs2.before.before.before.before.before.before in
-    at-add-rows-to-basic-for-version.add-rows-to-basic-for-version.ensures ∙ ap (left start) (sym at-rhs2.rhs2.given.1)))
+    (λ c. c.add_rows_to_basic_for_version.ensures ∙ ap (left c.before.before.before.before.before.before.before.before.before.before.before.before.before.before) (sym c.in-Sectioned.is)))

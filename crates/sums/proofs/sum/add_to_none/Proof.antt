@@ -19,37 +19,27 @@ abbrev ours : tie.Start → Tables
 ours c = tables c.args.ids.now c.args.epochs.now c.args.bytes.now
 
 abbrev rhs : tie.Start → Tables
-rhs c = tables c.args.rhs-ids.now c.args.rhs-epochs.now c.args.rhs-bytes.now
+rhs c = tables c.args.rhs_ids.now c.args.rhs_epochs.now c.args.rhs_bytes.now
 
 -- what is left where the right state is y
 abbrev left : tie.Start → Removed → RemovalAfter
 left c y = placing_removal (sum c.args.version nothing (removal_in y (rhs c))) (ours c)
 
-returns-3 : tie.Need-returns-3
+returns-3 : tie.Need-returns-in-Sectioned
 returns-3 c =
-    let at-add-rows = c.before.before.before.before.before in
-    let at-rhs2 = at-add-rows.before.before.before.before.before in
-    let b = at-rhs2.before.before.before.before.before.before in
-    at-add-rows.add-rows.ensures ∙ ap (λ (l : List Row). placing_removal (sectioned l) (ours b)) (joined_nothing _) ∙ ap (left b)
-    (sym at-rhs2.rhs2.given.1)
+    c.add_rows.ensures ∙ ap (λ (l : List Row). placing_removal (sectioned l) (ours c.before.before.before.before.before.before.before.before.before.before.before.before.before.before)) (joined_nothing _) ∙ ap (left c.before.before.before.before.before.before.before.before.before.before.before.before.before.before)
+    (sym c.in-Sectioned.is)
 
-pub add-to-none-spec : {M : Type 1} → statement M
-add-to-none-spec =
+pub add_to_none_spec : {M : Type 1} → statement M
+add_to_none_spec =
     tie.close
     (tie.spec
     (λ c. search rules)
     (λ c. search rules)
     (λ c. search rules)
-    (λ c κs.
-    let at-rhs2 = c.before.before.before.before in
-    let start = at-rhs2.before.before.before.before.before.before in
-    (proper_none _, proper_sectioned start.args.rhs _ (rhs start) start.requires at-rhs2.rhs2.given.1))
-    (λ c.
-    let start = c.before.before.before.before.before.before in
-    placing_nothing (ours start) ∙ ap (left start) (sym c.enum_told.given.1))
-    (λ c.
-    let start = c.before.before.before.before.before.before.before in
-    placing_basic (ours start) _ ∙ ap (left start) (sym c.before.rhs.given.1))
+    (λ c κs. (proper_none _, proper_sectioned c.args.rhs _ (rhs c.before.before.before.before.before.before.before.before) c.requires c.in-Sectioned.is))
+    (λ c. placing_nothing (ours c.before.before.before.before.before) ∙ ap (left c.before.before.before.before.before) (sym c.in-None.is))
+    (λ c. placing_basic (ours c.before.before.before.before.before) _ ∙ ap (left c.before.before.before.before.before) (sym c.in-Basic.is))
     (λ c. search rules)
     (λ c. search rules)
     (λ c. search rules)

@@ -16,39 +16,30 @@ abbrev ours : tie.Start → Tables
 ours c = tables c.args.ids.now c.args.epochs.now c.args.bytes.now
 
 abbrev rhs : tie.Start → Tables
-rhs c = tables c.args.rhs-ids.now c.args.rhs-epochs.now c.args.rhs-bytes.now
+rhs c = tables c.args.rhs_ids.now c.args.rhs_epochs.now c.args.rhs_bytes.now
 
 -- what is left where the right state is y
 abbrev left : tie.Start → Removed → RemovalAfter
 left c y = placing_removal (sum c.args.version (sectioned (rows_in c.args.n (ours c))) (removal_in y (rhs c))) (ours c)
 
-add-rows-requires : tie.Need-add-rows-requires
+add-rows-requires : tie.Need-add_rows-requires
 add-rows-requires c κs =
-    let at-rhs2 = c.before.before.before.before in
-    let b = at-rhs2.before.before.before.before.before.before in
-    (b.requires.0, proper_sectioned b.args.rhs _ (rhs b) b.requires.1 at-rhs2.rhs2.given.1)
+    (c.requires.0, proper_sectioned c.args.rhs _ (rhs c.before.before.before.before.before.before.before.before) c.requires.1 c.in-Sectioned.is)
 
-returns : tie.Need-returns
+returns : tie.Need-returns-in-None
 returns c =
-    let b = c.before.before.before.before.before.before in
-    placing_stays b.requires.0.room ∙ ap (left b) (sym c.enum_told.given.1)
+    placing_stays c.requires.0.room ∙ ap (left c.before.before.before.before.before) (sym c.in-None.is)
 
-returns-2 : tie.Need-returns-2
+returns-2 : tie.Need-returns-in-Basic
 returns-2 c =
-    let at-add-basic = c.before.before.before.before.before in
-    let at-rhs = at-add-basic.before.before.before.before.before in
-    let start = at-rhs.before.before.before.before.before.before in
-    at-add-basic.add-basic.ensures ∙ ap (left start) (sym at-rhs.rhs.given.1)
+    c.add_basic.ensures ∙ ap (left c.before.before.before.before.before.before.before.before.before.before.before.before.before.before) (sym c.in-Basic.is)
 
-returns-3 : tie.Need-returns-3
+returns-3 : tie.Need-returns-in-Sectioned
 returns-3 c =
-    let at-add-rows = c.before.before.before.before.before in
-    let at-rhs2 = at-add-rows.before.before.before.before.before in
-    let start = at-rhs2.before.before.before.before.before.before in
-    at-add-rows.add-rows.ensures ∙ ap (left start) (sym at-rhs2.rhs2.given.1)
+    c.add_rows.ensures ∙ ap (left c.before.before.before.before.before.before.before.before.before.before.before.before.before.before) (sym c.in-Sectioned.is)
 
-pub add-to-sectioned-spec : {M : Type 1} → statement M
-add-to-sectioned-spec =
+pub add_to_sectioned_spec : {M : Type 1} → statement M
+add_to_sectioned_spec =
     tie.close
     (tie.spec
     (λ c. search rules)

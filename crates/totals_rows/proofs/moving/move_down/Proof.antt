@@ -10,41 +10,40 @@ use Rattle.rows_spec.proofs.Columns.{three}
 use Rattle.totals_rows.proofs.moving.move_down.Statement.{statement}
 use Rattle.totals_rows.proofs.moving.move_down.Tie as tie
 
-abbrev invariant-loop : tie.invariant-loop
+abbrev invariant-loop : tie.invariant-loop-i
 invariant-loop owners₀ epochs₀ totals₀ from upto to i₀ k₀ owners epochs totals i k =
     (k ≤ i) × (from ≤ i) × (i ≤ upto) × MovedDown from upto to i k owners₀ owners × MovedDown from upto to i k epochs₀ epochs
     × MovedDown from upto to i k totals₀ totals
 
-abbrev decreases-loop : tie.decreases-loop
+abbrev decreases-loop : tie.decreases-loop-i
 decreases-loop owners₀ epochs₀ totals₀ from upto to i₀ k₀ owners epochs totals i k = upto - i
 
-loop-holds : tie.Need-loop-init invariant-loop decreases-loop
+loop-holds : tie.Need-loop-i-init invariant-loop decreases-loop
 loop-holds c =
-    let p = c.before.requires in
+    let p = c.requires in
     (p.0.0, omega arith, p.0.1, down_start _ _ _ _ refl, down_start _ _ _ _ refl, down_start _ _ _ _ refl)
 
 -- in a turn, from there back: the loop stood, the start
-module _ (c : tie.In-loop invariant-loop decreases-loop) where
-  abbrev turn : tie.At-loop invariant-loop decreases-loop
+module _ (c : tie.In-loop-i invariant-loop decreases-loop) where
+  abbrev turn : tie.At-loop-i invariant-loop decreases-loop
   turn = c.before
 
   abbrev start : tie.Start invariant-loop decreases-loop
   start = turn.before.before
 
   -- the place that is read stands in each column, and so does the place that is written
-  room : (turn.loop.i < length turn.loop.owners) × (turn.loop.i < length turn.loop.epochs) × (turn.loop.i < length turn.loop.totals)
+  room : (turn.loop-i.i < length turn.loop-i.owners) × (turn.loop-i.i < length turn.loop-i.epochs) × (turn.loop-i.i < length turn.loop-i.totals)
   room =
-      let i = turn.loop.inv in
-      let r = start.pre.1 in
-      let t = c.loop-test.true in
+      let i = turn.loop-i.invariant in
+      let r = start.requires.1 in
+      let t = c.loop-i-test.true in
       (omega (arith, i.3.long, r.ids_long), omega (arith, i.4.long, r.epochs_long), omega (arith, i.5.long, r.bytes_long))
 
-loop-again : tie.Need-loop-preserved invariant-loop decreases-loop
+loop-again : tie.Need-loop-i-preserved invariant-loop decreases-loop
 loop-again c =
-    let e = c.before.before.before in
-    let i = (turn e).loop.invariant in
-    let r = (start e).requires.1 in
-    let t = e.loop-test.true in (
+    let i = (turn c.before.before.before).loop-i.invariant in
+    let r = (start c.before.before.before).requires.1 in
+    let t = c.loop-i-test.true in (
       omega (arith, i.0),
       omega (arith, i.1),
       omega arith,
@@ -53,18 +52,18 @@ loop-again c =
       down_step i.5 0 r.bytes_long i.0 t refl,
     )
 
-returns : tie.Need-returns invariant-loop decreases-loop
+returns : tie.Need-returns-after-loop-i invariant-loop decreases-loop
 returns c =
-    let i = c.before.loop.invariant in
-    let r = c.before.before.before.requires.1 in
-    let l = c.loop-test.false in
+    let i = c.loop-i.invariant in
+    let r = c.requires.1 in
+    let l = c.loop-i-test.false in
     three (down_done i.3 r.ids_long l) (down_done i.4 r.epochs_long l) (down_done i.5 r.bytes_long l)
 
-returns-2 : tie.Need-returns-2 invariant-loop decreases-loop
+returns-2 : tie.Need-returns-else-to-from invariant-loop decreases-loop
 returns-2 c =
-    let p = c.before.requires in
+    let p = c.requires in
     let r = p.1 in
-    let e : c.before.args.to ≡ c.before.args.from = omega (arith, p.0.0, c.if1.false) in
+    let e : c.args.to ≡ c.args.from = omega (arith, p.0.0, c.if-to-from.false) in
     rw e (three (sym (stays _ _ _ p.0.1 r.ids_long)) (sym (stays _ _ _ p.0.1 r.epochs_long))
     (sym (stays _ _ _ p.0.1 r.bytes_long)))
 
@@ -75,24 +74,24 @@ move_down_spec =
     invariant-loop
     decreases-loop
     loop-holds
-    (λ c. omega (arith, (room c).0, (turn c).loop.invariant.3.long, (start c).well-formed))
+    (λ c. omega (arith, (room c).0, (turn c).loop-i.invariant.3.long, (start c).well_formed))
     (λ c. (room c).0)
-    (λ c. let e = c.before in omega (arith, (room e).0, (turn e).loop.invariant.0, (turn e).loop.invariant.3.long, (start e).well-formed))
-    (λ c. let e = c.before in omega (arith, (room e).0, (turn e).loop.invariant.0))
-    (λ c. let e = c.before in omega (arith, (room e).1, (turn e).loop.invariant.4.long, (start e).well-formed))
+    (λ c. omega (arith, (room c.before).0, (turn c.before).loop-i.invariant.0, (turn c.before).loop-i.invariant.3.long, (start c.before).well_formed))
+    (λ c. omega (arith, (room c.before).0, (turn c.before).loop-i.invariant.0))
+    (λ c. omega (arith, (room c.before).1, (turn c.before).loop-i.invariant.4.long, (start c.before).well_formed))
     (λ c. (room c.before.before).1)
-    (λ c. let e = c.before.before in omega (arith, (room e).1, (turn e).loop.invariant.0, (turn e).loop.invariant.4.long, (start e).well-formed))
-    (λ c. let e = c.before.before in omega (arith, (room e).1, (turn e).loop.invariant.0))
-    (λ c. let e = c.before.before in omega (arith, (room e).2, (turn e).loop.invariant.5.long, (start e).well-formed))
+    (λ c. omega (arith, (room c.before.before).1, (turn c.before.before).loop-i.invariant.0, (turn c.before.before).loop-i.invariant.4.long, (start c.before.before).well_formed))
+    (λ c. omega (arith, (room c.before.before).1, (turn c.before.before).loop-i.invariant.0))
+    (λ c. omega (arith, (room c.before.before).2, (turn c.before.before).loop-i.invariant.5.long, (start c.before.before).well_formed))
     (λ c. (room c.before.before.before).2)
-    (λ c. let e = c.before.before.before in omega (arith, (room e).2, (turn e).loop.invariant.0, (turn e).loop.invariant.5.long, (start e).well-formed))
-    (λ c. let e = c.before.before.before in omega (arith, (room e).2, (turn e).loop.invariant.0))
-    (λ c. let e = c.before.before.before in omega (arith, e.loop-test.true, (start e).ranges))
-    (λ c. let e = c.before.before.before in omega (arith, e.loop-test.true, (turn e).loop.invariant.0, (start e).ranges))
-    (λ c. omega (arith, c.before.before.before.loop-test.true))
+    (λ c. omega (arith, (room c.before.before.before).2, (turn c.before.before.before).loop-i.invariant.0, (turn c.before.before.before).loop-i.invariant.5.long, (start c.before.before.before).well_formed))
+    (λ c. omega (arith, (room c.before.before.before).2, (turn c.before.before.before).loop-i.invariant.0))
+    (λ c. omega (arith, c.loop-i-test.true, (start c.before.before.before).ranges))
+    (λ c. omega (arith, c.loop-i-test.true, (turn c.before.before.before).loop-i.invariant.0, (start c.before.before.before).ranges))
+    (λ c. omega (arith, c.loop-i-test.true))
     loop-again
-    (λ c. c.before.loop.invariant.3.long)
-    (λ c. c.before.loop.invariant.4.long)
-    (λ c. c.before.loop.invariant.5.long)
+    (λ c. c.loop-i.invariant.3.long)
+    (λ c. c.loop-i.invariant.4.long)
+    (λ c. c.loop-i.invariant.5.long)
     returns
     returns-2)

@@ -10,17 +10,17 @@ use Rattle.rows_spec.proofs.Columns.{three}
 use Rattle.totals_rows.proofs.moving.move_up.Statement.{statement}
 use Rattle.totals_rows.proofs.moving.move_up.Tie as tie
 
-abbrev invariant-loop : tie.invariant-loop
+abbrev invariant-loop : tie.invariant-loop-i
 invariant-loop owners₀ epochs₀ totals₀ from upto end i₀ k₀ owners epochs totals i k =
     (k + upto ≡ end + i) × (from ≤ i) × (i ≤ upto) × MovedUp upto i k owners₀ owners × MovedUp upto i k epochs₀ epochs
     × MovedUp upto i k totals₀ totals
 
-abbrev decreases-loop : tie.decreases-loop
+abbrev decreases-loop : tie.decreases-loop-i
 decreases-loop owners₀ epochs₀ totals₀ from upto end i₀ k₀ owners epochs totals i k = i
 
-loop-holds : tie.Need-loop-init invariant-loop decreases-loop
+loop-holds : tie.Need-loop-i-init invariant-loop decreases-loop
 loop-holds c =
-    let p = c.before.requires in
+    let p = c.requires in
     let r = p.1 in (
       omega arith,
       p.0.0,
@@ -31,34 +31,33 @@ loop-holds c =
     )
 
 -- in a turn, from there back: the loop stood, the start
-module _ (c : tie.In-loop invariant-loop decreases-loop) where
-  abbrev turn : tie.At-loop invariant-loop decreases-loop
+module _ (c : tie.In-loop-i invariant-loop decreases-loop) where
+  abbrev turn : tie.At-loop-i invariant-loop decreases-loop
   turn = c.before
 
   abbrev start : tie.Start invariant-loop decreases-loop
   start = turn.before.before
 
   -- the place that is written stands in each column, and so does the place that is read
-  room : (turn.loop.k ≤ length turn.loop.owners) × (turn.loop.k ≤ length turn.loop.epochs) × (turn.loop.k ≤ length turn.loop.totals)
-      × (turn.loop.i ≤ turn.loop.k)
+  room : (turn.loop-i.k ≤ length turn.loop-i.owners) × (turn.loop-i.k ≤ length turn.loop-i.epochs) × (turn.loop-i.k ≤ length turn.loop-i.totals)
+      × (turn.loop-i.i ≤ turn.loop-i.k)
   room =
-      let i = turn.loop.inv in
-      let r = start.pre.1 in
-      let k : turn.loop.k ≤ start.args.end = omega (arith, i.0, i.2) in (
+      let i = turn.loop-i.invariant in
+      let r = start.requires.1 in
+      let k : turn.loop-i.k ≤ start.args.end = omega (arith, i.0, i.2) in (
         omega (arith, up_long i.3, r.ids_long),
         omega (arith, up_long i.4, r.epochs_long),
         omega (arith, up_long i.5, r.bytes_long),
-        omega (arith, i.0, start.pre.0.1),
+        omega (arith, i.0, start.requires.0.1),
       )
 
-loop-again : tie.Need-loop-preserved invariant-loop decreases-loop
+loop-again : tie.Need-loop-i-preserved invariant-loop decreases-loop
 loop-again c =
-    let e = c.before.before.before in
-    let i = (turn e).loop.invariant in
-    let p = (start e).requires in
+    let i = (turn c.before.before.before).loop-i.invariant in
+    let p = (start c.before.before.before).requires in
     let r = p.1 in
-    let t = e.loop-test.true in
-    let k = (room e).3 in (
+    let t = c.loop-i-test.true in
+    let k = (room c.before.before.before).3 in (
       omega (arith, i.0),
       omega arith,
       omega (arith, i.2),
@@ -67,22 +66,21 @@ loop-again c =
       up_step i.5 0 (omega (arith, p.0.1, r.bytes_long)) (omega arith) i.2 k,
     )
 
-returns : tie.Need-returns invariant-loop decreases-loop
+returns : tie.Need-returns-after-loop-i invariant-loop decreases-loop
 returns c =
-    let i = c.before.loop.invariant in
-    let s = c.before.before.before in
-    let a = s.args in
-    let l = c.loop-test.false in
-    let e : c.before.loop.i ≡ a.from = omega (arith, i.1) in
-    let k : c.before.loop.k ≡ a.end - (a.upto - a.from) = omega (arith, i.0, s.requires.0.0, s.requires.0.1) in
+    let i = c.loop-i.invariant in
+    let a = c.args in
+    let l = c.loop-i-test.false in
+    let e : c.loop-i.i ≡ a.from = omega (arith, i.1) in
+    let k : c.loop-i.k ≡ a.end - (a.upto - a.from) = omega (arith, i.0, c.requires.0.0, c.requires.0.1) in
     three (up_done i.3 e k) (up_done i.4 e k) (up_done i.5 e k)
 
-returns-2 : tie.Need-returns-2 invariant-loop decreases-loop
+returns-2 : tie.Need-returns-else-upto-end invariant-loop decreases-loop
 returns-2 c =
-    let a = c.before.args in
-    let p = c.before.requires in
+    let a = c.args in
+    let p = c.requires in
     let r = p.1 in
-    let n : a.upto ≡ a.end = omega (arith, p.0.1, c.if1.false) in
+    let n : a.upto ≡ a.end = omega (arith, p.0.1, c.if-upto-end.false) in
     let e : a.end - (a.upto - a.from) ≡ a.from = omega (arith, p.0.0) in
     rw e (three
     (sym (stays _ _ _ p.0.0 (omega (arith, r.ids_long))))
@@ -96,24 +94,24 @@ move_up_spec =
     invariant-loop
     decreases-loop
     loop-holds
-    (λ c. omega (arith, c.loop-test.true))
-    (λ c. omega (arith, c.loop-test.true, (room c).3))
-    (λ c. omega (arith, (room c).0, (room c).3, up_long (turn c).loop.invariant.3, (start c).well-formed))
-    (λ c. omega (arith, (room c).0, (room c).3, c.loop-test.true))
-    (λ c. let e = c.before in omega (arith, (room e).0, up_long (turn e).loop.invariant.3, (start e).well-formed))
-    (λ c. let e = c.before in omega (arith, (room e).0, (room e).3, e.loop-test.true))
-    (λ c. let e = c.before in omega (arith, (room e).1, (room e).3, up_long (turn e).loop.invariant.4, (start e).well-formed))
-    (λ c. let e = c.before.before in omega (arith, (room e).1, (room e).3, e.loop-test.true))
-    (λ c. let e = c.before.before in omega (arith, (room e).1, up_long (turn e).loop.invariant.4, (start e).well-formed))
-    (λ c. let e = c.before.before in omega (arith, (room e).1, (room e).3, e.loop-test.true))
-    (λ c. let e = c.before.before in omega (arith, (room e).2, (room e).3, up_long (turn e).loop.invariant.5, (start e).well-formed))
-    (λ c. let e = c.before.before.before in omega (arith, (room e).2, (room e).3, e.loop-test.true))
-    (λ c. let e = c.before.before.before in omega (arith, (room e).2, up_long (turn e).loop.invariant.5, (start e).well-formed))
-    (λ c. let e = c.before.before.before in omega (arith, (room e).2, (room e).3, e.loop-test.true))
-    (λ c. omega (arith, c.before.before.before.loop-test.true))
+    (λ c. omega (arith, c.loop-i-test.true))
+    (λ c. omega (arith, c.loop-i-test.true, (room c).3))
+    (λ c. omega (arith, (room c).0, (room c).3, up_long (turn c).loop-i.invariant.3, (start c).well_formed))
+    (λ c. omega (arith, (room c).0, (room c).3, c.loop-i-test.true))
+    (λ c. omega (arith, (room c.before).0, up_long (turn c.before).loop-i.invariant.3, (start c.before).well_formed))
+    (λ c. omega (arith, (room c.before).0, (room c.before).3, c.loop-i-test.true))
+    (λ c. omega (arith, (room c.before).1, (room c.before).3, up_long (turn c.before).loop-i.invariant.4, (start c.before).well_formed))
+    (λ c. omega (arith, (room c.before.before).1, (room c.before.before).3, c.loop-i-test.true))
+    (λ c. omega (arith, (room c.before.before).1, up_long (turn c.before.before).loop-i.invariant.4, (start c.before.before).well_formed))
+    (λ c. omega (arith, (room c.before.before).1, (room c.before.before).3, c.loop-i-test.true))
+    (λ c. omega (arith, (room c.before.before).2, (room c.before.before).3, up_long (turn c.before.before).loop-i.invariant.5, (start c.before.before).well_formed))
+    (λ c. omega (arith, (room c.before.before.before).2, (room c.before.before.before).3, c.loop-i-test.true))
+    (λ c. omega (arith, (room c.before.before.before).2, up_long (turn c.before.before.before).loop-i.invariant.5, (start c.before.before.before).well_formed))
+    (λ c. omega (arith, (room c.before.before.before).2, (room c.before.before.before).3, c.loop-i-test.true))
+    (λ c. omega (arith, c.loop-i-test.true))
     loop-again
-    (λ c. up_long c.before.loop.invariant.3)
-    (λ c. up_long c.before.loop.invariant.4)
-    (λ c. up_long c.before.loop.invariant.5)
+    (λ c. up_long c.loop-i.invariant.3)
+    (λ c. up_long c.loop-i.invariant.4)
+    (λ c. up_long c.loop-i.invariant.5)
     returns
     returns-2)

@@ -11,31 +11,26 @@ use Rattle.totals_rows.proofs.table.table_is_proper.Tie as tie
 abbrev lent : tie.Start → Tables
 lent c = tables c.args.owners.now c.args.epochs.now c.args.totals.now
 
-rows-ascend-requires : tie.Need-rows-ascend-requires
+rows-ascend-requires : tie.Need-rows_ascend-requires
 rows-ascend-requires c κs =
-    let start = c.before.before.before.before in
-    room_in_lem _ (lent start) (sym c.before.totals-fit.ensures ∙ c.if1.true)
+    room_in_lem _ (lent c.before.before.before.before) (sym c.totals_fit.ensures ∙ c.if-totals_fit.true)
 
-none-is-zero-requires : tie.Need-none-is-zero-requires
+none-is-zero-requires : tie.Need-none_is_zero-requires
 none-is-zero-requires c κs =
-    let start = c.before.before.before.before.before.before in
-    room_in_lem _ (lent start) (sym c.before.before.before.totals-fit.ensures ∙ c.before.before.if1.true)
+    room_in_lem _ (lent c.before.before.before.before.before.before) (sym c.totals_fit.ensures ∙ c.if-totals_fit.true)
 
-returns : tie.Need-returns
+returns : tie.Need-returns-then-rows_ascend
 returns c =
-    let at-totals-fit = c.before.before.before.before in
-    let start = at-totals-fit.before.before.before in
-    let r = room_in_lem _ (lent start) (sym at-totals-fit.totals-fit.ensures ∙ c.before.before.before.if1.true) in
-    c.none_is_zero.ensures ∙ sym (table_room _ (lent start) r ∙ rw (sym c.before.before.rows_ascend.ensures ∙ c.before.if2.true))
+    let r = room_in_lem _ (lent c.before.before.before.before.before.before.before) (sym c.totals_fit.ensures ∙ c.if-totals_fit.true) in
+    c.none_is_zero.ensures ∙ sym (table_room _ (lent c.before.before.before.before.before.before.before) r ∙ rw (sym c.rows_ascend.ensures ∙ c.if-rows_ascend.true))
 
-returns-2 : tie.Need-returns-2
+returns-2 : tie.Need-returns-else-rows_ascend
 returns-2 c =
-    let start = c.before.before.before.before.before.before in
-    let r = room_in_lem _ (lent start) (sym c.before.before.before.totals-fit.ensures ∙ c.before.before.if1.true) in
-    sym (table_room _ (lent start) r ∙ rw (sym c.before.rows_ascend.ensures ∙ c.if2.false))
+    let r = room_in_lem _ (lent c.before.before.before.before.before.before) (sym c.totals_fit.ensures ∙ c.if-totals_fit.true) in
+    sym (table_room _ (lent c.before.before.before.before.before.before) r ∙ rw (sym c.rows_ascend.ensures ∙ c.if-rows_ascend.false))
 
-pub table-is-proper-spec : {M : Type 1} → statement M
-table-is-proper-spec =
+pub table_is_proper_spec : {M : Type 1} → statement M
+table_is_proper_spec =
     tie.close
     (tie.spec
     (λ c κs. search rules)
@@ -43,6 +38,4 @@ table-is-proper-spec =
     none-is-zero-requires
     returns
     returns-2
-    (λ c.
-    let start = c.before.before.before.before in
-    sym (table_short _ (lent start) (sym c.before.totals-fit.ensures ∙ c.if1.false))))
+    (λ c. sym (table_short _ (lent c.before.before.before.before) (sym c.totals_fit.ensures ∙ c.if-totals_fit.false))))
