@@ -17,7 +17,7 @@ use Rattle.listing.proofs.list_flags.Statement.{statement}
 use Rattle.listing.proofs.list_flags.Tie as tie
 
 -- the flags are read
-module _ (c : tie.After-deserialize) where
+module _ (c : tie.After-deserialize-answered) where
   abbrev start : tie.Start
   start = c.before.before.before.before.before.before.before
 
@@ -25,41 +25,38 @@ module _ (c : tie.After-deserialize) where
   src = start.args.src.now
 
   abbrev answered : Answered
-  answered = c.deserialize.result
+  answered = c.deserialize-answered.result
 
-  told : Telling (read src) answered c.deserialize.new.1.0 c.deserialize.new.1.1.0
-  told = telling src _ _ start.args.epochs.now start.args.counts.now _ start.pre.0 start.pre.1 c.deserialize.ensures
+  told : Telling (read src) answered c.deserialize-answered.new.epochs c.deserialize-answered.new.counts
+  told = telling src _ _ start.args.epochs.now start.args.counts.now _ start.requires.0 start.requires.1 c.deserialize-answered.ensures
 
   -- the text is that of the definition
-  text : listed src ≡ outcome_text answered.outcome answered.head c.deserialize.new.1.0 c.deserialize.new.1.1.0
-  text = listed_read src start.pre.0 ∙ sym told.text
+  text : listed src ≡ outcome_text answered.outcome answered.head c.deserialize-answered.new.epochs c.deserialize-answered.new.counts
+  text = listed_read src start.requires.0 ∙ sym told.text
 
 -- the length of the text is known, after the flags are read
-abbrev got : tie.After-answer-len → tie.After-deserialize
-got c = c.before.before.before.before.before.before.before
+abbrev got : tie.After-answer_len → tie.After-deserialize-answered
+got c = c.before.before.before.before.before
 
-returns : tie.Need-returns
+returns : tie.Need-returns-then-out-answer_len
 returns c =
     let d = got c.before in
-    sym (writing_short (listed (src d)) (start d).args.out.now (omega (arith, ap length (text d), c.before.answer-len.ensures)))
+    sym (writing_short (listed (src d)) (start d).args.out.now (omega (arith, ap length (text d), c.answer_len.ensures)))
 
-put-answer-requires : tie.Need-put-answer-requires
+put-answer-requires : tie.Need-put_answer-requires
 put-answer-requires c κs =
-    let l = c.before.before.before.before in
-    ((told (got l)).held, omega (arith, l.answer-len.ensures, c.before.before.before.if1.false))
+    ((told (got c.before.before)).held, omega (arith, c.answer_len.ensures, c.if-out-answer_len.false))
 
-returns-2 : tie.Need-returns-2
+returns-2 : tie.Need-returns
 returns-2 c =
-    let roomy = c.before.before.before.before.before.before in
-    let l = roomy.before in
-    rw (text (got l)) (put_written _ _ _ _ c.before.before.put-answer.ensures (omega (arith, l.answer-len.ensures, roomy.if1.false)))
+    rw (text (got c.before.before.before.before.before)) (put_written _ _ _ _ c.put_answer.ensures (omega (arith, c.answer_len.ensures, c.if-out-answer_len.false)))
 
-pub list-flags-spec : {M : Type 1} → statement M
-list-flags-spec =
+pub list_flags_spec : {M : Type 1} → statement M
+list_flags_spec =
     tie.close
     (tie.spec
     (λ c κs. search rules)
-    (λ c κs. let d = c.before.before.before.before.before.before in (told d).held)
+    (λ c κs. (told c.before.before.before.before).held)
     (λ c. search rules)
     (λ c. search rules)
     returns

@@ -14,39 +14,31 @@ use Rattle.flags.proofs.adding.combine_tables.Tie as tie
 abbrev joined : tie.Start → Flags
 joined c =
     flags c.args.base (owner_if c.args.owner.owned c.args.owner.id)
-    (union (records_of c.args.our-epochs.now c.args.our-counts.now) (records_of c.args.their-epochs.now c.args.their-counts.now))
+    (union (records_of c.args.our_epochs.now c.args.our_counts.now) (records_of c.args.their_epochs.now c.args.their_counts.now))
 
-returns : tie.Need-returns
+returns : tie.Need-returns-then-base-epoch
 returns c =
-    let at-place-union = c.before.before.before.before in
-    let at-if1 = at-place-union.before.before.before in
-    let b = at-if1.before.before.before.before.before.before.before in
-    let a = b.args in
-    at-place-union.place-union.ensures
+    let a = c.args in
+    c.place_union.ensures
     ∙ sym (ap (λ (x : Answer Flags). placing x (lending a.epochs.now a.counts.now))
-    (raised_same a.base a.epoch a.added-bytes (joined b) at-if1.if1.true))
+    (raised_same a.base a.epoch a.added_bytes (joined c.before.before.before.before.before.before.before.before.before.before.before.before.before.before) c.if-base-epoch.true))
 
-returns-2 : tie.Need-returns-2
+returns-2 : tie.Need-returns
 returns-2 c =
-    let at-combine-with-higher-base-epoch = c.before.before.before.before in
-    let at-if1 = at-combine-with-higher-base-epoch.before.before.before in
-    let b = at-if1.before.before.before.before.before.before.before in
-    let a = b.args in
-    at-combine-with-higher-base-epoch.combine-with-higher-base-epoch.ensures
+    let a = c.args in
+    c.combine_with_higher_base_epoch.ensures
     ∙ sym (ap (λ (x : Answer Flags). placing x (lending a.epochs.now a.counts.now))
-    (raised_higher a.base a.epoch a.added-bytes (joined b) at-if1.if1.false))
+    (raised_higher a.base a.epoch a.added_bytes (joined c.before.before.before.before.before.before.before.before.before.before.before.before.before.before) c.if-base-epoch.false))
 
-pub combine-tables-spec : {M : Type 1} → statement M
-combine-tables-spec =
+pub combine_tables_spec : {M : Type 1} → statement M
+combine_tables_spec =
     tie.close
     (tie.spec
-    (λ c κs.
-    let start = c.before.before.before.before.before.before.before.before.before in
-    (start.requires.0, above_table start.requires.1))
+    (λ c κs. (c.requires.0, above_table c.requires.1))
     (λ c. search rules)
     (λ c. search rules)
     returns
-    (λ c κs. let start = c.before.before.before.before.before.before.before.before.before in start.requires)
+    (λ c κs. c.requires)
     (λ c. search rules)
     (λ c. search rules)
     returns-2)

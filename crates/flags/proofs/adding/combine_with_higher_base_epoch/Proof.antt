@@ -23,45 +23,40 @@ use Rattle.flags.proofs.adding.combine_with_higher_base_epoch.Tie as tie
 
 -- ours and theirs, and the owner
 abbrev ours : tie.Start → List At
-ours c = records_of c.args.our-epochs.now c.args.our-counts.now
+ours c = records_of c.args.our_epochs.now c.args.our_counts.now
 
 abbrev theirs : tie.Start → List At
-theirs c = records_of c.args.their-epochs.now c.args.their-counts.now
+theirs c = records_of c.args.their_epochs.now c.args.their_counts.now
 
 abbrev owner : tie.Start → Option (List ℕ)
 owner c = owner_if c.args.owner.owned c.args.owner.id
 
 above : (c : tie.Start) → ascending c.args.epoch (epochs_of (theirs c)) ≡ true
-above c = rw (epochs_records c.args.their-epochs.now c.args.their-counts.now c.requires.1.even) c.requires.1.ascends
+above c = rw (epochs_records c.args.their_epochs.now c.args.their_counts.now c.requires.1.even) c.requires.1.ascends
 
-returns : tie.Need-returns
+returns : tie.Need-returns-then-added_bytes-held
 returns c =
-    let b = c.before.before.before.before.before.before.before.before.before in
-    let a = b.args in
-    let n : c.before.before.look_up.result.count ≡ held a.epoch (ours b) = ap (λ (s : Spot). s.count)
-    c.before.before.look_up.ensures in
-    let p : largest < held a.epoch (ours b) + a.added-bytes = omega (arith, n, c.before.if1.true) in
+    let a = c.args in
+    let n : c.look_up-spot.result.count ≡ held a.epoch (ours c.before.before.before.before.before.before.before.before.before) = ap (λ (s : Spot). s.count)
+    c.look_up-spot.ensures in
+    let p : largest < held a.epoch (ours c.before.before.before.before.before.before.before.before.before) + a.added_bytes = omega (arith, n, c.if-added_bytes-held.true) in
     refused_placing c.refused.result (lending a.epochs.now a.counts.now)
-    (raised a.epoch a.added-bytes (flags a.base (owner b) (union (ours b) (theirs b)))) _ c.refused.ensures
-    (raised_over a.epoch a.added-bytes a.base (owner b) (ours b) (theirs b) (above b) p)
+    (raised a.epoch a.added_bytes (flags a.base (owner c.before.before.before.before.before.before.before.before.before) (union (ours c.before.before.before.before.before.before.before.before.before) (theirs c.before.before.before.before.before.before.before.before.before)))) _ c.refused.ensures
+    (raised_over a.epoch a.added_bytes a.base (owner c.before.before.before.before.before.before.before.before.before) (ours c.before.before.before.before.before.before.before.before.before) (theirs c.before.before.before.before.before.before.before.before.before) (above c.before.before.before.before.before.before.before.before.before) p)
 
-returns-2 : tie.Need-returns-2
+returns-2 : tie.Need-returns
 returns-2 c =
-    let at-place-around = c.before.before.before.before in
-    let at-if1 = at-place-around.before.before.before in
-    let at-look-up = at-if1.before in
-    let b = at-look-up.before.before.before.before.before.before.before in
-    let a = b.args in
-    let n : at-look-up.look_up.result.count ≡ held a.epoch (ours b) = ap (λ (s : Spot). s.count) at-look-up.look_up.ensures in
-    let p : held a.epoch (ours b) + a.added-bytes ≤ largest = omega (arith, n, at-if1.if1.false, b.ranges.added-bytes) in
-    at-place-around.place-around.ensures
-    ∙ ap (λ (k : ℕ). placing (ok (flags a.base (owner b) (union (ours b) (a.epoch ⦂ (k + a.added-bytes) ∷ theirs b))))
+    let a = c.args in
+    let n : c.look_up-spot.result.count ≡ held a.epoch (ours c.before.before.before.before.before.before.before.before.before.before.before.before.before.before.before) = ap (λ (s : Spot). s.count) c.look_up-spot.ensures in
+    let p : held a.epoch (ours c.before.before.before.before.before.before.before.before.before.before.before.before.before.before.before) + a.added_bytes ≤ largest = omega (arith, n, c.if-added_bytes-held.false, c.ranges.added_bytes) in
+    c.place_around.ensures
+    ∙ ap (λ (k : ℕ). placing (ok (flags a.base (owner c.before.before.before.before.before.before.before.before.before.before.before.before.before.before.before) (union (ours c.before.before.before.before.before.before.before.before.before.before.before.before.before.before.before) (a.epoch ⦂ (k + a.added_bytes) ∷ theirs c.before.before.before.before.before.before.before.before.before.before.before.before.before.before.before))))
     (lending a.epochs.now a.counts.now)) n
     ∙ sym (ap (λ (x : Answer Flags). placing x (lending a.epochs.now a.counts.now))
-    (raised_made a.epoch a.added-bytes a.base (owner b) (ours b) (theirs b) (above b) p))
+    (raised_made a.epoch a.added_bytes a.base (owner c.before.before.before.before.before.before.before.before.before.before.before.before.before.before.before) (ours c.before.before.before.before.before.before.before.before.before.before.before.before.before.before.before) (theirs c.before.before.before.before.before.before.before.before.before.before.before.before.before.before.before) (above c.before.before.before.before.before.before.before.before.before.before.before.before.before.before.before) p))
 
-pub combine-with-higher-base-epoch-spec : {M : Type 1} → statement M
-combine-with-higher-base-epoch-spec =
+pub combine_with_higher_base_epoch_spec : {M : Type 1} → statement M
+combine_with_higher_base_epoch_spec =
     tie.close
     (tie.spec
     (λ c κs. search rules)
@@ -69,8 +64,7 @@ combine-with-higher-base-epoch-spec =
     (λ c κs. search rules)
     returns
     (λ c. search rules)
-    (λ c κs. let b = c.before.before.before.before.before.before.before.before.before.before in
-    (b.requires.0, (c.before.before.before.look_up.ensures, b.requires.1)))
+    (λ c κs. (c.requires.0, (c.look_up-spot.ensures, c.requires.1)))
     (λ c. search rules)
     (λ c. search rules)
     returns-2)

@@ -15,25 +15,24 @@ use Rattle.flags.proofs.owners.combine_owner_id.Statement.{statement}
 use Rattle.flags.proofs.owners.combine_owner_id.Tie as tie
 
 -- the choice, by the arm that it takes
-abbrev chose : tie.After-choose-owner-id → Choice → Type 0
+abbrev chose : tie.After-choose_owner_id → Choice → Type 0
 chose c x = owner_choice c.before.before.before.args.strategy c.before.before.before.args.ours.now
     c.before.before.before.args.theirs.now ≡ x
 
-part : (c : tie.After-choose-owner-id) (x : Choice) → chose c x → let a = c.before.before.before.args in
+part : (c : tie.After-choose_owner_id) (x : Choice) → chose c x → let a = c.args in
     handed x (lent a.ours) (lent a.theirs) ≡ owner_handed a.strategy (lent a.ours) (lent a.theirs)
-part c x e = let a = c.before.before.before.args in ap (λ (y : Choice). handed y (lent a.ours) (lent a.theirs)) (sym e)
+part c x e = let a = c.args in ap (λ (y : Choice). handed y (lent a.ours) (lent a.theirs)) (sym e)
 
-told : (c : tie.After-choose-owner-id) (x : Choice) → c.choose-owner-id.result ≡ x → chose c x
-told c x e = sym c.choose-owner-id.ensures ∙ e
+told : (c : tie.After-choose_owner_id) (x : Choice) → c.choose_owner_id.result ≡ x → chose c x
+told c x e = sym c.choose_owner_id.ensures ∙ e
 
-part-result-end : tie.Need-slice-bounds-result-end
+part-result-end : tie.Need-slice_bounds-result-end
 part-result-end c =
-    let start = c.before.before.before.before.before in
-    let a = start.args in
+    let a = c.args in
     let l : behind_owner ≤ length a.ours.now = omega (
       arith,
       (ours_owned a.strategy a.ours.now a.theirs.now
-          (told c.before.before Ours c.enum_told.given.1)).1.long,
+          (told c.before Ours c.in-Ours.is)).1.long,
     ) in
     l
 
@@ -48,20 +47,20 @@ part-result-end-2 c =
     ) in
     l
 
-returns : tie.Need-returns
-returns c = part c.before.before.before Ours (told c.before.before.before Ours c.before.enum_told.given.1)
+returns : tie.Need-returns-in-Ours
+returns c = part c.before.before Ours (told c.before.before Ours c.in-Ours.is)
 
-returns-2 : tie.Need-returns-2
-returns-2 c = part c.before.before.before Theirs (told c.before.before.before Theirs c.before.enum-told2.given.1)
+returns-2 : tie.Need-returns-in-Theirs
+returns-2 c = part c.before.before Theirs (told c.before.before Theirs c.in-Theirs.is)
 
-returns-3 : tie.Need-returns-3
-returns-3 c = part c.before.before.before Neither (told c.before.before.before Neither c.before.enum-told3.given.1)
+returns-3 : tie.Need-returns-in-Neither
+returns-3 c = part c.before Neither (told c.before Neither c.in-Neither.is)
 
-returns-4 : tie.Need-returns-4
-returns-4 c = part c.before.before.before (Refused _) (told c.before.before.before (Refused _) c.before.enum-told4.given.1)
+returns-4 : tie.Need-returns-in-Refused
+returns-4 c = part c.before (Refused _) (told c.before (Refused _) c.in-Refused.is)
 
-pub combine-owner-id-spec : {M : Type 1} → statement M
-combine-owner-id-spec =
+pub combine_owner_id_spec : {M : Type 1} → statement M
+combine_owner_id_spec =
     tie.close
     (tie.spec
     (λ c κs. search rules)

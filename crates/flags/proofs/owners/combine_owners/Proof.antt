@@ -12,29 +12,29 @@ use Rattle.flags.proofs.owners.combine_owners.Statement.{statement}
 use Rattle.flags.proofs.owners.combine_owners.Tie as tie
 
 -- the choice, by the arm that it takes
-chose : (c : tie.After-choose-owner) (x : Choice) → c.choose-owner.result ≡ x → let a = c.before.args in
+chose : (c : tie.After-choose_owner) (x : Choice) → c.choose_owner.result ≡ x → let a = c.args in
     chosen_as (chosen x (owner_of a.ours) (owner_of a.theirs)) ≡ chosen_as (combined_owner a.strategy (owner_of a.ours) (owner_of a.theirs))
-chose c x e = let a = c.before.args in ap (λ (y : Choice). chosen_as (chosen y (owner_of a.ours) (owner_of a.theirs)))
-    (sym e ∙ c.choose-owner.ensures)
+chose c x e = let a = c.args in ap (λ (y : Choice). chosen_as (chosen y (owner_of a.ours) (owner_of a.theirs)))
+    (sym e ∙ c.choose_owner.ensures)
 
 -- the answer with an owner
 abbrev answered : Bool → MaybeOwner → ChosenOwner
 answered b o = record { refused = b; owner = o }
 
-returns : tie.Need-returns
-returns c = ap (answered false) c.owner-id.ensures ∙ chose c.before.before.before _ c.before.enum_told.given.1
+returns : tie.Need-returns-in-Ours
+returns c = ap (answered false) c.owner_id.ensures ∙ chose c.before.before _ c.in-Ours.is
 
-returns-2 : tie.Need-returns-2
-returns-2 c = ap (answered false) c.owner-id2.ensures ∙ chose c.before.before.before _ c.before.enum-told2.given.1
+returns-2 : tie.Need-returns-in-Theirs
+returns-2 c = ap (answered false) c.owner_id-in-Theirs.ensures ∙ chose c.before.before _ c.in-Theirs.is
 
-returns-3 : tie.Need-returns-3
-returns-3 c = ap (answered false) c.no_owner.ensures ∙ chose c.before.before.before _ c.before.enum-told3.given.1
+returns-3 : tie.Need-returns-in-Neither
+returns-3 c = ap (answered false) c.no_owner.ensures ∙ chose c.before.before _ c.in-Neither.is
 
-returns-4 : tie.Need-returns-4
-returns-4 c = ap (answered true) c.no-owner2.ensures ∙ chose c.before.before.before _ c.before.enum-told4.given.1
+returns-4 : tie.Need-returns-in-Refused
+returns-4 c = ap (answered true) c.no_owner-in-Refused.ensures ∙ chose c.before.before _ c.in-Refused.is
 
-pub combine-owners-spec : {M : Type 1} → statement M
-combine-owners-spec =
+pub combine_owners_spec : {M : Type 1} → statement M
+combine_owners_spec =
     tie.close
     (tie.spec
     (λ c κs. search rules)

@@ -19,8 +19,8 @@ use Rattle.records_spec.proofs.Answers.{room_both_lem, placing_short, refused_le
 use Rattle.flags.proofs.placing.hand_on.Statement.{statement}
 use Rattle.flags.proofs.placing.hand_on.Tie as tie
 
-is_proper : (c : tie.Start) → IsProper c.args.flags c.args.from-epochs.now c.args.from-counts.now
-is_proper c = proper_inv c.args.flags c.args.from-epochs.now c.args.from-counts.now c.requires
+is_proper : (c : tie.Start) → IsProper c.args.flags c.args.from_epochs.now c.args.from_counts.now
+is_proper c = proper_inv c.args.flags c.args.from_epochs.now c.args.from_counts.now c.requires
 
 -- what `fit` told
 abbrev told : tie.Start → Bool
@@ -30,38 +30,32 @@ room : (c : tie.Start) → told c ≡ true → (c.args.flags.records ≤ length 
     × (c.args.flags.records ≤ length c.args.counts.now)
 room c e = room_both_lem c.args.flags.records (length c.args.epochs.now) (length c.args.counts.now) e
 
-copy-records-requires : tie.Need-copy-records-requires
+copy-records-requires : tie.Need-copy_records-requires
 copy-records-requires c κs =
-    let start = c.before.before.before.before.before.before.before.before in
-    let p = is_proper start in
-    ((p.epochs_long, p.counts_long), room start (sym c.before.before.before.fit.ensures ∙ c.before.before.if1.true))
+    let p = is_proper c.before.before.before.before.before.before.before.before in
+    ((p.epochs_long, p.counts_long), room c.before.before.before.before.before.before.before.before (sym c.fit.ensures ∙ c.if-fit.true))
 
-returns : tie.Need-returns
+returns : tie.Need-returns-then-fit
 returns c =
-    let at-copy-records = c.before.before.before.before.before.before.before in
-    let at-if1 = at-copy-records.before.before.before in
-    let at-fit = at-if1.before in
-    let b = at-fit.before.before.before.before.before in
-    let a = b.args in
-    let f = flags_of (holding a.flags a.from-epochs.now a.from-counts.now) in
-    let n = proper_long (is_proper b) in
-    let r = room b (sym at-fit.fit.ensures ∙ at-if1.if1.true) in
-    let o = ap (λ (m : MaybeOwner). owner_if m.owned m.id) c.before.before.owner-id.ensures ∙ sym (owner_back (owner_of a.flags)) in
-    let h = c.before.new-head.ensures ∙ ap (λ x. head_for a.flags.base x a.flags.records) o
+    let a = c.args in
+    let f = flags_of (holding a.flags a.from_epochs.now a.from_counts.now) in
+    let n = proper_long (is_proper c.before.before.before.before.before.before.before.before.before.before.before.before.before.before.before.before) in
+    let r = room c.before.before.before.before.before.before.before.before.before.before.before.before.before.before.before.before (sym c.fit.ensures ∙ c.if-fit.true) in
+    let o = ap (λ (m : MaybeOwner). owner_if m.owned m.id) c.owner_id-owner.ensures ∙ sym (owner_back (owner_of a.flags)) in
+    let h = c.new_head.ensures ∙ ap (λ x. head_for a.flags.base x a.flags.records) o
     ∙ ap (head_for a.flags.base (owner_of a.flags)) (sym n) in
     placed_left c.present.result (lending _ _) f _ a.flags.records _ _ c.present.ensures h
-    (subst (λ (rs : List At). Placed rs 0 a.flags.records a.epochs.now a.counts.now at-copy-records.copy-records.new.1.1.1.0
-    at-copy-records.copy-records.new.1.1.1.1.0) (take_records a.flags.records a.from-epochs.now a.from-counts.now)
-    at-copy-records.copy-records.ensures)
+    (subst (λ (rs : List At). Placed rs 0 a.flags.records a.epochs.now a.counts.now c.copy_records.new.epochs
+    c.copy_records.new.counts) (take_records a.flags.records a.from_epochs.now a.from_counts.now)
+    c.copy_records.ensures)
     (omega (arith, n, r.0)) (omega (arith, n, r.1))
 
-returns-2 : tie.Need-returns-2
+returns-2 : tie.Need-returns
 returns-2 c =
-    let b = c.before.before.before.before.before.before.before in
-    let e : told b ≡ false = sym c.before.before.fit.ensures ∙ c.before.if1.false in
+    let e : told c.before.before.before.before.before.before.before ≡ false = sym c.fit.ensures ∙ c.if-fit.false in
     refused_left c.refused.result (lending _ _) _ c.refused.ensures
-    ∙ sym (placing_short (flags_of (holding b.args.flags b.args.from-epochs.now b.args.from-counts.now)) (lending _ _)
-    (rw (proper_long (is_proper b)) e))
+    ∙ sym (placing_short (flags_of (holding c.args.flags c.args.from_epochs.now c.args.from_counts.now)) (lending _ _)
+    (rw (proper_long (is_proper c.before.before.before.before.before.before.before)) e))
 
 pub hand_on_spec : {M : Type 1} → statement M
 hand_on_spec =

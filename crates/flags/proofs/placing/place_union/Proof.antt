@@ -16,8 +16,8 @@ use Rattle.flags.proofs.placing.place_union.Tie as tie
 
 -- the records that are to be placed
 abbrev records : tie.Start → List At
-records c = union (records_of c.args.our-epochs.now c.args.our-counts.now)
-    (records_of c.args.their-epochs.now c.args.their-counts.now)
+records c = union (records_of c.args.our_epochs.now c.args.our_counts.now)
+    (records_of c.args.their_epochs.now c.args.their_counts.now)
 
 -- the flags
 abbrev placed : tie.Start → Flags
@@ -31,37 +31,29 @@ room : (c : tie.Start) → told c ≡ true → (length (records c) ≤ length c.
 room c e = rw (zero-add (length (records c))) at
     (room_both_lem (0 + length (records c)) (length c.args.epochs.now) (length c.args.counts.now) e)
 
-union-into-requires : tie.Need-union-into-requires
+union-into-requires : tie.Need-union_into-n-requires
 union-into-requires c κs =
-    let b = c.before.before.before.before.before.before.before.before.before.before in
-    let r = room b (sym c.before.before.before.union-fits.ensures ∙ c.before.before.if1.true) in
-    (b.requires.0, (b.requires.1, ((omega arith, omega arith), (omega (arith, r.0), omega (arith, r.1)))))
+    let r = room c.before.before.before.before.before.before.before.before.before.before (sym c.union_fits.ensures ∙ c.if-union_fits.true) in
+    (c.requires.0, (c.requires.1, ((omega arith, omega arith), (omega (arith, r.0), omega (arith, r.1)))))
 
-returns : tie.Need-returns
+returns : tie.Need-returns-then-union_fits
 returns c =
-    let at-union-into = c.before.before.before.before.before.before in
-    let at-if1 = at-union-into.before.before.before in
-    let at-union-fits = at-if1.before in
-    let b = at-union-fits.before.before.before.before.before.before.before in
-    let q = at-union-into.union-into.ensures in
-    let r = room b (sym at-union-fits.union-fits.ensures ∙ at-if1.if1.true) in
-    let h = c.before.new-head.ensures ∙ ap (head_for b.args.base (placed b).owner) (q.behind ∙ zero-add (length (records b))) in
-    placed_left c.present.result (lending _ _) (placed b) _ _ _ _ c.present.ensures h q r.0 r.1
+    let q = c.union_into-n.ensures in
+    let r = room c.before.before.before.before.before.before.before.before.before.before.before.before.before.before.before.before.before (sym c.union_fits.ensures ∙ c.if-union_fits.true) in
+    let h = c.new_head.ensures ∙ ap (head_for c.args.base (placed c.before.before.before.before.before.before.before.before.before.before.before.before.before.before.before.before.before).owner) (q.behind ∙ zero-add (length (records c.before.before.before.before.before.before.before.before.before.before.before.before.before.before.before.before.before))) in
+    placed_left c.present.result (lending _ _) (placed c.before.before.before.before.before.before.before.before.before.before.before.before.before.before.before.before.before) _ _ _ _ c.present.ensures h q r.0 r.1
 
-returns-2 : tie.Need-returns-2
+returns-2 : tie.Need-returns
 returns-2 c =
-    let b = c.before.before.before.before.before.before.before.before.before in
-    let e : told b ≡ false = sym c.before.before.union-fits.ensures ∙ c.before.if1.false in
+    let e : told c.before.before.before.before.before.before.before.before.before ≡ false = sym c.union_fits.ensures ∙ c.if-union_fits.false in
     refused_left c.refused.result (lending _ _) _ c.refused.ensures
-    ∙ sym (placing_short (placed b) (lending _ _) (rw (zero-add (length (records b))) at e))
+    ∙ sym (placing_short (placed c.before.before.before.before.before.before.before.before.before) (lending _ _) (rw (zero-add (length (records c.before.before.before.before.before.before.before.before.before))) at e))
 
-pub place-union-spec : {M : Type 1} → statement M
-place-union-spec =
+pub place_union_spec : {M : Type 1} → statement M
+place_union_spec =
     tie.close
     (tie.spec
-    (λ c κs.
-    let start = c.before.before.before.before.before.before in
-    (start.requires.0, (start.requires.1, (omega arith, omega arith))))
+    (λ c κs. (c.requires.0, (c.requires.1, (omega arith, omega arith))))
     union-into-requires
     (λ c κs. search rules)
     (λ c κs. search rules)

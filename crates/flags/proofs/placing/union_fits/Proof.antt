@@ -12,39 +12,35 @@ use Rattle.flags.proofs.placing.union_fits.Statement.{statement}
 use Rattle.flags.proofs.placing.union_fits.Tie as tie
 
 longest : (c : tie.Start) → let a = c.args in
-    length (union (drop a.i (records_of a.our-epochs.now a.our-counts.now)) (records_of a.their-epochs.now a.their-counts.now))
-    ≤ (length a.our-epochs.now - a.i) + length a.their-epochs.now
+    length (union (drop a.i (records_of a.our_epochs.now a.our_counts.now)) (records_of a.their_epochs.now a.their_counts.now))
+    ≤ (length a.our_epochs.now - a.i) + length a.their_epochs.now
 longest c = union_most c.requires.0 c.requires.1.0 c.args.i c.requires.1.1.1
 
-returns : tie.Need-returns
+returns : tie.Need-returns-then-fit
 returns c =
-    let start = c.before.before.before.before.before.before in
-    let a = start.args in
-    let most = a.before + (length a.our-epochs.now - a.i) + length a.their-epochs.now in
-    sym (room_less most a.epochs-len a.counts-len
-    (a.before + length (union (drop a.i (records_of a.our-epochs.now a.our-counts.now))
-    (records_of a.their-epochs.now a.their-counts.now)))
-    (omega (arith, longest start)) (sym c.before.fit.ensures ∙ c.if1.true))
+    let a = c.args in
+    let most = a.before + (length a.our_epochs.now - a.i) + length a.their_epochs.now in
+    sym (room_less most a.epochs_len a.counts_len
+    (a.before + length (union (drop a.i (records_of a.our_epochs.now a.our_counts.now))
+    (records_of a.their_epochs.now a.their_counts.now)))
+    (omega (arith, longest c.before.before.before.before.before.before)) (sym c.fit.ensures ∙ c.if-fit.true))
 
-union-len-requires : tie.Need-union-len-requires
+union-len-requires : tie.Need-union_len-n-requires
 union-len-requires c κs =
-    let start = c.before.before.before.before.before.before in
-    let p = start.requires in
+    let p = c.requires in
     (p.0, (p.1.0, (p.1.1.1, omega arith)))
 
-add_fit : tie.Need-overflow-add-fit
+add_fit : tie.Need-overflow_add-before
 add_fit c =
-    let start = c.before.before.before.before.before.before.before in
-    omega (arith, c.union-len.ensures, longest start)
+    omega (arith, c.union_len-n.ensures, longest c.before.before.before.before.before.before.before)
 
-returns-2 : tie.Need-returns-2
+returns-2 : tie.Need-returns
 returns-2 c =
-    let start = c.before.before.before.before.before.before.before.before in
-    c.fit2.ensures ∙ ap (λ (n : ℕ). room_for (start.args.before + n) start.args.epochs-len start.args.counts-len)
-    c.before.union-len.ensures
+    c.fit-2.ensures ∙ ap (λ (n : ℕ). room_for (c.args.before + n) c.args.epochs_len c.args.counts_len)
+    c.union_len-n.ensures
 
-pub union-fits-spec : {M : Type 1} → statement M
-union-fits-spec =
+pub union_fits_spec : {M : Type 1} → statement M
+union_fits_spec =
     tie.close
     (tie.spec
     (λ c. search rules)

@@ -10,39 +10,38 @@ use Rattle.listing_spec.proofs.Decimals.{Backing, backing_start, backing_more, b
 use Rattle.listing.proofs.digits.put_decimal.Statement.{statement}
 use Rattle.listing.proofs.digits.put_decimal.Tie as tie
 
-abbrev invariant-loop : tie.invariant-loop
+abbrev invariant-loop : tie.invariant-loop-rest
 invariant-loop out₀ at n end i₀ rest₀ out i rest =
     Backing n at out₀ rest i out × (i ≤ length out) × (end ≡ at + length (decimal n))
 
-abbrev decreases-loop : tie.decreases-loop
+abbrev decreases-loop : tie.decreases-loop-rest
 decreases-loop out₀ at n end i₀ rest₀ out i rest = rest
 
-add-end : tie.Need-overflow-add-end invariant-loop decreases-loop
-add-end c = omega (arith, c.decimal-len.ensures.counts)
+add-end : tie.Need-overflow_add-end invariant-loop decreases-loop
+add-end c = omega (arith, c.decimal_len.ensures.counts)
 
-loop-holds : tie.Need-loop-init invariant-loop decreases-loop
+loop-holds : tie.Need-loop-rest-init invariant-loop decreases-loop
 loop-holds c =
-    let e = c.decimal-len.ensures.counts in
-    let end : c.before.before.args.at + c.decimal-len.result ≡ c.before.before.args.at + length
-    (decimal c.before.before.args.n) = omega arith in
+    let e = c.decimal_len.ensures.counts in
+    let end : c.args.at + c.decimal_len.result ≡ c.args.at + length
+    (decimal c.args.n) = omega arith in
     (backing_start _ _ _ _ end, omega arith, end)
 
 -- a digit is left before the place reached
-some_left : (c : tie.In-loop invariant-loop decreases-loop) →
-    let start = c.before.before.before.before in
-    start.args.at < c.before.loop.i
-some_left c = omega (arith, c.before.loop.invariant.0.reached, length_more c.before.loop.rest c.loop-test.true)
+some_left : (c : tie.In-loop-rest invariant-loop decreases-loop) →
+    c.args.at < c.loop-rest.i
+some_left c = omega (arith, c.loop-rest.invariant.0.reached, length_more c.loop-rest.rest c.loop-rest-test.true)
 
-loop-again : tie.Need-loop-preserved invariant-loop decreases-loop
+loop-again : tie.Need-loop-rest-preserved invariant-loop decreases-loop
 loop-again c =
-    let l = c.before.loop in
-    (backing_more l.invariant.0 c.loop-test.true, simp length-set (omega arith), l.invariant.2)
+    let l = c.loop-rest in
+    (backing_more l.invariant.0 c.loop-rest-test.true, simp length-set (omega arith), l.invariant.2)
 
 returns : tie.Need-returns invariant-loop decreases-loop
-returns c = backing_last c.before.loop.invariant.0 (omega arith) c.before.loop.invariant.2
+returns c = backing_last c.loop-rest.invariant.0 (omega arith) c.loop-rest.invariant.2
 
-pub put-decimal-spec : {M : Type 1} → statement M
-put-decimal-spec =
+pub put_decimal_spec : {M : Type 1} → statement M
+put_decimal_spec =
     tie.close
     (tie.spec
     invariant-loop
@@ -58,6 +57,6 @@ put-decimal-spec =
     loop-again
     (λ c. omega arith)
     (λ c. omega arith)
-    (λ c. omega (arith, c.before.loop.invariant.0.reached, length_last c.before.loop.rest (omega arith)))
-    (λ c. simp length-set c.before.loop.invariant.0.long)
+    (λ c. omega (arith, c.loop-rest.invariant.0.reached, length_last c.loop-rest.rest (omega arith)))
+    (λ c. simp length-set c.loop-rest.invariant.0.long)
     returns)

@@ -10,36 +10,34 @@ use Rattle.listing_spec.proofs.Hexes.{hex_end, hex_two, hex_put}
 use Rattle.listing.proofs.digits.put_hex.Statement.{statement}
 use Rattle.listing.proofs.digits.put_hex.Tie as tie
 
-abbrev invariant-loop : tie.invariant-loop
+abbrev invariant-loop : tie.invariant-loop-k
 invariant-loop out₀ at bytes i₀ k₀ out i k = Parts (hex bytes) at out₀ (hex (drop k bytes)) i out
 
-abbrev decreases-loop : tie.decreases-loop
+abbrev decreases-loop : tie.decreases-loop-k
 decreases-loop out₀ at bytes i₀ k₀ out i k = length bytes - k
 
 -- two digits have room
-room : (c : tie.In-loop invariant-loop decreases-loop) → c.before.loop.i + 2 ≤ length c.before.loop.out
+room : (c : tie.In-loop-k invariant-loop decreases-loop) → c.loop-k.i + 2 ≤ length c.loop-k.out
 room c =
-    let s = c.before.before.before.before in
-    let l = c.before.loop in
-    omega (arith, parts_room l.invariant s.requires, hex_two s.args.bytes.now l.k c.loop-test.true)
+    let l = c.loop-k in
+    omega (arith, parts_room l.invariant c.requires, hex_two c.args.bytes.now l.k c.loop-k-test.true)
 
-loop-again : tie.Need-loop-preserved invariant-loop decreases-loop
+loop-again : tie.Need-loop-k-preserved invariant-loop decreases-loop
 loop-again c =
-    let at-loop = c.before.before.before.before in
-    hex_put _ _ c.before.before.before.loop-test.true at-loop.loop.invariant c.before.hex-digit.ensures c.hex-digit2.ensures
+    hex_put _ _ c.loop-k-test.true c.loop-k.invariant c.hex_digit.ensures c.hex_digit-in-loop-k.ensures
 
 returns : tie.Need-returns invariant-loop decreases-loop
-returns c = parts_done c.before.loop.invariant (hex_end _ _ c.loop-test.false)
+returns c = parts_done c.loop-k.invariant (hex_end _ _ c.loop-k-test.false)
 
-pub put-hex-spec : {M : Type 1} → statement M
-put-hex-spec =
+pub put_hex_spec : {M : Type 1} → statement M
+put_hex_spec =
     tie.close
     (tie.spec
     invariant-loop
     decreases-loop
     (λ c. parts_start _ _ _)
     (λ c. search rules)
-    (λ c κs. omega (arith, c.shared-slice-known2.given c.before.before.loop.k))
+    (λ c κs. omega (arith, c.shared_slice_known-in-loop-k-1.given c.loop-k.k))
     (λ c. omega (arith, room c.before.before))
     (λ c κs. search rules)
     (λ c. omega (arith, room c.before.before.before))
@@ -48,5 +46,5 @@ put-hex-spec =
     (λ c. omega arith)
     (λ c. omega arith)
     loop-again
-    (λ c. c.before.loop.invariant.long)
+    (λ c. c.loop-k.invariant.long)
     returns)

@@ -10,29 +10,28 @@ use Rattle.fields_spec.proofs.Parts.{Parts, parts_start, parts_byte, parts_done,
 use Rattle.listing.proofs.lines.put_text.Statement.{statement}
 use Rattle.listing.proofs.lines.put_text.Tie as tie
 
-abbrev invariant-loop : tie.invariant-loop
+abbrev invariant-loop : tie.invariant-loop-k
 invariant-loop out₀ at text i₀ k₀ out i k = Parts text at out₀ (drop k text) i out
 
-abbrev decreases-loop : tie.decreases-loop
+abbrev decreases-loop : tie.decreases-loop-k
 decreases-loop out₀ at text i₀ k₀ out i k = length text - k
 
-loop-holds : tie.Need-loop-init invariant-loop decreases-loop
+loop-holds : tie.Need-loop-k-init invariant-loop decreases-loop
 loop-holds c = parts_start _ _ _
 
 -- a byte has room
-room : (c : tie.In-loop invariant-loop decreases-loop) → c.before.loop.i + 1 ≤ length c.before.loop.out
+room : (c : tie.In-loop-k invariant-loop decreases-loop) → c.loop-k.i + 1 ≤ length c.loop-k.out
 room c =
-    let s = c.before.before in
-    omega (arith, parts_room c.before.loop.invariant s.requires, ap length (drop_next s.args.text.now c.before.loop.k c.loop-test.true))
+    omega (arith, parts_room c.loop-k.invariant c.requires, ap length (drop_next c.args.text.now c.loop-k.k c.loop-k-test.true))
 
-loop-again : tie.Need-loop-preserved invariant-loop decreases-loop
-loop-again c = parts_byte c.before.before.loop.invariant (drop_next _ _ c.before.loop-test.true)
+loop-again : tie.Need-loop-k-preserved invariant-loop decreases-loop
+loop-again c = parts_byte c.loop-k.invariant (drop_next _ _ c.loop-k-test.true)
 
 returns : tie.Need-returns invariant-loop decreases-loop
-returns c = parts_done c.before.loop.invariant (drop_of_length-le _ c.loop-test.false)
+returns c = parts_done c.loop-k.invariant (drop_of_length-le _ c.loop-k-test.false)
 
-pub put-text-spec : {M : Type 1} → statement M
-put-text-spec =
+pub put_text_spec : {M : Type 1} → statement M
+put_text_spec =
     tie.close
     (tie.spec
     invariant-loop
@@ -44,5 +43,5 @@ put-text-spec =
     (λ c. omega arith)
     (λ c. omega arith)
     loop-again
-    (λ c. c.before.loop.invariant.long)
+    (λ c. c.loop-k.invariant.long)
     returns)

@@ -135,12 +135,12 @@ take_old_counts_spec =
     move-down-requires
     (λ c. (found (looked c.before.before.before.before.before.before)).0)
     (λ c. omega
-    (arith, found (looked c.before.before.before.before.before.before), (turn (looked c.before.before.before.before.before.before)).loop-i.invariant.behind, (start (turn (looked c.before.before.before.before.before.before))).fits))
-    (λ c. omega (arith, found (looked c.before.before.before.before.before.before.before), (start (turn (looked c.before.before.before.before.before.before.before))).fits))
+    (arith, found (looked c.before.before.before.before.before.before), (turn (looked c.before.before.before.before.before.before)).loop-i.invariant.behind, (start (turn (looked c.before.before.before.before.before.before))).ranges.n.fits))
+    (λ c. omega (arith, found (looked c.before.before.before.before.before.before.before), (start (turn (looked c.before.before.before.before.before.before.before))).ranges.n.fits))
     (λ c. (found (looked (moved c.before.before.before.before.before))).2)
     put-total-requires
     (λ c. let l = looked (moved c.before.before.before.before.before.before.before.before.before.before.before) in
-    omega (arith, found l, (turn l).loop-i.invariant.behind, (start (turn l)).fits))
+    omega (arith, found l, (turn l).loop-i.invariant.behind, (start (turn l)).ranges.n.fits))
     (λ c. omega
     (arith, (entered (looked (moved c.before.before.before.before.before.before.before.before.before.before.before))).loop-i-test.true))
     loop-again
@@ -150,7 +150,7 @@ take_old_counts_spec =
     loop-again-3
     move-down-requires-2
     (λ c. (last c).loop-i.invariant.within)
-    (λ c. omega (arith, (last c).loop-i.invariant.behind, (last c).loop-i.invariant.within, (start (last c)).fits))
+    (λ c. omega (arith, (last c).loop-i.invariant.behind, (last c).loop-i.invariant.within, (start (last c)).ranges.n.fits))
     (λ c. (even c).0)
     (λ c. (even c).1)
     (λ c. (even c).2)

@@ -1,0 +1,27 @@
+-- `flags::adding::combine_added_bytes` meets its contract: both sides are proper, or one is not. Assumes nothing.
+use mathlib.Core.Path.{sym, ◌∙◌}
+use Rattle.records_spec.proofs.Answers.{refused_left}
+use Rattle.records_spec.specs.Flags.{lending}
+use Rattle.flags_spec.proofs.Merging.{combined_proper, combined_theirs_bad, combined_ours_bad}
+use Rattle.flags.proofs.adding.combine_added_bytes.Goals as goal
+
+pub returns-then-is_proper-2 : goal.returns-then-is_proper-2
+returns-then-is_proper-2 c =
+    c.combine_added_proper.ensures
+    ∙ sym (combined_proper _ _ _ _ _ (sym c.is_proper.ensures ∙ c.if-is_proper.true)
+    (sym c.is_proper-then-is_proper.ensures ∙ c.if-is_proper-2.true))
+
+pub returns-then-is_proper : goal.returns-then-is_proper
+returns-then-is_proper c = refused_left _ (lending _ _) _ c.refused.ensures
+    ∙ sym (combined_theirs_bad _ _ _ _ _ (sym c.is_proper-then-is_proper.ensures ∙ c.if-is_proper-2.false))
+
+pub returns : goal.returns
+returns c = refused_left _ (lending _ _) _ c.refused-2.ensures
+    ∙ sym (combined_ours_bad _ _ _ _ _ (sym c.is_proper.ensures ∙ c.if-is_proper.false))
+
+pub combine_added_proper-requires : goal.combine_added_proper-requires
+combine_added_proper-requires c = record {
+  our_counts_value = sym c.is_proper.ensures ∙ c.if-is_proper.true;
+  their_counts_value = sym c.is_proper-then-is_proper.ensures
+      ∙ c.if-is_proper-2.true;
+}
