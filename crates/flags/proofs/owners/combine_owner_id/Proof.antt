@@ -36,14 +36,13 @@ part-result-end c =
     ) in
     l
 
-part-result-end-2 : tie.Need-slice-bounds-result-end-2
+part-result-end-2 : tie.Need-slice_bounds-result-end-in-Theirs
 part-result-end-2 c =
-    let start = c.before.before.before.before.before in
-    let a = start.args in
+    let a = c.args in
     let l : behind_owner ≤ length a.theirs.now = omega (
       arith,
       (theirs_owned a.strategy a.ours.now a.theirs.now
-          (told c.before.before Theirs c.enum-told2.given.1)).1.long,
+          (told c.before Theirs c.in-Theirs.is)).1.long,
     ) in
     l
 

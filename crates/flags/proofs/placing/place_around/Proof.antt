@@ -97,8 +97,8 @@ module _ (c : tie.After-copy_records) where
   -- there is room for all still, so the record has its place in both tables
   all_fit : (number given ≤ length es) × (number given ≤ length cs)
   all_fit =
-      let k = c.copy_records.auto.1.1.1 in
-      (omega (arith, (room fitted).0, k.0), omega (arith, (room fitted).1, k.1.0))
+      let k = c.copy_records.auto in
+      (omega (arith, (room fitted).0, k.epochs), omega (arith, (room fitted).1, k.counts))
 
 union-into-requires : tie.Need-union_into-n-requires
 union-into-requires c κs =

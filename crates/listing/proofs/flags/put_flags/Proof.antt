@@ -79,8 +79,8 @@ pub put_flags_spec : {M : Type 1} → statement M
 put_flags_spec =
     tie.close
     (tie.spec
-    (λ c. search rules)
     (λ c κs. search rules)
+    (λ c. search rules)
     put-number-line-requires
     put-owner-line-requires
     (λ c. search rules)
