@@ -19,8 +19,8 @@ use Rattle.removal.proofs.remaining.place_remaining.Tie as tie
 abbrev records : tie.Start → List At
 records c =
     minus
-    (union (records_of c.args.our-epochs.now c.args.our-counts.now) (records_of c.args.their-epochs.now c.args.their-counts.now))
-    (records_of c.args.removed-epochs.now c.args.removed-bytes.now)
+    (union (records_of c.args.our_epochs.now c.args.our_counts.now) (records_of c.args.their_epochs.now c.args.their_counts.now))
+    (records_of c.args.removed_epochs.now c.args.removed_bytes.now)
 
 -- the flags
 abbrev placed : tie.Start → Flags
@@ -33,31 +33,25 @@ told c = room_for (length (records c)) (length c.args.epochs.now) (length c.args
 room : (c : tie.Start) → told c ≡ true → (length (records c) ≤ length c.args.epochs.now) × (length (records c) ≤ length c.args.counts.now)
 room c e = room_both_lem (length (records c)) (length c.args.epochs.now) (length c.args.counts.now) e
 
-remaining-into-requires : tie.Need-remaining-into-requires
+remaining-into-requires : tie.Need-remaining_into-n-requires
 remaining-into-requires c κs =
-    let b = c.before.before.before.before.before.before.before.before.before.before.before.before in
-    let r = room b (sym c.before.before.before.remaining-fits.ensures ∙ c.before.before.if1.true) in
-    (b.requires.0, (b.requires.1.0, (b.requires.1.1, (omega (arith, r.0), omega (arith, r.1)))))
+    let r = room c.before.before.before.before.before.before.before.before.before.before.before.before (sym c.remaining_fits.ensures ∙ c.if-remaining_fits.true) in
+    (c.requires.0, (c.requires.1.0, (c.requires.1.1, (omega (arith, r.0), omega (arith, r.1)))))
 
-returns : tie.Need-returns
+returns : tie.Need-returns-then-remaining_fits
 returns c =
-    let at-remaining-into = c.before.before.before.before.before.before in
-    let at-if1 = at-remaining-into.before.before.before in
-    let at-remaining-fits = at-if1.before in
-    let b = at-remaining-fits.before.before.before.before.before.before.before.before.before in
-    let q = at-remaining-into.remaining-into.ensures in
-    let r = room b (sym at-remaining-fits.remaining-fits.ensures ∙ at-if1.if1.true) in
-    let h = c.before.new-head.ensures ∙ ap (head_for b.args.base (placed b).owner) (q.behind ∙ zero-add (length (records b))) in
-    placed_left c.present.result (lending _ _) (placed b) _ _ _ _ c.present.ensures h q r.0 r.1
+    let q = c.remaining_into-n.ensures in
+    let r = room c.before.before.before.before.before.before.before.before.before.before.before.before.before.before.before.before.before.before.before (sym c.remaining_fits.ensures ∙ c.if-remaining_fits.true) in
+    let h = c.new_head.ensures ∙ ap (head_for c.args.base (placed c.before.before.before.before.before.before.before.before.before.before.before.before.before.before.before.before.before.before.before).owner) (q.behind ∙ zero-add (length (records c.before.before.before.before.before.before.before.before.before.before.before.before.before.before.before.before.before.before.before))) in
+    placed_left c.present.result (lending _ _) (placed c.before.before.before.before.before.before.before.before.before.before.before.before.before.before.before.before.before.before.before) _ _ _ _ c.present.ensures h q r.0 r.1
 
-returns-2 : tie.Need-returns-2
+returns-2 : tie.Need-returns
 returns-2 c =
-    let b = c.before.before.before.before.before.before.before.before.before.before.before in
-    let e : told b ≡ false = sym c.before.before.remaining-fits.ensures ∙ c.before.if1.false in
-    refused_left c.refused.result (lending _ _) _ c.refused.ensures ∙ sym (placing_short (placed b) (lending _ _) e)
+    let e : told c.before.before.before.before.before.before.before.before.before.before.before ≡ false = sym c.remaining_fits.ensures ∙ c.if-remaining_fits.false in
+    refused_left c.refused.result (lending _ _) _ c.refused.ensures ∙ sym (placing_short (placed c.before.before.before.before.before.before.before.before.before.before.before) (lending _ _) e)
 
-pub place-remaining-spec : {M : Type 1} → statement M
-place-remaining-spec =
+pub place_remaining_spec : {M : Type 1} → statement M
+place_remaining_spec =
     tie.close
     (tie.spec
     (λ c κs. search rules)

@@ -16,32 +16,30 @@ use Rattle.removal.proofs.remaining.remaining_fits.Tie as tie
 
 -- the union, the sections, and how many remain
 abbrev records : tie.Start → List At
-records c = union (records_of c.args.our-epochs.now c.args.our-counts.now)
-    (records_of c.args.their-epochs.now c.args.their-counts.now)
+records c = union (records_of c.args.our_epochs.now c.args.our_counts.now)
+    (records_of c.args.their_epochs.now c.args.their_counts.now)
 
 abbrev sections : tie.Start → List At
-sections c = records_of c.args.removed-epochs.now c.args.removed-bytes.now
+sections c = records_of c.args.removed_epochs.now c.args.removed_bytes.now
 
 abbrev number : tie.Start → ℕ
 number c = length (minus (records c) (sections c))
 
-longest : (c : tie.Start) → number c ≤ length c.args.our-epochs.now + length c.args.their-epochs.now
+longest : (c : tie.Start) → number c ≤ length c.args.our_epochs.now + length c.args.their_epochs.now
 longest c = omega (arith, union_most c.requires.0 c.requires.1.0 0 (omega arith), minus_long (records c) (sections c))
 
-returns : tie.Need-returns
+returns : tie.Need-returns-then-fit
 returns c =
-    let b = c.before.before.before.before.before.before.before.before in
-    let a = b.args in
-    sym (room_less _ a.epochs-len a.counts-len (number b) (longest b) (sym c.before.fit.ensures ∙ c.if1.true))
+    let a = c.args in
+    sym (room_less _ a.epochs_len a.counts_len (number c.before.before.before.before.before.before.before.before) (longest c.before.before.before.before.before.before.before.before) (sym c.fit.ensures ∙ c.if-fit.true))
 
-returns-2 : tie.Need-returns-2
+returns-2 : tie.Need-returns
 returns-2 c =
-    let start = c.before.before.before.before.before.before.before.before.before.before in
-    let a = start.args in
-    c.fit2.ensures ∙ ap (λ (n : ℕ). room_for n a.epochs-len a.counts-len) c.before.remaining-len.ensures
+    let a = c.args in
+    c.fit-2.ensures ∙ ap (λ (n : ℕ). room_for n a.epochs_len a.counts_len) c.remaining_len-n.ensures
 
-pub remaining-fits-spec : {M : Type 1} → statement M
-remaining-fits-spec =
+pub remaining_fits_spec : {M : Type 1} → statement M
+remaining_fits_spec =
     tie.close
     (tie.spec
     (λ c. search rules)

@@ -16,59 +16,47 @@ use Rattle.removal.proofs.removing.combine_removed_proper.Tie as tie
 
 -- ours, theirs and the removal
 abbrev ours : tie.Start → Flags
-ours c = flags_of (holding c.args.ours c.args.our-epochs.now c.args.our-counts.now)
+ours c = flags_of (holding c.args.ours c.args.our_epochs.now c.args.our_counts.now)
 
 abbrev theirs : tie.Start → Flags
-theirs c = flags_of (holding c.args.theirs c.args.their-epochs.now c.args.their-counts.now)
+theirs c = flags_of (holding c.args.theirs c.args.their_epochs.now c.args.their_counts.now)
 
 abbrev removal : tie.Start → Removal
-removal c = removal_in c.args.removed (tables c.args.ids.now c.args.removed-epochs.now c.args.removed-bytes.now)
+removal c = removal_in c.args.removed (tables c.args.ids.now c.args.removed_epochs.now c.args.removed_bytes.now)
 
-returns : tie.Need-returns
+returns : tie.Need-returns-then-their_base-our_base
 returns c =
-    let b = c.before.before.before.before.before.before.before.before.before.before in
-    let a = b.args in
-    refused_placing c.refused.result (lending a.epochs.now a.counts.now) (removed a.strategy (removal b) (ours b) (theirs b)) _
+    let a = c.args in
+    refused_placing c.refused.result (lending a.epochs.now a.counts.now) (removed a.strategy (removal c.before.before.before.before.before.before.before.before.before.before) (ours c.before.before.before.before.before.before.before.before.before.before) (theirs c.before.before.before.before.before.before.before.before.before.before)) _
     c.refused.ensures
-    (removed_lower a.strategy (removal b) (ours b) (theirs b) c.before.if1.true)
+    (removed_lower a.strategy (removal c.before.before.before.before.before.before.before.before.before.before) (ours c.before.before.before.before.before.before.before.before.before.before) (theirs c.before.before.before.before.before.before.before.before.before.before) c.if-their_base-our_base.true)
 
-returns-2 : tie.Need-returns-2
+returns-2 : tie.Need-returns-then-our_base-their_base
 returns-2 c =
-    let at-combine-same-base-epoch = c.before.before.before.before in
-    let at-if2 = at-combine-same-base-epoch.before.before.before in
-    let b = at-if2.before.before.before.before.before.before.before.before.before.before in
-    let a = b.args in
-    at-combine-same-base-epoch.combine-same-base-epoch.ensures
+    let a = c.args in
+    c.combine_same_base_epoch.ensures
     ∙ sym (ap (λ (x : Answer Flags). placing x (lending a.epochs.now a.counts.now))
-    (removed_beside_lem a.strategy (removal b) (ours b) (theirs b) at-if2.if2.true))
+    (removed_beside_lem a.strategy (removal c.before.before.before.before.before.before.before.before.before.before.before.before.before.before.before.before.before) (ours c.before.before.before.before.before.before.before.before.before.before.before.before.before.before.before.before.before) (theirs c.before.before.before.before.before.before.before.before.before.before.before.before.before.before.before.before.before) c.if-our_base-their_base.true))
 
-returns-3 : tie.Need-returns-3
+returns-3 : tie.Need-returns
 returns-3 c =
-    let at-combine-with-higher-base-epoch-remove-bytes = c.before.before.before.before in
-    let at-if2 = at-combine-with-higher-base-epoch-remove-bytes.before.before.before in
-    let at-if1 = at-if2.before in
-    let b = at-if1.before.before.before.before.before.before.before.before.before in
-    let a = b.args in
-    let p : a.ours.base < a.theirs.base = omega (arith, at-if1.if1.false, at-if2.if2.false) in
-    at-combine-with-higher-base-epoch-remove-bytes.combine-with-higher-base-epoch-remove-bytes.ensures
+    let a = c.args in
+    let p : a.ours.base < a.theirs.base = omega (arith, c.if-their_base-our_base.false, c.if-our_base-their_base.false) in
+    c.combine_with_higher_base_epoch_remove_bytes.ensures
     ∙ sym (ap (λ (x : Answer Flags). placing x (lending a.epochs.now a.counts.now))
-    (removed_above_lem a.strategy (removal b) (ours b) (theirs b) p))
+    (removed_above_lem a.strategy (removal c.before.before.before.before.before.before.before.before.before.before.before.before.before.before.before.before.before) (ours c.before.before.before.before.before.before.before.before.before.before.before.before.before.before.before.before.before) (theirs c.before.before.before.before.before.before.before.before.before.before.before.before.before.before.before.before.before) p))
 
-pub combine-removed-proper-spec : {M : Type 1} → statement M
-combine-removed-proper-spec =
+pub combine_removed_proper_spec : {M : Type 1} → statement M
+combine_removed_proper_spec =
     tie.close
     (tie.spec
     (λ c κs. search rules)
     returns
-    (λ c κs.
-    let start = c.before.before.before.before.before.before.before.before.before.before.before.before in
-    (start.requires.0, start.requires.1.0))
+    (λ c κs. (c.requires.0, c.requires.1.0))
     (λ c. search rules)
     (λ c. search rules)
     returns-2
-    (λ c κs.
-    let start = c.before.before.before.before.before.before.before.before.before.before.before.before in
-    start.requires)
+    (λ c κs. c.requires)
     (λ c. search rules)
     (λ c. search rules)
     returns-3)

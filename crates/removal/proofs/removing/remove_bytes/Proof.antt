@@ -16,52 +16,38 @@ use Rattle.removal.proofs.removing.remove_bytes.Tie as tie
 abbrev joined : tie.Start → Flags
 joined c =
     flags c.args.base (owner_if c.args.owner.owned c.args.owner.id)
-    (union (records_of c.args.our-epochs.now c.args.our-counts.now) (records_of c.args.their-epochs.now c.args.their-counts.now))
+    (union (records_of c.args.our_epochs.now c.args.our_counts.now) (records_of c.args.their_epochs.now c.args.their_counts.now))
 
 abbrev lent : tie.Start → Tables
-lent c = tables c.args.ids.now c.args.removed-epochs.now c.args.removed-bytes.now
+lent c = tables c.args.ids.now c.args.removed_epochs.now c.args.removed_bytes.now
 
 abbrev left : tie.Start → Removed → FlagsAfter
 left c x = placing (taken c.args.id (removal_in x (lent c)) (joined c)) (lending c.args.epochs.now c.args.counts.now)
 
-returns : tie.Need-returns
+returns : tie.Need-returns-in-None
 returns c =
-    let at-place-union = c.before.before.before.before in
-    let at-enum-told = at-place-union.before.before.before in
-    let start = at-enum-told.before.before.before.before.before.before.before.before.before.before in
-    at-place-union.place-union.ensures ∙ sym (ap (left start) at-enum-told.enum_told.given.1)
+    c.place_union.ensures ∙ sym (ap (left c.before.before.before.before.before.before.before.before.before.before.before.before.before.before.before.before) c.in-None.is)
 
-returns-2 : tie.Need-returns-2
+returns-2 : tie.Need-returns-in-Basic
 returns-2 c =
-    let at-place-union2 = c.before.before.before.before in
-    let at-enum-told2 = at-place-union2.before.before.before in
-    let start = at-enum-told2.before.before.before.before.before.before.before.before.before.before in
-    at-place-union2.place-union2.ensures ∙ sym (ap (left start) at-enum-told2.enum-told2.given.1)
+    c.place_union-in-Basic.ensures ∙ sym (ap (left c.before.before.before.before.before.before.before.before.before.before.before.before.before.before.before.before) c.in-Basic.is)
 
-returns-3 : tie.Need-returns-3
+returns-3 : tie.Need-returns-in-Sectioned
 returns-3 c =
-    let at-remove-rows = c.before.before.before.before in
-    let at-removed = at-remove-rows.before.before.before.before in
-    let start = at-removed.before.before.before.before.before.before.before.before.before.before in
-    at-remove-rows.remove-rows.ensures ∙ sym (ap (left start) at-removed.removed.given.1)
+    c.remove_rows.ensures ∙ sym (ap (left c.before.before.before.before.before.before.before.before.before.before.before.before.before.before.before.before) c.in-Sectioned.is)
 
-remove-rows-requires : tie.Need-remove-rows-requires
+remove-rows-requires : tie.Need-remove_rows-requires
 remove-rows-requires c κs =
-    let b = c.before.before.before.before.before.before.before.before.before.before.before.before.before in
-    (b.requires.0, (b.requires.1.0, proper_sectioned b.args.removed _ (lent b) b.requires.1.1 c.before.before.before.removed.given.1))
+    (c.requires.0, (c.requires.1.0, proper_sectioned c.args.removed _ (lent c.before.before.before.before.before.before.before.before.before.before.before) c.requires.1.1 c.in-Sectioned.is))
 
-pub remove-bytes-spec : {M : Type 1} → statement M
-remove-bytes-spec =
+pub remove_bytes_spec : {M : Type 1} → statement M
+remove_bytes_spec =
     tie.close
     (tie.spec
     (λ c. search rules)
-    (λ c κs.
-    let start = c.before.before.before.before.before.before.before.before.before.before.before.before in
-    (start.requires.0, start.requires.1.0))
+    (λ c κs. (c.requires.0, c.requires.1.0))
     (λ c. search rules)
-    (λ c κs.
-    let start = c.before.before.before.before.before.before.before.before.before.before.before.before in
-    (start.requires.0, start.requires.1.0))
+    (λ c κs. (c.requires.0, c.requires.1.0))
     (λ c. search rules)
     remove-rows-requires
     (λ c. search rules)

@@ -24,53 +24,41 @@ use Rattle.removal.proofs.removing.remove_rows.Tie as tie
 abbrev joined : tie.Start → Flags
 joined c =
     flags c.args.base (owner_if c.args.owner.owned c.args.owner.id)
-    (union (records_of c.args.our-epochs.now c.args.our-counts.now) (records_of c.args.their-epochs.now c.args.their-counts.now))
+    (union (records_of c.args.our_epochs.now c.args.our_counts.now) (records_of c.args.their_epochs.now c.args.their_counts.now))
 
 abbrev lent : tie.Start → Tables
-lent c = tables c.args.ids.now c.args.removed-epochs.now c.args.removed-bytes.now
+lent c = tables c.args.ids.now c.args.removed_epochs.now c.args.removed_bytes.now
 
 abbrev rows : tie.Start → List Row
 rows c = rows_in c.args.n (lent c)
 
-remove-sections-requires : tie.Need-remove-sections-requires
+remove-sections-requires : tie.Need-remove_sections-requires
 remove-sections-requires c κs =
-    let at-if1 = c.before.before.before.before in
-    let at-only-under = at-if1.before in
-    let b = at-only-under.before.before.before.before.before.before.before.before.before in
-    (b.requires.0, (b.requires.1.0, under_table b.requires.1.1 b.args.id (sym at-only-under.only_under.ensures ∙ at-if1.if1.true)))
+    (c.requires.0, (c.requires.1.0, under_table c.requires.1.1 c.args.id (sym c.only_under.ensures ∙ c.if-only_under.true)))
 
-returns : tie.Need-returns
+returns : tie.Need-returns-then-only_under
 returns c =
-    let at-remove-sections = c.before.before.before.before in
-    let at-if1 = at-remove-sections.before.before.before.before.before in
-    let at-only-under = at-if1.before in
-    let b = at-only-under.before.before.before.before.before.before.before.before.before in
-    let a = b.args in
-    let h : only_under_lem a.id (rows b) ≡ true = sym at-only-under.only_under.ensures ∙ at-if1.if1.true in
-    at-remove-sections.remove-sections.ensures
+    let a = c.args in
+    let h : only_under_lem a.id (rows c.before.before.before.before.before.before.before.before.before.before.before.before.before.before.before.before.before) ≡ true = sym c.only_under.ensures ∙ c.if-only_under.true in
+    c.remove_sections.ensures
     ∙ sym (ap (λ (x : Answer Flags). placing x (lending a.epochs.now a.counts.now))
-    (taken_under a.id (rows b) (joined b) (records_of (take a.n a.removed-epochs.now) (take a.n a.removed-bytes.now)) h
-    (parts_in b.requires.1.1.room)))
+    (taken_under a.id (rows c.before.before.before.before.before.before.before.before.before.before.before.before.before.before.before.before.before) (joined c.before.before.before.before.before.before.before.before.before.before.before.before.before.before.before.before.before) (records_of (take a.n a.removed_epochs.now) (take a.n a.removed_bytes.now)) h
+    (parts_in c.requires.1.1.room)))
 
-returns-2 : tie.Need-returns-2
+returns-2 : tie.Need-returns
 returns-2 c =
-    let b = c.before.before.before.before.before.before.before.before.before.before.before in
-    let a = b.args in
-    refused_placing c.refused.result (lending a.epochs.now a.counts.now) (taken a.id (sectioned (rows b)) (joined b)) _
+    let a = c.args in
+    refused_placing c.refused.result (lending a.epochs.now a.counts.now) (taken a.id (sectioned (rows c.before.before.before.before.before.before.before.before.before.before.before)) (joined c.before.before.before.before.before.before.before.before.before.before.before)) _
     c.refused.ensures
-    (taken_others a.id (rows b) (joined b) (sym c.before.before.only_under.ensures ∙ c.before.if1.false))
+    (taken_others a.id (rows c.before.before.before.before.before.before.before.before.before.before.before) (joined c.before.before.before.before.before.before.before.before.before.before.before) (sym c.only_under.ensures ∙ c.if-only_under.false))
 
-pub remove-rows-spec : {M : Type 1} → statement M
-remove-rows-spec =
+pub remove_rows_spec : {M : Type 1} → statement M
+remove_rows_spec =
     tie.close
     (tie.spec
-    (λ c κs. let start = c.before.before.before.before.before.before.before.before in start.requires.1.1.room)
-    (λ c.
-    let start = c.before.before.before.before.before.before.before.before.before.before.before in
-    sym (length-take-le _ _ start.requires.1.1.room.epochs_long))
-    (λ c.
-    let start = c.before.before.before.before.before.before.before.before.before.before.before.before in
-    sym (length-take-le _ _ start.requires.1.1.room.bytes_long))
+    (λ c κs. c.requires.1.1.room)
+    (λ c. sym (length-take-le _ _ c.requires.1.1.room.epochs_long))
+    (λ c. sym (length-take-le _ _ c.requires.1.1.room.bytes_long))
     remove-sections-requires
     (λ c. search rules)
     (λ c. search rules)

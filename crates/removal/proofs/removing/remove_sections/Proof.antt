@@ -17,39 +17,31 @@ use Rattle.removal.proofs.removing.remove_sections.Tie as tie
 abbrev joined : tie.Start → Flags
 joined c =
     flags c.args.base (owner_if c.args.owner.owned c.args.owner.id)
-    (union (records_of c.args.our-epochs.now c.args.our-counts.now) (records_of c.args.their-epochs.now c.args.their-counts.now))
+    (union (records_of c.args.our_epochs.now c.args.our_counts.now) (records_of c.args.their_epochs.now c.args.their_counts.now))
 
 abbrev sections : tie.Start → List At
-sections c = records_of c.args.removed-epochs.now c.args.removed-bytes.now
+sections c = records_of c.args.removed_epochs.now c.args.removed_bytes.now
 
-returns : tie.Need-returns
+returns : tie.Need-returns-in-Nowhere
 returns c =
-    let at-place-remaining = c.before.before.before.before in
-    let at-enum-told = at-place-remaining.before.before.before in
-    let at-judge-sections = at-enum-told.before.before in
-    let b = at-judge-sections.before.before.before.before.before.before.before.before.before in
-    let a = b.args in
-    at-place-remaining.place-remaining.ensures
+    let a = c.args in
+    c.place_remaining.ensures
     ∙ sym (ap (λ (x : Answer Flags). placing x (lending a.epochs.now a.counts.now))
-    (less_fine (sections b) (joined b) (sym at-judge-sections.judge-sections.ensures ∙ ap faulted at-enum-told.enum_told.given.1)))
+    (less_fine (sections c.before.before.before.before.before.before.before.before.before.before.before.before.before.before.before.before.before) (joined c.before.before.before.before.before.before.before.before.before.before.before.before.before.before.before.before.before) (sym c.judge_sections.ensures ∙ ap faulted c.in-Nowhere.is)))
 
-returns-2 : tie.Need-returns-2
+returns-2 : tie.Need-returns-in-At
 returns-2 c =
-    let at-judge-sections = c.before.before.before.before in
-    let b = at-judge-sections.before.before.before.before.before.before.before.before.before in
-    let a = b.args in
-    refused_placing c.refused.result (lending a.epochs.now a.counts.now) (less_sections (sections b) (joined b)) _ c.refused.ensures
-    (less_fault (sections b) (joined b) _ (sym at-judge-sections.judge-sections.ensures ∙ ap faulted c.before.before.refusal.given.1))
+    let a = c.args in
+    refused_placing c.refused.result (lending a.epochs.now a.counts.now) (less_sections (sections c.before.before.before.before.before.before.before.before.before.before.before) (joined c.before.before.before.before.before.before.before.before.before.before.before)) _ c.refused.ensures
+    (less_fault (sections c.before.before.before.before.before.before.before.before.before.before.before) (joined c.before.before.before.before.before.before.before.before.before.before.before) _ (sym c.judge_sections.ensures ∙ ap faulted c.in-At.is))
 
-pub remove-sections-spec : {M : Type 1} → statement M
-remove-sections-spec =
+pub remove_sections_spec : {M : Type 1} → statement M
+remove_sections_spec =
     tie.close
     (tie.spec
-    (λ c κs. let start = c.before.before.before.before.before.before.before.before in start.requires)
+    (λ c κs. c.requires)
     (λ c. search rules)
-    (λ c κs.
-    let start = c.before.before.before.before.before.before.before.before.before.before.before.before.before in
-    start.requires)
+    (λ c κs. c.requires)
     (λ c. search rules)
     (λ c κs. search rules)
     (λ c. search rules)

@@ -8,21 +8,24 @@ use Rattle.removal.proofs.sections.find_in_union.Tie as tie
 
 -- ours and theirs
 abbrev ours : tie.Start → List At
-ours c = records_of c.args.our-epochs.now c.args.our-counts.now
+ours c = records_of c.args.our_epochs.now c.args.our_counts.now
 
 abbrev theirs : tie.Start → List At
-theirs c = records_of c.args.their-epochs.now c.args.their-counts.now
+theirs c = records_of c.args.their_epochs.now c.args.their_counts.now
 
-returns : tie.Need-returns
+returns : tie.Need-returns-then-theirs
 returns c =
-    let b = c.before.before.before.before.before.before in
-    found_theirs b.args.epoch (ours b) (theirs b) c.before.find_at.result c.before.find_at.ensures c.if1.true
+    found_theirs c.args.epoch (ours c.before.before.before.before.before.before) (theirs c.before.before.before.before.before.before) c.find_at-theirs.result c.find_at-theirs.ensures c.if-theirs.true
 
-returns-2 : tie.Need-returns-2
+returns-2 : tie.Need-returns
 returns-2 c =
-    let b = c.before.before.before.before.before.before.before in
-    found_ours b.args.epoch (ours b) (theirs b) c.find-at2.result c.before.before.find_at.result c.before.before.find_at.ensures
-    c.before.if1.false c.find-at2.ensures
+    found_ours c.args.epoch (ours c.before.before.before.before.before.before.before) (theirs c.before.before.before.before.before.before.before) c.find_at.result c.find_at-theirs.result c.find_at-theirs.ensures
+    c.if-theirs.false c.find_at.ensures
 
-pub find-in-union-spec : {M : Type 1} → statement M
-find-in-union-spec = tie.close (tie.spec (λ c κs. search rules) returns (λ c κs. search rules) returns-2)
+pub find_in_union_spec : {M : Type 1} → statement M
+find_in_union_spec = tie.close
+    (tie.spec
+    (λ c κs. search rules)
+    returns
+    (λ c κs. search rules)
+    returns-2)

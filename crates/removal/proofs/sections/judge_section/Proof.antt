@@ -13,39 +13,39 @@ use Rattle.removal.proofs.sections.judge_section.Tie as tie
 
 -- the union
 abbrev records : tie.Start → List At
-records c = union (records_of c.args.our-epochs.now c.args.our-counts.now)
-    (records_of c.args.their-epochs.now c.args.their-counts.now)
+records c = union (records_of c.args.our_epochs.now c.args.our_counts.now)
+    (records_of c.args.their_epochs.now c.args.their_counts.now)
 
-returns : tie.Need-returns
-returns c = let b = c.before.before.before.before.before in
-    sym (fault_base b.args.base (records b) b.args.epoch b.args.bytes c.if1.true)
+returns : tie.Need-returns-then-epoch-base
+returns c = sym (fault_base c.args.base (records c.before.before.before.before.before) c.args.epoch c.args.bytes c.if-epoch-base.true)
 
-returns-2 : tie.Need-returns-2
+returns-2 : tie.Need-returns-then-bytes-standing_at
 returns-2 c =
-    let at-if1 = c.before.before.before.before in
-    let b = at-if1.before.before.before.before.before in
-    let f = c.before.before.before.find-in-union in
-    let p : b.args.bytes ≤ held b.args.epoch
-    (records b) = omega (arith, found_held b.args.epoch (records b) f.result f.ensures, c.if3.true) in
-    sym (fault_within b.args.base (records b) b.args.epoch b.args.bytes at-if1.if1.false
-    (found_has b.args.epoch (records b) f.result f.ensures true c.before.before.if2.true) p)
+    let f = c.find_in_union-standing_at in
+    let p : c.args.bytes ≤ held c.args.epoch
+    (records c.before.before.before.before.before.before.before.before.before) = omega (arith, found_held c.args.epoch (records c.before.before.before.before.before.before.before.before.before) f.result f.ensures, c.if-bytes-standing_at.true) in
+    sym (fault_within c.args.base (records c.before.before.before.before.before.before.before.before.before) c.args.epoch c.args.bytes c.if-epoch-base.false
+    (found_has c.args.epoch (records c.before.before.before.before.before.before.before.before.before) f.result f.ensures true c.if-standing_at.true) p)
 
-returns-3 : tie.Need-returns-3
+returns-3 : tie.Need-returns-then-standing_at
 returns-3 c =
-    let at-if1 = c.before.before.before.before in
-    let b = at-if1.before.before.before.before.before in
-    let f = c.before.before.before.find-in-union in
-    let p : held b.args.epoch (records b)
-    < b.args.bytes = omega (arith, found_held b.args.epoch (records b) f.result f.ensures, c.if3.false) in
-    sym (fault_over b.args.base (records b) b.args.epoch b.args.bytes at-if1.if1.false
-    (found_has b.args.epoch (records b) f.result f.ensures true c.before.before.if2.true) p)
+    let f = c.find_in_union-standing_at in
+    let p : held c.args.epoch (records c.before.before.before.before.before.before.before.before.before)
+    < c.args.bytes = omega (arith, found_held c.args.epoch (records c.before.before.before.before.before.before.before.before.before) f.result f.ensures, c.if-bytes-standing_at.false) in
+    sym (fault_over c.args.base (records c.before.before.before.before.before.before.before.before.before) c.args.epoch c.args.bytes c.if-epoch-base.false
+    (found_has c.args.epoch (records c.before.before.before.before.before.before.before.before.before) f.result f.ensures true c.if-standing_at.true) p)
 
-returns-4 : tie.Need-returns-4
+returns-4 : tie.Need-returns
 returns-4 c =
-    let b = c.before.before.before.before.before.before.before in
-    let f = c.before.find-in-union in
-    sym (fault_lacks b.args.base (records b) b.args.epoch b.args.bytes c.before.before.if1.false
-    (found_has b.args.epoch (records b) f.result f.ensures false c.if2.false))
+    let f = c.find_in_union-standing_at in
+    sym (fault_lacks c.args.base (records c.before.before.before.before.before.before.before) c.args.epoch c.args.bytes c.if-epoch-base.false
+    (found_has c.args.epoch (records c.before.before.before.before.before.before.before) f.result f.ensures false c.if-standing_at.false))
 
-pub judge-section-spec : {M : Type 1} → statement M
-judge-section-spec = tie.close (tie.spec returns (λ c κs. search rules) returns-2 returns-3 returns-4)
+pub judge_section_spec : {M : Type 1} → statement M
+judge_section_spec = tie.close
+    (tie.spec
+    returns
+    (λ c κs. search rules)
+    returns-2
+    returns-3
+    returns-4)

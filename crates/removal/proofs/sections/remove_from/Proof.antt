@@ -16,29 +16,32 @@ use Rattle.removal.proofs.sections.remove_from.Tie as tie
 abbrev sections : tie.Start → List At
 sections c = records_of c.args.epochs.now c.args.bytes.now
 
-returns : tie.Need-returns
+returns : tie.Need-returns-then-count-taken
 returns c =
-    let b = c.before.before.before.before.before in
-    let f = c.before.before.find_at in
-    let p : b.args.count - held b.args.epoch (sections b)
-    ≤ minimum = omega (arith, found_held b.args.epoch (sections b) f.result f.ensures, c.if2.true) in
-    sym (lessened_gone (sections b) b.args.epoch b.args.count
-    (found_has b.args.epoch (sections b) f.result f.ensures true c.before.if1.true) p)
+    let f = c.find_at-section in
+    let p : c.args.count - held c.args.epoch (sections c.before.before.before.before.before)
+    ≤ minimum = omega (arith, found_held c.args.epoch (sections c.before.before.before.before.before) f.result f.ensures, c.if-count-taken.true) in
+    sym (lessened_gone (sections c.before.before.before.before.before) c.args.epoch c.args.count
+    (found_has c.args.epoch (sections c.before.before.before.before.before) f.result f.ensures true c.if-section.true) p)
 
-returns-2 : tie.Need-returns-2
+returns-2 : tie.Need-returns-then-section
 returns-2 c =
-    let b = c.before.before.before.before.before in
-    let f = c.before.before.find_at in
-    lessened_left (sections b) b.args.epoch b.args.count
-    (found_has b.args.epoch (sections b) f.result f.ensures true c.before.if1.true) _
-    (ap (λ (n : ℕ). b.args.count - n) (found_held b.args.epoch (sections b) f.result f.ensures))
+    let f = c.find_at-section in
+    lessened_left (sections c.before.before.before.before.before) c.args.epoch c.args.count
+    (found_has c.args.epoch (sections c.before.before.before.before.before) f.result f.ensures true c.if-section.true) _
+    (ap (λ (n : ℕ). c.args.count - n) (found_held c.args.epoch (sections c.before.before.before.before.before) f.result f.ensures))
 
-returns-3 : tie.Need-returns-3
+returns-3 : tie.Need-returns
 returns-3 c =
-    let b = c.before.before.before.before in
-    let f = c.before.find_at in
-    sym (lessened_whole (sections b) b.args.epoch b.args.count
-    (found_has b.args.epoch (sections b) f.result f.ensures false c.if1.false))
+    let f = c.find_at-section in
+    sym (lessened_whole (sections c.before.before.before.before) c.args.epoch c.args.count
+    (found_has c.args.epoch (sections c.before.before.before.before) f.result f.ensures false c.if-section.false))
 
-pub remove-from-spec : {M : Type 1} → statement M
-remove-from-spec = tie.close (tie.spec (λ c κs. search rules) returns (λ c. search rules) returns-2 returns-3)
+pub remove_from_spec : {M : Type 1} → statement M
+remove_from_spec = tie.close
+    (tie.spec
+    (λ c κs. search rules)
+    returns
+    (λ c. search rules)
+    returns-2
+    returns-3)

@@ -11,58 +11,52 @@ use Rattle.repair_listing.proofs.listing.list_changes.Statement.{statement}
 use Rattle.repair_listing.proofs.listing.list_changes.Tie as tie
 
 -- it is known whether the kind is multi, and from there back: the head's size, the start
-module _ (c : tie.After-is-multi) where
-  abbrev sized : tie.After-head-size
+module _ (c : tie.After-is_multi) where
+  abbrev sized : tie.After-head_size-start
   sized = c.before
 
   abbrev start : tie.Start
   start = sized.before.before.before.before.before
 
 -- the first line is put, and from there back: the base is read, the kind is multi
-module _ (c : tie.After-list-line-if) where
-  abbrev read : tie.After-base-in
+module _ (c : tie.After-list_line_if-from) where
+  abbrev read : tie.After-base_in-base
   read = c.before.before.before
 
-  abbrev multi : tie.Then1
+  abbrev multi : tie.Then-is_multi
   multi = read.before
 
-list-records-requires : tie.Need-list-records-requires
+list-records-requires : tie.Need-list_records-requires
 list-records-requires c κs =
-    let put = c.before.before.before.before.before.before in
-    let asked = (multi put).before in
+    let asked = (multi c.before.before.before.before.before.before).before in
     let a = (start asked).args in
-    let s = (start asked).pre in
-    let h = (sized asked).head_size_lem.ensures in (
-      omega (arith, put.list-line-if.ensures.behind, line_if_short (eqb a.records 0) 0 KindChanged, head_three a.kind, h),
+    let s = (start asked).requires in
+    let h = (sized asked).head_size-start.ensures in (
+      omega (arith, c.list_line_if-from.ensures.behind, line_if_short (eqb a.records 0) 0 KindChanged, head_three a.kind, h),
       omega (arith, h, s.head_inside),
-      s.wide (sym asked.is-multi.ensures ∙ (multi put).if1.true),
+      s.wide (sym asked.is_multi.ensures ∙ (multi c.before.before.before.before.before.before).if-is_multi.true),
     )
 
-returns : tie.Need-returns
+returns : tie.Need-returns-then-is_multi
 returns c =
-    let listed = c.before.before.before.before in
-    let put = listed.before.before.before.before.before.before.before in
-    let asked = (multi put).before in
+    let asked = (multi c.before.before.before.before.before.before.before.before.before.before.before).before in
     let a = (start asked).args in
-    multi_listed a.kind a.src.now a.places.now a.records (start asked).pre (sym asked.is-multi.ensures ∙ (multi put).if1.true)
-    _ _ _ _ (read put).base-in.ensures (sized asked).head_size_lem.ensures put.list-line-if.ensures listed.list-records.ensures
+    multi_listed a.kind a.src.now a.places.now a.records (start asked).requires (sym asked.is_multi.ensures ∙ (multi c.before.before.before.before.before.before.before.before.before.before.before).if-is_multi.true)
+    _ _ _ _ (read c.before.before.before.before.before.before.before.before.before.before.before).base_in-base.ensures (sized asked).head_size-start.ensures c.list_line_if-from.ensures c.list_records.ensures
 
-returns-2 : tie.Need-returns-2
+returns-2 : tie.Need-returns
 returns-2 c =
-    let put = c.before.before.before.before in
-    let single = put.before.before.before in
-    let asked = single.before in
-    let a = (start asked).args in
-    single_listed a.kind a.src.now a.places.now a.records (start asked).requires (sym asked.is-multi.ensures ∙ single.if1.false) _ _
-    (sized asked).head_size_lem.ensures put.list-line-if2.ensures
+    let a = (start c.before.before.before.before.before.before.before.before).args in
+    single_listed a.kind a.src.now a.places.now a.records (start c.before.before.before.before.before.before.before.before).requires (sym c.is_multi.ensures ∙ c.if-is_multi.false) _ _
+    (sized c.before.before.before.before.before.before.before.before).head_size-start.ensures c.list_line_if.ensures
 
-pub list-changes-spec : {M : Type 1} → statement M
-list-changes-spec =
+pub list_changes_spec : {M : Type 1} → statement M
+list_changes_spec =
     tie.close
     (tie.spec
     (λ c κs. search rules)
     (λ c κs. search rules)
-    (λ c κs. (start c.before).pre.head_inside)
+    (λ c κs. (start c.before).requires.head_inside)
     (λ c κs. search rules)
     list-records-requires
     (λ c. search rules)

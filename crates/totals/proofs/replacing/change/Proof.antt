@@ -13,21 +13,15 @@ lent c = tables c.args.owners.now c.args.epochs.now c.args.totals.now
 
 write-requires : tie.Need-write-requires
 write-requires c κs =
-    let at_count = c.before.before.before.before in
-    let at-judge-change = at_count.before.before in
-    let start = at-judge-change.before.before.before.before.before.before.before.before.before.before in
-    let p = start.requires in
-    (p.0, (p.1.0, (p.1.1, sym (ap counted at_count.count.given.1) ∙ at-judge-change.judge-change.ensures)))
+    let p = c.requires in
+    (p.0, (p.1.0, (p.1.1, sym (ap counted c.in-Count.is) ∙ c.judge_change.ensures)))
 
-returns : tie.Need-returns
+returns : tie.Need-returns-in-Refused
 returns c =
-    let at-refusal = c.before in
-    let at-judge-change = at-refusal.before.before in
-    let start = at-judge-change.before.before.before.before.before.before.before.before.before.before in
-    refused_change _ _ (lent start) (sym (ap counted at-refusal.refusal.given.1) ∙ at-judge-change.judge-change.ensures)
+    refused_change _ _ (lent c.before.before.before.before.before.before.before.before) (sym (ap counted c.in-Refused.is) ∙ c.judge_change.ensures)
 
-pub change-spec : {M : Type 1} → statement M
-change-spec =
+pub change_spec : {M : Type 1} → statement M
+change_spec =
     tie.close
     (tie.spec
     (λ c κs. search rules)

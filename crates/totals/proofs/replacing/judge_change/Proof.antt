@@ -19,81 +19,74 @@ abbrev table : tie.Start → List Row
 table c = rows_in c.args.n (tables c.args.owners.now c.args.epochs.now c.args.totals.now)
 
 abbrev olds : tie.Start → List Row
-olds c = under c.args.old-owner c.args.old-epochs.now c.args.old-counts.now
+olds c = under c.args.old_owner c.args.old_epochs.now c.args.old_counts.now
 
 abbrev news : tie.Start → List Row
-news c = under c.args.new-owner c.args.new-epochs.now c.args.new-counts.now
+news c = under c.args.new_owner c.args.new_epochs.now c.args.new_counts.now
 
 -- the old counts are held, and so many rows go
-module _ (at-gone : tie.After-gone) where
+module _ (at-gone : tie.In-Count) where
   abbrev start : tie.Start
-  start = at-gone.before.before.before.before.before.before.before.before.before
+  start = at-gone.before.before.before.before.before.before.before.before
 
-  went : ok at-gone.gone.given.0.0 ≡ judged_old (olds start) (table start)
-  went = sym (ap counted at-gone.gone.given.1) ∙ at-gone.before.before.judge-old.ensures
+  went : ok at-gone.in-Count.gone ≡ judged_old (olds start) (table start)
+  went = sym (ap counted at-gone.in-Count.is) ∙ at-gone.judge_old.ensures
 
-judge-new-requires : tie.Need-judge-new-requires
+judge-new-requires : tie.Need-judge_new-requires
 judge-new-requires c κs =
-    let at-gone = c.before in
-    let p = (start at-gone).requires in
-    (p.0, (p.1.0, (p.1.1, verdict_covered (olds (start at-gone)) (news (start at-gone)) (table (start at-gone)) (went at-gone))))
+    let p = (start c).requires in
+    (p.0, (p.1.0, (p.1.1, verdict_covered (olds (start c)) (news (start c)) (table (start c)) (went c))))
 
 -- the new ones fit, and so many rows are made
-module _ (at-made : tie.After-made) where
-  abbrev gone : tie.After-gone
-  gone = at-made.before.before.before.before
+module _ (at-made : tie.In-Count-judge_new) where
+  abbrev gone : tie.In-Count
+  gone = at-made.before.before
 
   abbrev begin : tie.Start
   begin = start gone
 
-  came : ok at-made.made.given.0.0 ≡ judged_new (olds begin) (news begin) (table begin)
-  came = sym (ap counted at-made.made.given.1) ∙ at-made.before.before.judge-new.ensures
+  came : ok at-made.in-Count-judge_new.made ≡ judged_new (olds begin) (news begin) (table begin)
+  came = sym (ap counted at-made.in-Count-judge_new.is) ∙ at-made.judge_new.ensures
 
-  most : gone.gone.given.0.0 ≤ begin.args.n
+  most : gone.in-Count.gone ≤ begin.args.n
   most =
-      let p = begin.pre in
+      let p = begin.requires in
       rw (length_rows p.0.room) at (gone_most (olds begin) (news begin) (table begin) (went gone) p.0.rises p.0.full
       (under_ascends _ p.1.0) (under_ascends _ p.1.1))
 
-add : tie.Need-overflow-add-t20
+add : tie.Need-overflow_add-result
 add c =
-    let at-made = c.before in
-    let p = (begin at-made).requires in
+    let p = (begin c).requires in
     omega (
       arith,
-      most at-made,
-      made_within (olds (begin at-made)) (news (begin at-made)) (table (begin at-made)) (came at-made),
-      under_long (begin at-made).args.new-owner p.1.1,
+      most c,
+      made_within (olds (begin c)) (news (begin c)) (table (begin c)) (came c),
+      under_long (begin c).args.new_owner p.1.1,
       p.0.room.ids_long,
-      (begin at-made).well-formed,
+      (begin c).well_formed,
     )
 
-returns : tie.Need-returns
+returns : tie.Need-returns-in-Refused
 returns c =
-    let at-refusal = c.before in
-    let s = at-refusal.before.before.before.before.before.before.before.before.before in
-    verdict_old (olds s) (news s) (table s) _ (sym (ap counted at-refusal.refusal.given.1) ∙ at-refusal.before.before.judge-old.ensures)
+    verdict_old (olds c.before.before.before.before.before.before.before.before) (news c.before.before.before.before.before.before.before.before) (table c.before.before.before.before.before.before.before.before) _ (sym (ap counted c.in-Refused.is) ∙ c.judge_old.ensures)
 
-returns-2 : tie.Need-returns-2
+returns-2 : tie.Need-returns-in-Refused-judge_new
 returns-2 c =
-    let at-refusal = c.before in
-    let at-gone = at-refusal.before.before.before.before in
-    let s = start at-gone in
-    verdict_new (olds s) (news s) (table s) (went at-gone) _
-    (sym (ap counted at-refusal.refusal2.given.1) ∙ at-refusal.before.before.judge-new.ensures)
+    let s = start c.before.before in
+    verdict_new (olds s) (news s) (table s) (went c.before.before) _
+    (sym (ap counted c.in-Refused-judge_new.is) ∙ c.judge_new.ensures)
 
-returns-3 : tie.Need-returns-3
+returns-3 : tie.Need-returns-in-Count-judge_new
 returns-3 c =
-    let at-made = c.before in
-    let s = begin at-made in
-    let p = s.pre in
-    ap (λ (k : ℕ). ok (k - (gone at-made).gone.given.0.0 + at-made.made.given.0.0)) (sym (length_rows p.0.room))
-    ∙ verdict_rows (olds s) (news s) (table s) (went (gone at-made)) p.0.rises p.0.full (under_ascends _ p.1.0)
+    let s = begin c in
+    let p = s.requires in
+    ap (λ (k : ℕ). ok (k - (gone c).in-Count.gone + c.in-Count-judge_new.made)) (sym (length_rows p.0.room))
+    ∙ verdict_rows (olds s) (news s) (table s) (went (gone c)) p.0.rises p.0.full (under_ascends _ p.1.0)
     (under_ascends _ p.1.1)
-    (came at-made)
+    (came c)
 
-pub judge-change-spec : {M : Type 1} → statement M
-judge-change-spec =
+pub judge_change_spec : {M : Type 1} → statement M
+judge_change_spec =
     tie.close
     (tie.spec
     (λ c κs. search rules)
@@ -102,7 +95,7 @@ judge-change-spec =
     judge-new-requires
     (λ c. search rules)
     (λ c. search rules)
-    (λ c. most c.before)
+    (λ c. most c)
     add
     returns
     returns-2

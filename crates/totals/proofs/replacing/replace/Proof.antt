@@ -20,102 +20,99 @@ module _ (s : tie.Start) where
 
   -- the old flags and the new ones, and whether they are proper
   abbrev oldGiven : Option Flags
-  oldGiven = given s.args.old-present (holding s.args.old-flags s.args.old-epochs.now s.args.old-counts.now)
+  oldGiven = given s.args.old_present (holding s.args.old_flags s.args.old_epochs.now s.args.old_counts.now)
 
   abbrev newGiven : Option Flags
-  newGiven = given s.args.new-present (holding s.args.new-flags s.args.new-epochs.now s.args.new-counts.now)
+  newGiven = given s.args.new_present (holding s.args.new_flags s.args.new_epochs.now s.args.new_counts.now)
 
   abbrev oldGood : Bool
-  oldGood = proper_given s.args.old-present (holding s.args.old-flags s.args.old-epochs.now s.args.old-counts.now)
+  oldGood = proper_given s.args.old_present (holding s.args.old_flags s.args.old_epochs.now s.args.old_counts.now)
 
   abbrev newGood : Bool
-  newGood = proper_given s.args.new-present (holding s.args.new-flags s.args.new-epochs.now s.args.new-counts.now)
+  newGood = proper_given s.args.new_present (holding s.args.new_flags s.args.new_epochs.now s.args.new_counts.now)
 
 -- the table is tested
-abbrev start : tie.After-table-is-proper → tie.Start
-start c = c.before.before.before.before.before.before.before.before.before.before
+abbrev start : tie.After-table_is_proper → tie.Start
+start c = c.before.before.before.before.before.before.before
 
-table-told : tie.Need-returns-4
-table-told c = table_bad _ (lent (start c.before)) _ _ _ (sym c.before.table-is-proper.ensures ∙ c.if1.false)
+table-told : tie.Need-returns-else-table_is_proper
+table-told c = table_bad _ (lent (start c.before)) _ _ _ (sym c.table_is_proper.ensures ∙ c.if-table_is_proper.false)
 
 -- the old flags are tested, after the table
-abbrev tabled : tie.After-is-good → tie.Then1
+abbrev tabled : tie.After-is_good → tie.Then-table_is_proper
 tabled c = c.before
 
-old-told : tie.Need-returns-3
+old-told : tie.Need-returns-else-is_good
 old-told c =
     let s = start (tabled c.before).before in
-    old_bad _ (lent s) (oldGiven s) (newGiven s) (oldGood s) (newGood s) (sym c.before.is_good.ensures ∙ c.if2.false)
+    old_bad _ (lent s) (oldGiven s) (newGiven s) (oldGood s) (newGood s) (sym c.is_good.ensures ∙ c.if-is_good.false)
 
 -- the new ones are tested, after the old ones
-abbrev olded : tie.After-is-good2 → tie.Then2
+abbrev olded : tie.After-is_good-then-is_good → tie.Then-is_good
 olded c = c.before
 
-new_told : tie.Need-returns-2
+new_told : tie.Need-returns-else-is_good-2
 new_told c =
     let s = start (tabled (olded c.before).before).before in
-    new_bad _ (lent s) (oldGiven s) (newGiven s) (oldGood s) (newGood s) (sym c.before.is-good2.ensures ∙ c.if3.false)
+    new_bad _ (lent s) (oldGiven s) (newGiven s) (oldGood s) (newGood s) (sym c.is_good-then-is_good.ensures ∙ c.if-is_good-2.false)
 
 -- what they name is known: all tests went well
-module _ (c : tie.After-names-of2) where
-  abbrev third : tie.Then3
+module _ (c : tie.After-names_of-added) where
+  abbrev third : tie.Then-is_good-2
   third = c.before.before
 
-  abbrev second : tie.Then2
+  abbrev second : tie.Then-is_good
   second = olded third.before
 
-  abbrev first : tie.Then1
+  abbrev first : tie.Then-table_is_proper
   first = tabled second.before
 
   abbrev begun : tie.Start
   begun = start first.before
 
   table-good : proper_table begun.args.rows (lent begun) ≡ true
-  table-good = sym first.before.table-is-proper.ensures ∙ first.if1.taken
+  table-good = sym first.table_is_proper.ensures ∙ first.if-table_is_proper.true
 
   old-good : oldGood begun ≡ true
-  old-good = sym second.before.is_good.ensures ∙ second.if2.taken
+  old-good = sym second.is_good.ensures ∙ second.if-is_good.true
 
   new-good : newGood begun ≡ true
-  new-good = sym third.before.is-good2.ensures ∙ third.if3.taken
+  new-good = sym third.is_good-then-is_good.ensures ∙ third.if-is_good-2.true
 
   abbrev old : Named
-  old = c.before.names_of.result
+  old = c.names_of-taken.result
 
   abbrev new : Named
-  new = c.names-of2.result
+  new = c.names_of-added.result
 
   -- what is named of each stands in its tables
-  old-even : (old.records ≡ length (take old.records begun.args.old-epochs.now))
-      × (old.records ≡ length (take old.records begun.args.old-counts.now))
-  old-even = given_even begun.args.old-flags _ _ begun.args.old-present _ c.before.names_of.ensures old-good
+  old-even : (old.records ≡ length (take old.records begun.args.old_epochs.now))
+      × (old.records ≡ length (take old.records begun.args.old_counts.now))
+  old-even = given_even begun.args.old_flags _ _ begun.args.old_present _ c.names_of-taken.ensures old-good
 
-  new-even : (new.records ≡ length (take new.records begun.args.new-epochs.now))
-      × (new.records ≡ length (take new.records begun.args.new-counts.now))
-  new-even = given_even begun.args.new-flags _ _ begun.args.new-present _ c.names-of2.ensures new-good
+  new-even : (new.records ≡ length (take new.records begun.args.new_epochs.now))
+      × (new.records ≡ length (take new.records begun.args.new_counts.now))
+  new-even = given_even begun.args.new_flags _ _ begun.args.new_present _ c.names_of-added.ensures new-good
 
 change-requires : tie.Need-change-requires
 change-requires c κs =
-    let n = c.before.before.before.before.before.before.before.before.before in
-    let a = (begun n).args in (
-      table_standing _ (lent (begun n)) (table-good n),
+    let a = (begun c.before.before.before.before.before).args in (
+      table_standing _ (lent (begun c.before.before.before.before.before)) (table-good c.before.before.before.before.before),
       (
-        given_table a.old-flags _ _ a.old-present _ n.before.names_of.ensures (old-good n),
-        given_table a.new-flags _ _ a.new-present _ n.names-of2.ensures (new-good n),
+        given_table a.old_flags _ _ a.old_present _ c.names_of-taken.ensures (old-good c.before.before.before.before.before),
+        given_table a.new_flags _ _ a.new_present _ c.names_of-added.ensures (new-good c.before.before.before.before.before),
       ),
     )
 
-returns : tie.Need-returns
+returns : tie.Need-returns-then-is_good-2
 returns c =
-    let changed = c.before.before.before.before.before in
-    let n = changed.before.before.before.before.before.before.before.before.before.before in
-    let a = (begun n).args in
-    changed.change.ensures
+    let a = (begun c.before.before.before.before.before.before.before.before.before.before.before).args in
+    c.change.ensures
     ∙ rw (
-      ← given_names a.old-flags a.old-epochs.now a.old-counts.now a.old-present _ n.before.names_of.ensures,
-      ← given_names a.new-flags a.new-epochs.now a.new-counts.now a.new-present _ n.names-of2.ensures,
+      ← given_names a.old_flags a.old_epochs.now a.old_counts.now a.old_present _ c.names_of-taken.ensures,
+      ← given_names a.new_flags a.new_epochs.now a.new_counts.now a.new_present _ c.names_of-added.ensures,
     )
-    (replacing_proper a.rows (lent (begun n)) _ _ (table-good n) _ _ (old-good n) (new-good n))
+    (replacing_proper a.rows (lent (begun c.before.before.before.before.before.before.before.before.before.before.before)) _ _ (table-good c.before.before.before.before.before.before.before.before.before.before.before) _ _ (old-good c.before.before.before.before.before.before.before.before.before.before.before) (new-good c.before.before.before.before.before.before.before.before.before.before.before))
 
 pub replace_spec : {M : Type 1} → statement M
 replace_spec =
@@ -126,10 +123,10 @@ replace_spec =
     (λ c κs. search rules)
     (λ c κs. search rules)
     (λ c κs. search rules)
-    (λ c. let n = c.before.before.before.before.before.before in (old-even n).0)
-    (λ c. let n = c.before.before.before.before.before.before.before in (old-even n).1)
-    (λ c. let n = c.before.before.before.before.before.before.before.before in (new-even n).0)
-    (λ c. let n = c.before.before.before.before.before.before.before.before.before in (new-even n).1)
+    (λ c. (old-even c.before.before.before.before.before).0)
+    (λ c. (old-even c.before.before.before.before.before).1)
+    (λ c. (new-even c.before.before.before.before.before).0)
+    (λ c. (new-even c.before.before.before.before.before).1)
     change-requires
     (λ c. search rules)
     (λ c. search rules)

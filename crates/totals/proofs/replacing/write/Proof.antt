@@ -14,55 +14,45 @@ abbrev lent : tie.Start → Tables
 lent c = tables c.args.owners.now c.args.epochs.now c.args.totals.now
 
 abbrev olds : tie.Start → List Row
-olds c = under c.args.old-owner c.args.old-epochs.now c.args.old-counts.now
+olds c = under c.args.old_owner c.args.old_epochs.now c.args.old_counts.now
 
 abbrev news : tie.Start → List Row
-news c = under c.args.new-owner c.args.new-epochs.now c.args.new-counts.now
+news c = under c.args.new_owner c.args.new_epochs.now c.args.new_counts.now
 
 judged : (c : tie.Start) → Counted (olds c) (news c) (rows_in c.args.n (lent c)) c.args.count
 judged c = counted (olds c) (news c) _ _ c.requires.1.1.1
 
-take-old-counts-requires : tie.Need-take-old-counts-requires
-take-old-counts-requires c κs = let b = c.before.before.before.before.before.before.before.before.before.before.before.before.before.before in (b.pre.0, (b.pre.1.0, (judged b).covers))
+take-old-counts-requires : tie.Need-take_old_counts-left-requires
+take-old-counts-requires c κs = (c.requires.0, (c.requires.1.0, (judged c.before.before.before.before.before.before.before.before.before.before.before).covers))
 
-add-new-counts-requires : tie.Need-add-new-counts-requires
+add-new-counts-requires : tie.Need-add_new_counts-requires
 add-new-counts-requires c κs =
-    let at-take-old-counts = c.before.before.before.before.before.before.before.before in
-    let at-if1 = at-take-old-counts.before.before.before.before in
-    let at-totals-fit = at-if1.before in
-    let b = at-totals-fit.before.before.before.before.before.before.before.before.before.before in
-    let p = b.requires in
-    let f = sym at-totals-fit.totals-fit.ensures ∙ at-if1.if1.true in
-    let e = at-take-old-counts.take-old-counts.ensures in
+    let p = c.requires in
+    let f = sym c.totals_fit.ensures ∙ c.if-totals_fit.true in
+    let e = c.take_old_counts-left.ensures in
     let s = under_ascends _ p.1.0 in
     let r = under_ascends _ p.1.1.0 in (
-      left_standing (olds b) (news b) p.0 s r (judged b) f e.0 e.1,
+      left_standing (olds c.before.before.before.before.before.before.before.before.before.before.before.before.before.before.before.before.before.before.before.before) (news c.before.before.before.before.before.before.before.before.before.before.before.before.before.before.before.before.before.before.before.before) p.0 s r (judged c.before.before.before.before.before.before.before.before.before.before.before.before.before.before.before.before.before.before.before.before) f e.0 e.1,
       (
         p.1.1.0,
         (
-          left_fits (olds b) (news b) p.0 s r (judged b) f e.0 e.1,
-          (left_count (olds b) (news b) p.0 s r (judged b) f e.0 e.1, left_room (olds b) (news b) p.0 s r (judged b) f e.0 e.1),
+          left_fits (olds c.before.before.before.before.before.before.before.before.before.before.before.before.before.before.before.before.before.before.before.before) (news c.before.before.before.before.before.before.before.before.before.before.before.before.before.before.before.before.before.before.before.before) p.0 s r (judged c.before.before.before.before.before.before.before.before.before.before.before.before.before.before.before.before.before.before.before.before) f e.0 e.1,
+          (left_count (olds c.before.before.before.before.before.before.before.before.before.before.before.before.before.before.before.before.before.before.before.before) (news c.before.before.before.before.before.before.before.before.before.before.before.before.before.before.before.before.before.before.before.before) p.0 s r (judged c.before.before.before.before.before.before.before.before.before.before.before.before.before.before.before.before.before.before.before.before) f e.0 e.1, left_room (olds c.before.before.before.before.before.before.before.before.before.before.before.before.before.before.before.before.before.before.before.before) (news c.before.before.before.before.before.before.before.before.before.before.before.before.before.before.before.before.before.before.before.before) p.0 s r (judged c.before.before.before.before.before.before.before.before.before.before.before.before.before.before.before.before.before.before.before.before) f e.0 e.1),
         ),
       ),
     )
 
-returns : tie.Need-returns
+returns : tie.Need-returns-then-totals_fit
 returns c =
-    let at-add-new-counts = c.before.before.before.before.before in
-    let at-take-old-counts = at-add-new-counts.before.before.before.before.before.before.before.before.before in
-    let at-if1 = at-take-old-counts.before.before.before.before in
-    let at-totals-fit = at-if1.before in
-    let b = at-totals-fit.before.before.before.before.before.before.before.before.before.before in
-    let p = b.requires in
-    let f = sym at-totals-fit.totals-fit.ensures ∙ at-if1.if1.true in
-    let e = at-take-old-counts.take-old-counts.ensures in
-    all_written (olds b) (news b) p.0 (under_ascends _ p.1.0) (under_ascends _ p.1.1.0) (judged b) f e.0 e.1
-    at-add-new-counts.add-new-counts.ensures
+    let p = c.requires in
+    let f = sym c.totals_fit.ensures ∙ c.if-totals_fit.true in
+    let e = c.take_old_counts-left.ensures in
+    all_written (olds c.before.before.before.before.before.before.before.before.before.before.before.before.before.before.before.before.before.before.before.before.before.before.before.before.before.before) (news c.before.before.before.before.before.before.before.before.before.before.before.before.before.before.before.before.before.before.before.before.before.before.before.before.before.before) p.0 (under_ascends _ p.1.0) (under_ascends _ p.1.1.0) (judged c.before.before.before.before.before.before.before.before.before.before.before.before.before.before.before.before.before.before.before.before.before.before.before.before.before.before) f e.0 e.1
+    c.add_new_counts.ensures
 
-returns-2 : tie.Need-returns-2
+returns-2 : tie.Need-returns
 returns-2 c =
-    let b = c.before.before.before.before.before.before.before.before.before.before.before in
-    not_written (olds b) (news b) b.args.n (lent b) (judged b) (sym c.before.totals-fit.ensures ∙ c.if1.false)
+    not_written (olds c.before.before.before.before.before.before.before.before) (news c.before.before.before.before.before.before.before.before) c.args.n (lent c.before.before.before.before.before.before.before.before) (judged c.before.before.before.before.before.before.before.before) (sym c.totals_fit.ensures ∙ c.if-totals_fit.false)
 
 pub write_spec : {M : Type 1} → statement M
 write_spec =
