@@ -21,51 +21,41 @@ written c = line c.args.offset (change_of c.args.change)
 short : (c : tie.Start) → length (line_text (written c)) ≤ longest_line
 short c = line_short (written c) (omega (arith, c.ranges.offset.fits))
 
-put-decimal-requires : tie.Need-put-decimal-requires
+put-decimal-requires : tie.Need-put_decimal-blank-requires
 put-decimal-requires c κs =
-    let s = c.before.before in
-    omega (arith, short s, length_line (written s))
+    omega (arith, short c.before.before, length_line (written c.before.before))
 
-put-text-requires : tie.Need-put-text-requires
+put-text-requires : tie.Need-put_text-words-requires
 put-text-requires c κs =
-    let s = c.before.before.before.before.before.before.before in
-    omega (arith, short s, length_line (written s))
+    omega (arith, short c.before.before.before.before.before.before.before.before, length_line (written c.before.before.before.before.before.before.before.before))
 
-put-words-requires : tie.Need-put-words-requires
+put-words-requires : tie.Need-put_words-end-requires
 put-words-requires c κs =
-    let s = c.before.before.before.before.before.before.before.before.before.before.before in
-    omega (arith, length_below 19 s.args.offset (omega (arith, s.ranges.offset.fits)))
+    omega (arith, length_below 19 c.args.offset (omega (arith, c.ranges.offset.fits)))
 
-put-text-requires-2 : tie.Need-put-text-requires-2
+put-text-requires-2 : tie.Need-put_text-requires
 put-text-requires-2 c κs =
-    let s = c.before.before.before.before.before.before.before.before.before.before.before.before.before.before.before.before in
-    omega (arith, short s, length_line (written s))
+    omega (arith, short c.before.before.before.before.before.before.before.before.before.before.before.before.before.before.before.before.before.before, length_line (written c.before.before.before.before.before.before.before.before.before.before.before.before.before.before.before.before.before.before))
 
 returns : tie.Need-returns
 returns c =
-    let at-put-words = c.before.before.before.before.before.before.before in
-    let at-put-text = at-put-words.before.before.before.before in
-    let at-put-decimal = at-put-text.before.before.before.before.before in
-    let s = at-put-decimal.before.before.before in
-    let d = at-put-decimal.put-decimal.ensures in
-    let b = at-put-text.put-text.ensures in
-    let w = at-put-words.put-words.ensures in
-    let e = c.before.before.put-text2.ensures in
+    let d = c.put_decimal-blank.ensures in
+    let b = c.put_text-words.ensures in
+    let w = c.put_words-end.ensures in
+    let e = c.put_text.ensures in
     let p = parts_last (parts_put (parts_put (parts_put (parts_start _ _ _) refl d) refl b) refl w) e in
     record {
       put = p;
-      short = omega (arith, p.behind, short s);
+      short = omega (arith, p.behind, short c.before.before.before.before.before.before.before.before.before.before.before.before.before.before.before.before.before.before.before.before.before);
     }
 
-pub put-change-line-spec : {M : Type 1} → statement M
-put-change-line-spec =
+pub put_change_line_spec : {M : Type 1} → statement M
+put_change_line_spec =
     tie.close
     (tie.spec
     put-decimal-requires
-    (λ c. search rules)
     put-text-requires
     put-words-requires
-    (λ c. search rules)
     put-text-requires-2
     (λ c. search rules)
     returns)
