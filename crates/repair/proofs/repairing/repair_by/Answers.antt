@@ -15,7 +15,7 @@ pub gather-n-requires : goal.gather-n-requires
 gather-n-requires c =
     let m = c.mark.auto in
     let p = c.requires.blank in
-    (omega (arith, m.1.1.1.0, p.0.wide), p.2, omega (arith, m.1.1.1.1.0, p.1.wide))
+    (omega (arith, m.places, p.0.wide), p.2, omega (arith, m.counts, p.1.wide))
 
 pub settle-requires : goal.settle-requires
 settle-requires c =
@@ -26,12 +26,12 @@ settle-requires c =
     let bytes : Bytes a.src.now = λ i. (c.type_inv.src i).fits in record {
       settled = standing_ready a.kind a.src.now p.kind_value.0 bytes p.kind_value.1 c.base_in-base.result c.head_size-start.result
           c.base_in-base.ensures c.head_size-start.ensures
-          a.places.now a.counts.now _ _ p.blank.0 p.blank.1 m.ensures.0 m.ensures.1
+          a.places.now a.counts.now _ _ p.blank.0 p.blank.1 m.ensures.places_value m.ensures.counts_value
           a.epochs.now p.blank.2 g.result _ _ g.ensures c.kind_left.result c.kind_left.ensures
           c.head_in-head.result c.head_in-head.ensures;
       ready = multi_ready a.kind a.src.now p.kind_value.0 bytes p.kind_value.1 c.base_in-base.result c.head_size-start.result
           c.base_in-base.ensures c.head_size-start.ensures
-          a.places.now a.counts.now _ _ p.blank.0 p.blank.1 m.ensures.0 m.ensures.1
+          a.places.now a.counts.now _ _ p.blank.0 p.blank.1 m.ensures.places_value m.ensures.counts_value
           a.epochs.now p.blank.2 g.result _ _ g.ensures c.kind_left.result c.kind_left.ensures
           c.head_in-head.result c.head_in-head.ensures;
     }
