@@ -2,8 +2,6 @@
 pub mod Filling
 pub mod Columns
 pub mod Place
-pub mod Walks
-pub mod Lends
 pub mod Counting
 pub mod Fitting
 pub mod Exchange

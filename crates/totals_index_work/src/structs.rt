@@ -20,7 +20,8 @@ pub fn take_apart(
     let mut i: usize = 0;
     while i < n {
         let row = table[i];
-        owners[i] = row.owner;
+        let owner = row.owner;
+        owners[i] = owner;
         epochs[i] = row.epoch;
         totals[i] = row.total;
         i += 1;
