@@ -1,12 +1,12 @@
 // Judging a change over the table as it stands, row by row, before anything is written.
-ghost use Rattle.std.specs.Prelude.{◌≡◌, true, cond, ◌-◌, ◌≤◌, length};
+ghost use Rattle.std.specs.Prelude.{◌≡◌, true, cond, ◌-◌, ◌≤◌, ◌<◌, ◌^◌, length};
 ghost use Rattle.records_spec.specs.Answers.{flags_were};
 ghost use Rattle.rows_spec.specs.Order.{is_less};
 ghost use Rattle.rows_spec.specs.Rows.{row, rows_in, compared};
 ghost use Rattle.totals_spec.specs.Table.{total_at};
 ghost use Rattle.totals_index_spec.specs.Structs.{columns};
 ghost use Rattle.totals_index_spec.specs.Inner.Judging.{one, positives, beginning, unjudged, started, row_of};
-ghost use Rattle.totals_index_spec.specs.Inner.Judging.{rows_named, judged_next, judged_all, AskedOf, Asked, Small};
+ghost use Rattle.totals_index_spec.specs.Inner.Judging.{rows_named, judged_next, judged_all, AskedOf, Asked, Small, TotalsFit};
 
 use records_spec::{Head, OWNER_LENGTH};
 use totals::LARGEST_TOTAL;
@@ -134,7 +134,8 @@ fn less_if(n: usize, so: bool) -> usize
 
 // What of a total an old count leaves; 0 where it is less.
 fn left_of(total: u64, old_count: u64) -> u64
-    ensures { result ≡ total - old_count }
+    ensures left { result ≡ total - old_count }
+    ensures total_fits { total < 2 ^ 64 }
 {
     if old_count < total {
         return total - old_count;
@@ -162,9 +163,10 @@ pub fn judge_row(
     new_counts: &[u32],
 ) -> Judging
     requires { Asked seen old_epochs.now old_counts.now new_epochs.now new_counts.now }
-    ensures { let old_rows = rows_named seen.old old_epochs.now old_counts.now in
+    ensures judged { let old_rows = rows_named seen.old old_epochs.now old_counts.now in
         let new_rows = rows_named seen.new new_epochs.now new_counts.now in
         result ≡ judged_next old_rows new_rows seen (row_of row) }
+    ensures total_fits { row.total < 2 ^ 64 }
 {
     let old = seen.old;
     let new = seen.new;
@@ -211,9 +213,10 @@ pub fn judge_rows(
     new_counts: &[u32],
 ) -> Judging
     requires { (n ≤ length table.now) × Asked seen old_epochs.now old_counts.now new_epochs.now new_counts.now }
-    ensures { let old_rows = rows_named seen.old old_epochs.now old_counts.now in
+    ensures judged { let old_rows = rows_named seen.old old_epochs.now old_counts.now in
         let new_rows = rows_named seen.new new_epochs.now new_counts.now in
         result ≡ judged_all old_rows new_rows seen (rows_in n (columns table.now)) }
+    ensures totals_fit { TotalsFit n table.now }
 {
     let mut i: usize = 0;
     while i < n {

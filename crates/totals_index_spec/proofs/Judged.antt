@@ -1,14 +1,14 @@
 -- THE JUDGING ROW BY ROW TELLS WHAT THE DEFINITION SAYS: 11, then 14, then 6, then the number of rows afterwards. Where it starts it is by
 -- the tests there, and over the rows by what each field has come to.
 -- Assumes nothing.
-use mathlib.Core.Path.{◌≡◌, refl, sym, ap, ◌∙◌}
+use mathlib.Core.Path.{◌≡◌, refl, sym, ap, subst, ◌∙◌}
 use mathlib.Core.Bool.{Bool, true, false, cond, ◌&&◌, and-true, and-false, and-eq-true_iff}
 use mathlib.Core.Option.{Option}
 use mathlib.Core.List.{List, [], ◌∷◌}
-use Prim.Native.Nat.{ℕ, ◌+◌, ◌-◌, ◌≤◌, ◌<◌, ◌^◌}
+use Prim.Native.Nat.{ℕ, ◌+◌, ◌-◌, ◌≤◌}
 use native.Mathlib.Omega.{arith}
 use lib.Dec.{leb, eqb}
-use lib.ListN.{length, take, get_or, length-take}
+use lib.ListN.{length, take, length-take}
 use borrow.Author.Tests.{leb-true, leb-false}
 use Rattle.records_spec.specs.Flags.{Flags, holding}
 use Rattle.records_spec.specs.Tables.{rising}
@@ -30,11 +30,11 @@ use Rattle.totals_spec.proofs.GivenFlags.{given_names, given_table, given_even}
 use Rattle.totals_spec.proofs.UnderOwner.{under_ascends}
 use Rattle.totals_index_spec.specs.Calls.{verdict}
 use Rattle.totals_index_spec.specs.Inner.Judging.{beginning, none_named, started, rows_named, judged_next, judged_all, verdict_of}
-use Rattle.totals_index_spec.specs.Inner.Judging.{AskedOf, Asked, Small}
+use Rattle.totals_index_spec.specs.Inner.Judging.{AskedOf, Asked, Small, TotalsFit}
 use Rattle.totals_index_spec.specs.Structs.{columns}
 use Rattle.totals_index_spec.specs.declared.judging.Judging.{Judging}
 use Rattle.totals_index_spec.specs.declared.structs.Total.{Total}
-use Rattle.totals_index_spec.proofs.Columns.{no_total, length_owners, columns_room}
+use Rattle.totals_index_spec.proofs.Columns.{length_owners, columns_room}
 use Rattle.totals_index_spec.proofs.Exchange.{count_by, exchange}
 use Rattle.totals_index_spec.proofs.Tallies.{positives_in, positives_under, held, held_fair, going_fair, meeting_fair, owed_none, gone_count}
 use Rattle.totals_index_spec.proofs.Tallies.{made_count}
@@ -170,17 +170,16 @@ started_ready n size op old oes ocs np new nes ncs =
 
 -- THE LAST STATE TELLS THE VERDICT
 pub judged_told : (n : ℕ) (ts : List Total) (op : Bool) (old : Head) (oes ocs : List ℕ) (np : Bool) (new : Head) (nes ncs : List ℕ)
-    → Small ncs → ((i : ℕ) → i < length ts → (get_or ts i no_total).total < 2 ^ 64)
-    → let s = started n (length ts) op (holding old oes ocs) np (holding new nes ncs) in
-    verdict_of (judged_all (rows_named s.old oes ocs) (rows_named s.new nes ncs) s (rows_in s.upto (columns ts)))
+    → Small ncs → let s = started n (length ts) op (holding old oes ocs) np (holding new nes ncs) in TotalsFit s.upto ts
+    → verdict_of (judged_all (rows_named s.old oes ocs) (rows_named s.new nes ncs) s (rows_in s.upto (columns ts)))
     ≡ counted_rows (verdict n ts (proper_given op (holding old oes ocs) && proper_given np (holding new nes ncs)) (given op (holding old oes ocs))
     (given np (holding new nes ncs)))
 unfolding judged_all
-judged_told n ts op old oes ocs np new nes ncs small bits =
+judged_told n ts op old oes ocs np new nes ncs small =
     started_cases n (length ts) op old oes ocs np new nes ncs
-    (λ s. verdict_of (judged_all (rows_named s.old oes ocs) (rows_named s.new nes ncs) s (rows_in s.upto (columns ts)))
+    (λ s. TotalsFit s.upto ts → verdict_of (judged_all (rows_named s.old oes ocs) (rows_named s.new nes ncs) s (rows_in s.upto (columns ts)))
     ≡ counted_rows (verdict n ts good (given op (holding old oes ocs)) (given np (holding new nes ncs))))
-    (λ e.
+    (λ e bits.
     let i = (and-eq-true_iff (leb n (length ts)) good).0 e in
     let g = (and-eq-true_iff (proper_given op (holding old oes ocs)) (proper_given np (holding new nes ncs))).0 i.1 in
     let olds = asked_given op old oes ocs g.0 in
@@ -193,7 +192,7 @@ judged_told n ts op old oes ocs np new nes ncs small bits =
     ∙ ap (λ (os : List Row). told os (rows_named w nes ncs)) (sym (given_names old oes ocs op o refl))
     ∙ ap (λ (ns : List Row). told (named (given op (holding old oes ocs))) ns) (sym (given_names new nes ncs np w refl))
     ∙ sym (ap counted_rows (verdict_known n ts good (given op (holding old oes ocs)) (given np (holding new nes ncs)) e)))
-    (λ e. sym (ap counted_rows (verdict_known n ts good (given op (holding old oes ocs)) (given np (holding new nes ncs)) e)))
+    (λ e bits. sym (ap counted_rows (verdict_known n ts good (given op (holding old oes ocs)) (given np (holding new nes ncs)) e)))
   where
     o : Named
     o = named_by op old
@@ -225,12 +224,12 @@ module _ (n : ℕ) (ts : List Total) (op : Bool) (old : Head) (oes ocs : List �
     same_rows = ap (λ (x : Judging). x.rows) g ∙ (judged_kept (rows_named s.old oes ocs) (rows_named s.new nes ncs) s (rows_in m (columns ts))).0
         ∙ ap (λ (x : Judging). x.rows) e ∙ started_rows
 
-    pub judged_verdict : Small ncs → ((i : ℕ) → i < length ts → (get_or ts i no_total).total < 2 ^ 64)
+    pub judged_verdict : Small ncs → TotalsFit m ts
         → verdict_of j ≡ counted_rows (verdict j.rows ts (proper_given op (holding old oes ocs) && proper_given np (holding new nes ncs))
         (given op (holding old oes ocs)) (given np (holding new nes ncs)))
     judged_verdict small bits =
         ap verdict_of g ∙ ap (λ (k : ℕ). verdict_of (judged_all (rows_named s.old oes ocs) (rows_named s.new nes ncs) s (rows_in k (columns ts)))) f
         ∙ ap (λ (x : Judging). verdict_of (judged_all (rows_named x.old oes ocs) (rows_named x.new nes ncs) x (rows_in x.upto (columns ts)))) e
-        ∙ judged_told n ts op old oes ocs np new nes ncs small bits
+        ∙ judged_told n ts op old oes ocs np new nes ncs small (subst (λ (k : ℕ). TotalsFit k ts) (f ∙ ap (λ (x : Judging). x.upto) e) bits)
         ∙ ap (λ (k : ℕ). counted_rows (verdict k ts (proper_given op (holding old oes ocs) && proper_given np (holding new nes ncs))
         (given op (holding old oes ocs)) (given np (holding new nes ncs)))) (sym same_rows)

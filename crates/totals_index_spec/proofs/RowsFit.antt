@@ -4,10 +4,10 @@
 use mathlib.Core.Path.{◌≡◌, refl, sym, ◌∙◌}
 use mathlib.Core.Bool.{Bool, true, false, cond, ◌&&◌, and-eq-true_iff}
 use mathlib.Core.List.{List, [], ◌∷◌}
-use Prim.Native.Nat.{ℕ, zero, suc, ◌+◌, ◌-◌, ◌≤◌, ◌<◌, ◌^◌}
+use Prim.Native.Nat.{ℕ, zero, suc, ◌+◌, ◌-◌, ◌≤◌}
 use native.Mathlib.Omega.{arith}
 use lib.Dec.{leb}
-use lib.ListN.{length, take, get_or}
+use lib.ListN.{take}
 use borrow.Author.Tests.{leb-true, le-leb}
 use Rattle.records_spec.specs.Tables.{records_of}
 use Rattle.rows_spec.specs.Rows.{Row, compared, ascends, rows_of, rows_in, rows_under}
@@ -23,10 +23,9 @@ use Rattle.totals_spec.specs.Theorems.{In64Bits}
 use Rattle.totals_spec.proofs.Totals.{total_none, total_at_lem, total_same, total_behind}
 use Rattle.totals_spec.proofs.Counts.{count_total}
 use Rattle.totals_spec.proofs.Fitting.{fits_at, fits_all}
-use Rattle.totals_index_spec.specs.Inner.Judging.{Small}
+use Rattle.totals_index_spec.specs.Inner.Judging.{Small, TotalsFit}
 use Rattle.totals_index_spec.specs.Structs.{owners_of, total_epochs_of, totals_of, columns}
 use Rattle.totals_index_spec.specs.declared.structs.Total.{Total}
-use Rattle.totals_index_spec.proofs.Columns.{no_total}
 
 -- no row's total less the old count plus the new passes 64 bits
 unfoldable pub rows_fit_lem : List Row → List Row → List Row → Bool
@@ -107,7 +106,7 @@ small_under (suc n) o (e ∷ es) [] h = small_none
 small_under (suc n) o (e ∷ es) (c ∷ cs) h = small_cons _ _ (h zero) (small_under n o es cs (λ i. h (suc i)))
 
 -- of the first rows of a table of structs
-pub small_rows_lem : (n : ℕ) (ts : List Total) → ((i : ℕ) → i < length ts → (get_or ts i no_total).total < 2 ^ 64) → In64Bits (rows_in n (columns ts))
+pub small_rows_lem : (n : ℕ) (ts : List Total) → TotalsFit n ts → In64Bits (rows_in n (columns ts))
 unfolding rows_of records_of owners_of total_epochs_of totals_of
 small_rows_lem zero ts h = small_none
 small_rows_lem (suc n) [] h = small_none

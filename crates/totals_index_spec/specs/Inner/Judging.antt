@@ -1,6 +1,6 @@
 -- What is known of a table after some of its rows, and what follows from it: the judging of a change row by row.
 -- Assumes nothing.
-use Rattle.std.specs.Prelude.{ℕ, ◌+◌, ◌-◌, ◌≤◌, Bool, true, false, cond, ◌&&◌, List, [], ◌∷◌, leb, ltb, eqb, length, take, get_or}
+use Rattle.std.specs.Prelude.{ℕ, ◌+◌, ◌-◌, ◌^◌, ◌<◌, ◌≤◌, Bool, true, false, cond, ◌&&◌, List, [], ◌∷◌, leb, ltb, eqb, length, take, get_or}
 use Rattle.records_spec.specs.Flags.{zeros, Held}
 use Rattle.records_spec.specs.Inner.Tables.{Table}
 use Rattle.records_spec.specs.Outcomes.{Answer, ok, ◌unless◌, ◌>>◌}
@@ -80,6 +80,10 @@ started n size op old np new =
 -- a struct as a row
 abbrev pub row_of : Total → Row
 row_of t = row t.owner t.epoch t.total
+
+-- each total of the first n rows is one of 64 bits
+abbrev pub TotalsFit : ℕ → List Total → Type 0
+TotalsFit n ts = (i : ℕ) → i < n → (get_or ts i (record { owner = []; epoch = 0; total = 0 })).total < 2 ^ 64
 
 -- named records as rows
 abbrev pub rows_named : Named → List ℕ → List ℕ → List Row
