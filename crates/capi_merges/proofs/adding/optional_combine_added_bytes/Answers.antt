@@ -1,0 +1,26 @@
+-- `capi_merges::adding::optional_combine_added_bytes` meets its contract: the call's own answer is told, or 11. Assumes nothing.
+use mathlib.Core.Path.{◌∙◌}
+use Rattle.capi_spec.proofs.Telling.{when_true, flags_told_lem, flags_bad}
+use Rattle.capi_spec.proofs.Testing.{merges}
+use Rattle.records_spec.specs.Flags.{lending}
+use Rattle.capi_merges.proofs.adding.optional_combine_added_bytes.Goals as goal
+
+pub returns-then-can_merge : goal.returns-then-can_merge
+returns-then-can_merge c =
+    let a = c.args in
+    let t = merges a.present a.ours a.theirs a.strategy c.is_true-is_present.ensures c.can_merge.ensures
+    c.if-can_merge.true in
+    flags_told_lem _ c.optional_combine_added_bytes.result (lending _ _) _ c.flags_told.ensures
+    (when_true _ _ _ t (c.optional_combine_added_bytes.ensures ∙ simp (
+      c.is_true-is_present.ensures,
+      c.head_given.ensures,
+      c.head_given-then-can_merge.ensures,
+      c.strategy_given.ensures,
+    )))
+
+pub returns : goal.returns
+returns c =
+    let a = c.args in
+    let f = merges a.present a.ours a.theirs a.strategy c.is_true-is_present.ensures c.can_merge.ensures
+    c.if-can_merge.false in
+    flags_bad _ (lending _ _) _ _ c.bad_flags.ensures f
