@@ -17,6 +17,12 @@ const MOST_REPAIRED: usize = 786455;
 // The most lines that so many bytes can have: one for two bytes, rounded up.
 const MOST_LINES: usize = (MOST_REPAIRED + 1) / 2;
 
+// The longest line that is said of a refusal.
+const LONGEST_REFUSAL: usize = 11;
+
+// The most bytes of the list that are written at once.
+const LIST_ROOM: usize = 65536;
+
 // Puts what is said of a refusal at the start of `out`; answers the text's length.
 fn refusal_text(refusal: Refusal, out: &mut [u8]) -> usize
     requires { 11 ≤ length out.old }
@@ -27,22 +33,22 @@ fn refusal_text(refusal: Refusal, out: &mut [u8]) -> usize
 }
 
 // Says which refusal there is.
-fn say_refused(refusal: Refusal) {
-    let mut text = io::buffer();
+fn say_refused(rt: &HostRuntime, refusal: Refusal) {
+    let mut text = [0u8; LONGEST_REFUSAL];
     let n = refusal_text(refusal, &mut text);
-    say(&text[..n]);
+    say(&mut rt.stderr(), &text[..n]);
 }
 
 // Writes the list, chunk by chunk. It ends at a chunk that is not taken whole, so that no line in the midst is missing.
-fn write_list(offsets: &[usize], changes: &[u8])
+fn write_list(rt: &HostRuntime, offsets: &[usize], changes: &[u8])
     requires { length offsets.now ≡ length changes.now }
 {
-    let mut text = io::large_buffer();
+    let mut text = [0u8; LIST_ROOM];
     let mut next: usize = 0;
     while next < offsets.len() {
         let chunk = change_lines::put_lines(offsets, changes, next, &mut text);
         let size = chunk.size;
-        if say(&text[..size]) {
+        if say(&mut rt.stderr(), &text[..size]) {
             next = chunk.next;
         } else {
             return;
@@ -51,43 +57,55 @@ fn write_list(offsets: &[usize], changes: &[u8])
 }
 
 // Writes the bytes, and then the list.
-fn write_repaired(bytes: &[u8], offsets: &[usize], changes: &[u8])
+fn write_repaired(rt: &HostRuntime, bytes: &[u8], offsets: &[usize], changes: &[u8])
     requires { length offsets.now ≡ length changes.now }
 {
-    if streams::write_all(bytes) {
-        write_list(offsets, changes);
+    if streams::write_all(&mut rt.stdout(), &mut rt.stderr(), bytes) {
+        write_list(rt, offsets, changes);
     }
 }
 
 // Repairs bytes with what is lent for the answer and the list.
-fn migrate(src: &[u8], out: &mut [u8], offsets: &mut [usize], changes: &mut [u8]) {
+fn migrate(
+    rt: &HostRuntime,
+    src: &[u8],
+    out: &mut [u8],
+    offsets: &mut [usize],
+    changes: &mut [u8],
+) {
     match repair::repair(src, out, offsets, changes) {
         AnsweredRepair::Done { bytes, lines } => {
-            write_repaired(&out[..bytes], &offsets[..lines], &changes[..lines]);
+            write_repaired(rt, &out[..bytes], &offsets[..lines], &changes[..lines]);
         }
-        AnsweredRepair::Refused(refusal) => say_refused(refusal),
+        AnsweredRepair::Refused(refusal) => say_refused(rt, refusal),
     }
 }
 
 // Reads bytes and repairs them. `src` has room for one byte more than is repaired, so that too many are seen.
-fn run(src: &mut [u8], out: &mut [u8], offsets: &mut [usize], changes: &mut [u8]) {
-    match streams::read_all(src) {
+fn run(
+    rt: &HostRuntime,
+    src: &mut [u8],
+    out: &mut [u8],
+    offsets: &mut [usize],
+    changes: &mut [u8],
+) {
+    match streams::read_all(&mut rt.stdin(), src) {
         Input::Bytes(n) => {
             if MOST_REPAIRED < n {
-                say(b"too long\n");
+                say(&mut rt.stderr(), b"too long\n");
                 return;
             }
-            migrate(&src[..n], out, offsets, changes);
+            migrate(rt, &src[..n], out, offsets, changes);
         }
-        Input::Failed => streams::say_unread(),
+        Input::Failed => streams::say_unread(&mut rt.stderr()),
     }
 }
 
 // Lends room for the bytes and one more, for the largest answer and for the longest list that so many bytes can have.
-fn main() {
+fn main(rt: HostRuntime) {
     let mut src = [0u8; MOST_REPAIRED + 1];
     let mut out = [0u8; LONGEST_FLAGS];
     let mut offsets = [0usize; MOST_LINES];
     let mut changes = [0u8; MOST_LINES];
-    run(&mut src, &mut out, &mut offsets, &mut changes);
+    run(&rt, &mut src, &mut out, &mut offsets, &mut changes);
 }

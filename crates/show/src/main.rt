@@ -22,19 +22,19 @@ fn text_of(src: &[u8], out: &mut [u8]) -> usize
 }
 
 // Lists bytes, with what is lent for the text.
-fn show(src: &[u8], out: &mut [u8])
+fn show(rt: &HostRuntime, src: &[u8], out: &mut [u8])
     requires { length out.old ≡ longest_text }
 {
     let n = text_of(src, out);
-    streams::write_all(&out[..n]);
+    streams::write_all(&mut rt.stdout(), &mut rt.stderr(), &out[..n]);
 }
 
 // One byte more than is listed is read, so that too many are seen.
-fn main() {
+fn main(rt: HostRuntime) {
     let mut src = [0u8; MOST_LISTED + 1];
     let mut out = [0u8; LONGEST_TEXT];
-    match streams::read_all(&mut src) {
-        Input::Bytes(n) => show(&src[..n], &mut out),
-        Input::Failed => streams::say_unread(),
+    match streams::read_all(&mut rt.stdin(), &mut src) {
+        Input::Bytes(n) => show(&rt, &src[..n], &mut out),
+        Input::Failed => streams::say_unread(&mut rt.stderr()),
     }
 }

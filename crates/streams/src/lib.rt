@@ -1,20 +1,22 @@
 // Standard input read to its end, and what the programs say where a stream fails.
 #![tactic(auto)]
 
-ghost use Rattle.std.specs.Prelude.{◌≡◌};
-ghost use Rattle.streams.specs.Reading.{meaning, Within};
+ghost use Rattle.std.specs.Prelude.{◌≡◌, IsTrue, length, take};
+ghost use Rattle.std.specs.Io.KnownBytes.{Appends};
+ghost use Rattle.streams.specs.Reading.{meaning, Within, ReadsKnown};
 
-use libc::{STDERR_FILENO, STDIN_FILENO, STDOUT_FILENO};
+use std::io;
+use std::io::{Read, Write};
 
 // How many bytes were read, or that a read failed. A buffer that is full may not hold all of the input.
-#[derive(Drop)]
+#[derive(Clone, Copy)]
 pub enum Input {
     Bytes(usize),
     Failed,
 }
 
 // What one read has done: some bytes came, the input has ended, or the read failed.
-#[derive(Drop)]
+#[derive(Clone, Copy)]
 enum ReadStep {
     More(usize),
     Ended,
@@ -22,27 +24,28 @@ enum ReadStep {
 }
 
 // What the answer of a read means.
-fn step_of(got: isize) -> ReadStep
-    ensures { result ≡ meaning got }
+fn step_of(answer: io::Result<usize>) -> ReadStep
+    ensures { result ≡ meaning answer }
 {
-    if got < 0 {
+    let Ok(got) = answer else {
         return ReadStep::Broken;
-    }
+    };
     if got == 0 {
         return ReadStep::Ended;
     }
-    ReadStep::More(got as usize)
+    ReadStep::More(got)
 }
 
-// Reads standard input until it ends, `buf` is full or a read fails. The first read that fails is told, whatever came before it and whatever
-// a next one would answer.
-pub fn read_all(buf: &mut [u8]) -> Input
-    ensures { Within result buf.new }
+// Reads until the input ends, `buf` is full or a read fails. The first read that fails is told, whatever came before it and whatever a next
+// one would answer.
+pub fn read_all<R: Read>(reader: &mut R, buf: &mut [u8]) -> Input
+    ensures lent { Within result buf.new }
+    ensures known { ReadsKnown (R.remaining reader.old) (R.remaining reader.new) result buf.new }
 {
     let mut done: usize = 0;
     while done < buf.len() {
-        let got = libc::read(STDIN_FILENO, &mut buf[done..]);
-        match step_of(got) {
+        let answer = reader.read(&mut buf[done..]);
+        match step_of(answer) {
             ReadStep::More(n) => {
                 done += n;
             }
@@ -57,21 +60,25 @@ pub fn read_all(buf: &mut [u8]) -> Input
     Input::Bytes(done)
 }
 
-// Says something on standard error; answers whether all of it was taken.
-pub fn say(text: &[u8]) -> bool {
-    io::write_all(STDERR_FILENO, text)
+// Says something on standard error, which `errors` is; answers whether all of it was taken.
+pub fn say<E: Write>(errors: &mut E, text: &[u8]) -> bool
+    ensures { IsTrue result → Appends (E.contents errors.old) (E.contents errors.new) text.now }
+{
+    errors.write_all(text).is_ok()
 }
 
 // Says that standard input could not be read.
-pub fn say_unread() {
-    say(b"cannot read\n");
+pub fn say_unread<E: Write>(errors: &mut E) {
+    say(errors, b"cannot read\n");
 }
 
 // Writes bytes to standard output; answers whether all were taken, and says so where they were not.
-pub fn write_all(bytes: &[u8]) -> bool {
-    if io::write_all(STDOUT_FILENO, bytes) {
+pub fn write_all<W: Write, E: Write>(output: &mut W, errors: &mut E, bytes: &[u8]) -> bool
+    ensures { IsTrue result → Appends (W.contents output.old) (W.contents output.new) bytes.now }
+{
+    if output.write_all(bytes).is_ok() {
         return true;
     }
-    say(b"cannot write\n");
+    say(errors, b"cannot write\n");
     false
 }

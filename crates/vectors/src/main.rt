@@ -1,14 +1,19 @@
 // Replays the list of stored answers on standard input, and says how many agree.
 #![tactic(auto)]
 
-use libc::STDIN_FILENO;
+ghost use Rattle.std.specs.Prelude.{◌≤◌, length};
+
+use std::io::Read;
 use vectors_list::{PLACES, TextLine, differs, note};
 
 // The most bytes that a line says: a question and its reply.
 const LINE_BYTES: usize = 2048;
 
+// The most bytes that are read at once.
+const PIECE_BYTES: usize = 65536;
+
 // What a turn of reading came to: the line that has begun, and whether there may be more.
-#[derive(Drop)]
+#[derive(Clone, Copy)]
 struct Turn {
     line: TextLine,
     more: bool,
@@ -33,7 +38,7 @@ fn call_of(question: &[u8]) -> u8 {
 }
 
 // Judges a line that has ended.
-fn end(line: TextLine, text: &[u8], tally: &mut [u64]) {
+fn end(rt: &HostRuntime, line: TextLine, text: &[u8], tally: &mut [u64]) {
     if line.is_passed_over() {
         return;
     }
@@ -41,50 +46,82 @@ fn end(line: TextLine, text: &[u8], tally: &mut [u64]) {
         let question = part(text, 0, line.turn);
         let reply = part(text, line.turn, line.end);
         let verdict = replay::replay(question, reply);
-        note(line.number, call_of(question), verdict, tally);
+        note(
+            &mut rt.stdout(),
+            line.number,
+            call_of(question),
+            verdict,
+            tally,
+        );
         return;
     }
-    differs(line.number, 0, tally);
+    differs(&mut rt.stdout(), line.number, 0, tally);
 }
 
 // Takes one byte of the list; answers the line that it is on, or behind it the next one.
-fn take(byte: u8, line: TextLine, text: &mut [u8], tally: &mut [u64]) -> TextLine {
+fn take(
+    rt: &HostRuntime,
+    byte: u8,
+    line: TextLine,
+    text: &mut [u8],
+    tally: &mut [u64],
+) -> TextLine {
     if byte == b'\n' {
-        end(line, text, tally);
+        end(rt, line, text, tally);
         return line.next();
     }
     line.step(byte, text)
 }
 
 // Takes a piece of the list.
-fn take_piece(piece: &[u8], begun: TextLine, text: &mut [u8], tally: &mut [u64]) -> TextLine {
+fn take_piece(
+    rt: &HostRuntime,
+    piece: &[u8],
+    begun: TextLine,
+    text: &mut [u8],
+    tally: &mut [u64],
+) -> TextLine {
     let mut line = begun;
     let mut k: usize = 0;
     while k < piece.len() {
-        line = take(piece[k], line, text, tally);
+        line = take(rt, piece[k], line, text, tally);
         k += 1;
     }
     line
 }
 
+// Reads until the piece is full, the input ends or a read fails; answers how many bytes came.
+fn fill<R: Read>(input: &mut R, piece: &mut [u8]) -> usize
+    ensures { result ≤ length piece.new }
+{
+    let mut done: usize = 0;
+    while done < piece.len() {
+        match input.read(&mut piece[done..]) {
+            Ok(n) if 0 < n => done += n,
+            _ => return done,
+        }
+    }
+    done
+}
+
 // Reads a piece of standard input and takes it; behind the last piece the last line ends.
-fn read_piece(line: TextLine, text: &mut [u8], tally: &mut [u64]) -> Turn {
-    let mut piece = io::large_buffer();
-    let got = io::read_full(STDIN_FILENO, &mut piece);
+fn read_piece(rt: &HostRuntime, line: TextLine, text: &mut [u8], tally: &mut [u64]) -> Turn {
+    let mut piece = [0u8; PIECE_BYTES];
+    let got = fill(&mut rt.stdin(), &mut piece);
     if got == 0 {
-        end(line, text, tally);
+        end(rt, line, text, tally);
         return Turn { line, more: false };
     }
-    let line = take_piece(&piece[..got], line, text, tally);
+    let line = take_piece(rt, &piece[..got], line, text, tally);
     Turn { line, more: true }
 }
 
 // Reads all of standard input. A proved loop has to end, so it counts its turns down from a number that no run uses up.
-fn read_lines(text: &mut [u8], tally: &mut [u64]) {
+fn read_lines(rt: &HostRuntime, text: &mut [u8], tally: &mut [u64]) {
     let mut line = TextLine::new(1);
     let mut turns = u64::MAX;
     while 0 < turns {
-        let turn = read_piece(line, text, tally);
+        let turn = read_piece(rt, line, text, tally);
         if turn.more {
             line = turn.line;
             turns -= 1;
@@ -94,9 +131,9 @@ fn read_lines(text: &mut [u8], tally: &mut [u64]) {
     }
 }
 
-fn main() {
+fn main(rt: HostRuntime) {
     let mut text = [0u8; LINE_BYTES];
     let mut tally = [0u64; PLACES];
-    read_lines(&mut text, &mut tally);
-    vectors_list::print(&tally);
+    read_lines(&rt, &mut text, &mut tally);
+    vectors_list::print(&mut rt.stdout(), &tally);
 }

@@ -17,7 +17,7 @@ const NO_DIGIT: u8 = 16;
 
 // The state of a line: its number, what has come, the first digit of a byte whose second is to come, and where the reply begins and ends in
 // the text.
-#[derive(Drop)]
+#[derive(Clone, Copy)]
 pub struct TextLine {
     pub number: u64,
     pub part: u8,

@@ -1,7 +1,7 @@
 // How many answers agree and how many differ, by call: the first places of a tally count those that agree, one for each call number, and the
 // others those that differ. Place 0 of these counts lines that are no vectors.
-use crate::names::print_name;
-use libc::STDOUT_FILENO;
+use crate::names::{print_name, put};
+use std::io::Write;
 use wire::Comparison;
 
 // One more than the largest call number.
@@ -44,12 +44,12 @@ fn tally_between(tally: &[u64], from: usize, to: usize) -> u64 {
 }
 
 // Counts a line that differs, or under 0 one that is no vector; the first ones are named.
-pub fn differs(number: u64, call: usize, tally: &mut [u64]) {
+pub fn differs<W: Write>(output: &mut W, number: u64, call: usize, tally: &mut [u64]) {
     if tally_between(tally, CALLS, PLACES) < NAMED {
-        io::write_all(STDOUT_FILENO, b"line ");
-        io::print_decimal(STDOUT_FILENO, number);
-        io::write_all(STDOUT_FILENO, b": ");
-        name_fault(call);
+        put(output, b"line ");
+        print_decimal(output, number);
+        put(output, b": ");
+        name_fault(output, call);
     }
     if call < CALLS {
         add_one(tally, CALLS + call);
@@ -57,54 +57,67 @@ pub fn differs(number: u64, call: usize, tally: &mut [u64]) {
 }
 
 // Counts what came of the question on a line, whose call has this number.
-pub fn note(number: u64, call: u8, verdict: Comparison, tally: &mut [u64]) {
+pub fn note<W: Write>(
+    output: &mut W,
+    number: u64,
+    call: u8,
+    verdict: Comparison,
+    tally: &mut [u64],
+) {
     match verdict {
         Comparison::Agrees => add_one(tally, call as usize),
-        Comparison::Differs => differs(number, call as usize, tally),
-        Comparison::NoQuestion => differs(number, 0, tally),
+        Comparison::Differs => differs(output, number, call as usize, tally),
+        Comparison::NoQuestion => differs(output, number, 0, tally),
     }
+}
+
+// Writes a number.
+fn print_decimal<W: Write>(output: &mut W, n: u64) {
+    let _ = write!(output, "{n}");
 }
 
 // Says what is wrong with a line.
-fn name_fault(call: usize) {
+fn name_fault<W: Write>(output: &mut W, call: usize) {
     if call == 0 {
-        io::write_all(STDOUT_FILENO, b"not a vector\n");
+        put(output, b"not a vector\n");
         return;
     }
-    print_name(call);
-    io::write_all(STDOUT_FILENO, b" differs\n");
+    print_name(output, call);
+    put(output, b" differs\n");
 }
 
 // Writes how many of so many agree.
-fn print_share(agree: u64, differ: u64) {
-    io::print_decimal(STDOUT_FILENO, agree);
-    io::write_all(STDOUT_FILENO, b" of ");
-    io::print_decimal(STDOUT_FILENO, std::num::wrapping_add_u64(agree, differ));
+fn print_share<W: Write>(output: &mut W, agree: u64, differ: u64) {
+    print_decimal(output, agree);
+    put(output, b" of ");
+    print_decimal(output, std::num::wrapping_add_u64(agree, differ));
 }
 
 // Writes the line of a call.
-fn print_call(call: usize, tally: &[u64]) {
-    print_name(call);
-    io::write_all(STDOUT_FILENO, b": ");
+fn print_call<W: Write>(output: &mut W, call: usize, tally: &[u64]) {
+    print_name(output, call);
+    put(output, b": ");
     print_share(
+        output,
         tally_at(tally, call),
         tally_at(tally, std::num::wrapping_add_usize(CALLS, call)),
     );
-    io::write_all(STDOUT_FILENO, b"\n");
+    put(output, b"\n");
 }
 
 // Writes the line of each call, and the last line.
-pub fn print(tally: &[u64]) {
+pub fn print<W: Write>(output: &mut W, tally: &[u64]) {
     let mut call: usize = 1;
     while call < CALLS {
         if call != RETIRED {
-            print_call(call, tally);
+            print_call(output, call, tally);
         }
         call += 1;
     }
     print_share(
+        output,
         tally_between(tally, 0, CALLS),
         tally_between(tally, CALLS, PLACES),
     );
-    io::write_all(STDOUT_FILENO, b" answers agree\n");
+    put(output, b" answers agree\n");
 }

@@ -14,43 +14,43 @@ pub const TABLE_PLACES: usize = 16;
 
 // A byte.
 pub fn take_u8(src: &[u8], at: &mut usize) -> u8 {
-    let i = *at.old;
+    let i = *at;
     if i < src.len() {
-        *at.old = i + 1;
-        return src.now[i];
+        *at = i + 1;
+        return src[i];
     }
-    *at.old = BEYOND;
+    *at = BEYOND;
     0
 }
 
 // A number of two bytes.
-pub fn take_u16(src.now: &[u8], at.old: &mut usize) -> u16 {
-    let high = take_u8(src.now, at.old) as u16;
-    let low = take_u8(src.now, at.old) as u16;
+pub fn take_u16(src: &[u8], at: &mut usize) -> u16 {
+    let high = take_u8(src, at) as u16;
+    let low = take_u8(src, at) as u16;
     high * 256 + low
 }
 
 // A number of four bytes.
-pub fn take_u32(src.now: &[u8], at.old: &mut usize) -> u32 {
-    let high = take_u16(src.now, at.old) as u32;
-    let low = take_u16(src.now, at.old) as u32;
+pub fn take_u32(src: &[u8], at: &mut usize) -> u32 {
+    let high = take_u16(src, at) as u32;
+    let low = take_u16(src, at) as u32;
     high * 65536 + low
 }
 
 // A number of eight bytes.
-fn take_u64(src.now: &[u8], at.old: &mut usize) -> u64 {
-    let high = take_u32(src.now, at.old) as u64;
-    let low = take_u32(src.now, at.old) as u64;
+fn take_u64(src: &[u8], at: &mut usize) -> u64 {
+    let high = take_u32(src, at) as u64;
+    let low = take_u32(src, at) as u64;
     high * 4294967296 + low
 }
 
 // A truth value: 0 for no, and anything else for yes.
-pub fn take_bool(src.now: &[u8], at.old: &mut usize) -> bool {
-    take_u8(src.now, at.old) != 0
+pub fn take_bool(src: &[u8], at: &mut usize) -> bool {
+    take_u8(src, at) != 0
 }
 
-// A number of bytes or places, of at.old most `room`.
-fn take_places(src.now: &[u8], at.old: &mut usize, room: usize) -> usize
+// A number of bytes or places, of at most `room`.
+fn take_places(src: &[u8], at: &mut usize, room: usize) -> usize
     ensures { result ≤ room }
 {
     let n = take_u16(src, at) as usize;

@@ -5,7 +5,7 @@ use records_spec::{Answered, Head, Outcome, Refusal};
 use rows_spec::{Removed, StorageRemovedBytes};
 
 // What comes of a question and its stored reply.
-#[derive(Drop)]
+#[derive(Clone, Copy)]
 pub enum Comparison {
     Agrees,
     Differs,

@@ -1,11 +1,6 @@
 -- `show::text_of` meets its contract: the text has room, so `list` counts it and does not refuse. Assumes nothing.
+use Rattle.std.proofs.Common.{◌≡◌, ℕ, ◌≤◌, List, arith, length, take, sym, ap, ◌∙◌}
 use Rattle.io.specs.Counts.{IsPrefixLen}
-use Prim.Native.Nat.{ℕ, ◌≤◌}
-use native.Mathlib.Omega.{arith}
-use mathlib.Core.Path.{◌≡◌, sym, ap, ◌∙◌}
-use mathlib.Core.List.{List}
-use lib.ListN.{length, take}
-use borrow.Author.Rules.{rules}
 use Rattle.records_spec.specs.Tables.{over}
 use Rattle.records_spec.specs.Answers.{writing, counted}
 use Rattle.records_spec.specs.Outcomes.{after}
@@ -16,8 +11,7 @@ use Rattle.records_spec.proofs.Answers.{writing_fits}
 use Rattle.records_spec.proofs.Only.{left_only, counted_as, counted_back}
 use Rattle.listing_spec.specs.Listed.{listed}
 use Rattle.listing_spec.proofs.Bounds.{listed_fits}
-use Rattle.show.proofs.text_of.Statement.{statement}
-use Rattle.show.proofs.text_of.Tie as tie
+use Rattle.show.proofs.text_of.Goals as goal
 
 -- a text that has room is counted, and stands at the start
 module _ (r : Counted) (xs old new : List ℕ) (fits : length xs ≤ length old) (e : after (counted r) new ≡ writing xs old) where
@@ -30,39 +24,21 @@ module _ (r : Counted) (xs old new : List ℕ) (fits : length xs ≤ length old)
       let l : n ≤ length new = omega (arith, ap length is-written.1, over-holds xs old) in
       ((l, h ∙ ap length (sym t)), t)
 
-room : (c : tie.After-list) →
-    let start = c.before.before.before.before in
-    length (listed start.args.src.now) ≤ length start.args.out.now
-room c =
-    let start = c.before.before.before.before in
-    omega (arith, listed_fits start.args.src.now (λ i. (c.before.before.before.shared-slice-known.given i).fits), start.requires)
+pub returns-in-Count-clause-prefix_len : goal.returns-in-Count-clause-prefix_len
+returns-in-Count-clause-prefix_len c =
+    let room : length (listed c.args.src.now) ≤ length c.args.out.now = omega (arith, listed_fits c.args.src.now (λ i. (c.type_inv.src i).fits), c.requires) in
+    let w = is-written (Count c.in-Count.n) _ _ c.list.new.out room c.in-Count.ensures in
+    (at-start (Count c.in-Count.n) _ _ c.list.new.out room c.in-Count.ensures c.in-Count.n (cc w.0)).0
 
-returns : tie.Need-returns
-returns c =
-    let at_list = c.before.before.before.before.before in
-    let l = at_list.list in
-    let n : ℕ = c.before.n.given.0.0 in
-    let is : l.result ≡ Count n = c.before.n.given.1 in
-    let w = is-written l.result _ _ l.new.1.0 (room at_list) l.ensures in
-    at-start l.result _ _ l.new.1.0 (room at_list) l.ensures n (cc w.0)
+pub returns-in-Count-clause-out_value : goal.returns-in-Count-clause-out_value
+returns-in-Count-clause-out_value c =
+    let room : length (listed c.args.src.now) ≤ length c.args.out.now = omega (arith, listed_fits c.args.src.now (λ i. (c.type_inv.src i).fits), c.requires) in
+    let w = is-written (Count c.in-Count.n) _ _ c.list.new.out room c.in-Count.ensures in
+    (at-start (Count c.in-Count.n) _ _ c.list.new.out room c.in-Count.ensures c.in-Count.n (cc w.0)).1
 
-returns-2 : tie.Need-returns-2
-returns-2 c =
-    let at_list = c.before.before.before.before in
-    let l = at_list.list in
-    let is : l.result ≡ Refused c.enum_told.given.0.0 = c.enum_told.given.1 in
-    let w = is-written l.result _ _ l.new.1.0 (room at_list) l.ensures in
+pub returns-in-Refused-clause-out_value : goal.returns-in-Refused-clause-out_value
+returns-in-Refused-clause-out_value c =
+    let room : length (listed c.args.src.now) ≤ length c.args.out.now = omega (arith, listed_fits c.args.src.now (λ i. (c.type_inv.src i).fits), c.requires) in
+    let w = is-written (Refused c.in-Refused.field-0) _ _ c.list.new.out room c.in-Refused.ensures in
     let z : ◌≡◌ {A = ℕ} 0 1 = cc w.0 in
     absurd (omega arith)
-
-pub text-of-spec : {M : Type 1} → statement M
-text-of-spec =
-    tie.close
-    (tie.spec
-    (λ c κs. search rules)
-    (λ c. search rules)
-    (λ c. search rules)
-    (λ c. search rules)
-    returns
-    (λ c. search rules)
-    returns-2)
