@@ -1,5 +1,5 @@
 //! Finds the static library: in the folder that `PETASUNOK_LIB` names, in `PREFIX/lib` where this crate is installed in
-//! `PREFIX/src/petasunok`, or in the repository, where `rt staticlib capi` makes it if it is missing.
+//! `PREFIX/src/petasunok`, or in the repository, where `tools/archive` makes it if it is missing.
 use std::env;
 use std::path::{Path, PathBuf};
 use std::process::{exit, Command};
@@ -73,19 +73,17 @@ fn in_prefix_or_repository() -> Archive {
 
 /// Has the repository prove and build its archive.
 fn build(root: &Path, folder: &Path) -> Archive {
-    if !root.join("crates/capi").is_dir() {
+    if !root.join("tools/archive").is_file() {
         stop(&format!(
             "there is no libpetasunok.a in {}; name its folder in PETASUNOK_LIB",
             root.join("lib").display()
         ));
     }
     println!("cargo:warning=proving and building the static library, which takes some minutes");
-    match Command::new("rt").args(["staticlib", "capi"]).current_dir(root).status() {
+    match Command::new(root.join("tools/archive")).status() {
         Ok(status) if status.success() => {}
-        Ok(status) => stop(&format!("`rt staticlib capi` failed in {} ({status})", root.display())),
-        Err(error) => stop(&format!(
-            "`rt staticlib capi` did not start ({error}); rt is the command of the Rattle kit"
-        )),
+        Ok(status) => stop(&format!("`tools/archive` failed in {} ({status})", root.display())),
+        Err(error) => stop(&format!("`tools/archive` did not start ({error}) in {}", root.display())),
     }
-    archive_in(folder).unwrap_or_else(|| stop(&format!("`rt staticlib capi` has left no archive in {}", folder.display())))
+    archive_in(folder).unwrap_or_else(|| stop(&format!("`tools/archive` has left no archive in {}", folder.display())))
 }

@@ -9,8 +9,7 @@ ghost use Rattle.capi_spec.specs.Calls.{combined_added_c, optional_combined_adde
 use capi_spec::{CFlags, CHead};
 
 // Merges ours with the incoming flags that came with added bytes.
-#[unsafe(no_mangle)]
-pub extern "C" fn petasunok_combine_added_bytes(
+pub fn petasunok_combine_added_bytes(
     ours: CHead,
     our_epochs: &[u16],
     our_counts: &[u32],
@@ -42,8 +41,7 @@ pub extern "C" fn petasunok_combine_added_bytes(
 }
 
 // The same where ours may be absent; then ours is not looked at.
-#[unsafe(no_mangle)]
-pub extern "C" fn petasunok_optional_combine_added_bytes(
+pub fn petasunok_optional_combine_added_bytes(
     present: u8,
     ours: CHead,
     our_epochs: &[u16],

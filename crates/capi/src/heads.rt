@@ -10,8 +10,7 @@ use capi_spec::{CCount, CFlags, CHead, CId, CMaybeOwner};
 use records_spec::{Counted, Head, MaybeOwner, Refusal};
 
 // Flags whose bytes were all paid in one epoch.
-#[unsafe(no_mangle)]
-pub extern "C" fn petasunok_new_single_epoch(epoch: u16, owned: u8, owner_id: CId) -> CHead
+pub fn petasunok_new_single_epoch(epoch: u16, owned: u8, owner_id: CId) -> CHead
     ensures { result ≡ head_told (head_for epoch (owner_if (is_true owned) owner_id.bytes) 0) }
 {
     let id = owner_id.bytes;
@@ -23,8 +22,7 @@ pub extern "C" fn petasunok_new_single_epoch(epoch: u16, owned: u8, owner_id: CI
 }
 
 // The head with another owner, where it is owned.
-#[unsafe(no_mangle)]
-pub extern "C" fn petasunok_set_owner_id(head: CHead, owner_id: CId) -> CFlags
+pub fn petasunok_set_owner_id(head: CHead, owner_id: CId) -> CFlags
     ensures { result ≡ head_answer (with_owner_c head owner_id) }
 {
     if capi_given::is_kind(head.kind) {
@@ -36,8 +34,7 @@ pub extern "C" fn petasunok_set_owner_id(head: CHead, owner_id: CId) -> CFlags
 }
 
 // The epoch of the bytes that no record counts.
-#[unsafe(no_mangle)]
-pub extern "C" fn petasunok_base_epoch(head: CHead) -> CCount
+pub fn petasunok_base_epoch(head: CHead) -> CCount
     ensures { result ≡ count_told (base_c head) }
 {
     if capi_given::is_kind(head.kind) {
@@ -48,8 +45,7 @@ pub extern "C" fn petasunok_base_epoch(head: CHead) -> CCount
 }
 
 // The owner or none.
-#[unsafe(no_mangle)]
-pub extern "C" fn petasunok_owner_id(head: CHead) -> CMaybeOwner
+pub fn petasunok_owner_id(head: CHead) -> CMaybeOwner
     ensures { result ≡ owner_id_told (owner_id_c head) }
 {
     if capi_given::is_kind(head.kind) {
@@ -60,8 +56,7 @@ pub extern "C" fn petasunok_owner_id(head: CHead) -> CMaybeOwner
 }
 
 // Byte 0 of the flags.
-#[unsafe(no_mangle)]
-pub extern "C" fn petasunok_type_byte(head: CHead) -> CCount
+pub fn petasunok_type_byte(head: CHead) -> CCount
     ensures { result ≡ count_told (type_byte_c head) }
 {
     if capi_given::is_kind(head.kind) {

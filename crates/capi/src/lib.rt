@@ -1,4 +1,4 @@
-// Every public call under a name and in a form that C can call: a static library. A slice passes as a pointer and a length.
+// Every public call under the name and in the form that C calls it by. The static library `capi_c` exports them.
 #![tactic(auto)]
 
 mod adding;

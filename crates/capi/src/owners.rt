@@ -8,8 +8,7 @@ use flags_spec::Choice;
 use records_spec::Refusal;
 
 // Whose owner stands in two encodings.
-#[unsafe(no_mangle)]
-pub extern "C" fn petasunok_combine_owner_id(ours: &[u8], theirs: &[u8], strategy: u8) -> COwner
+pub fn petasunok_combine_owner_id(ours: &[u8], theirs: &[u8], strategy: u8) -> COwner
     ensures { result ≡ owner_told (owner_c strategy ours.now theirs.now) }
 {
     if capi_given::is_strategy(strategy) {

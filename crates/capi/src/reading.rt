@@ -9,20 +9,14 @@ ghost use Rattle.capi_spec.specs.Told.{flags_told};
 use capi_spec::CFlags;
 
 // Reads flags of the kind that byte 0 names.
-#[unsafe(no_mangle)]
-pub extern "C" fn petasunok_deserialize(
-    src: &[u8],
-    epochs: &mut [u16],
-    counts: &mut [u32],
-) -> CFlags
+pub fn petasunok_deserialize(src: &[u8], epochs: &mut [u16], counts: &mut [u32]) -> CFlags
     ensures { after result (tables_left epochs.new counts.new) ≡ flags_told (deserialized src.now (tables_were epochs.old counts.old)) }
 {
     capi_told::flags_told(codec::deserialize(src, epochs, counts))
 }
 
 // Reads flags of kind 0, whatever byte 0 says.
-#[unsafe(no_mangle)]
-pub extern "C" fn petasunok_deserialize_single_epoch(
+pub fn petasunok_deserialize_single_epoch(
     src: &[u8],
     epochs: &mut [u16],
     counts: &mut [u32],
@@ -33,8 +27,7 @@ pub extern "C" fn petasunok_deserialize_single_epoch(
 }
 
 // Reads flags of kind 1, whatever byte 0 says.
-#[unsafe(no_mangle)]
-pub extern "C" fn petasunok_deserialize_multi_epoch(
+pub fn petasunok_deserialize_multi_epoch(
     src: &[u8],
     epochs: &mut [u16],
     counts: &mut [u32],
@@ -45,8 +38,7 @@ pub extern "C" fn petasunok_deserialize_multi_epoch(
 }
 
 // Reads flags of kind 2, whatever byte 0 says.
-#[unsafe(no_mangle)]
-pub extern "C" fn petasunok_deserialize_single_epoch_owned(
+pub fn petasunok_deserialize_single_epoch_owned(
     src: &[u8],
     epochs: &mut [u16],
     counts: &mut [u32],
@@ -57,8 +49,7 @@ pub extern "C" fn petasunok_deserialize_single_epoch_owned(
 }
 
 // Reads flags of kind 3, whatever byte 0 says.
-#[unsafe(no_mangle)]
-pub extern "C" fn petasunok_deserialize_multi_epoch_owned(
+pub fn petasunok_deserialize_multi_epoch_owned(
     src: &[u8],
     epochs: &mut [u16],
     counts: &mut [u32],

@@ -9,8 +9,7 @@ ghost use Rattle.capi_spec.specs.Calls.{split_key_c, split_value_c, summed_c, ha
 use capi_spec::{CCount, CHead, CRemoval, CSum, CValueSplit};
 
 // Splits a removal of key bytes.
-#[unsafe(no_mangle)]
-pub extern "C" fn petasunok_split_key_removed_bytes(
+pub fn petasunok_split_key_removed_bytes(
     flags: CHead,
     epochs: &[u16],
     counts: &[u32],
@@ -35,8 +34,7 @@ pub extern "C" fn petasunok_split_key_removed_bytes(
 }
 
 // Splits a removal of value bytes.
-#[unsafe(no_mangle)]
-pub extern "C" fn petasunok_split_value_removed_bytes(
+pub fn petasunok_split_value_removed_bytes(
     flags: CHead,
     epochs: &[u16],
     counts: &[u32],
@@ -61,8 +59,7 @@ pub extern "C" fn petasunok_split_value_removed_bytes(
 }
 
 // Adds the right removal to the left one, in the left one's tables.
-#[unsafe(no_mangle)]
-pub extern "C" fn petasunok_add_assign(
+pub fn petasunok_add_assign(
     lhs: CRemoval,
     ids: &mut [[u8; 32]],
     epochs: &mut [u16],
@@ -85,8 +82,7 @@ pub extern "C" fn petasunok_add_assign(
 }
 
 // Whether anything was removed: 1 or 0.
-#[unsafe(no_mangle)]
-pub extern "C" fn petasunok_has_removal(
+pub fn petasunok_has_removal(
     removal: CRemoval,
     ids: &[[u8; 32]],
     epochs: &[u16],
@@ -98,8 +94,7 @@ pub extern "C" fn petasunok_has_removal(
 }
 
 // All bytes of a removal.
-#[unsafe(no_mangle)]
-pub extern "C" fn petasunok_total_removed_bytes(
+pub fn petasunok_total_removed_bytes(
     removal: CRemoval,
     ids: &[[u8; 32]],
     epochs: &[u16],

@@ -10,8 +10,7 @@ ghost use Rattle.capi_spec.specs.Calls.{combined_removed_c, optional_combined_re
 use capi_spec::{CFlags, CHead, CRemoval};
 
 // Merges ours with the incoming flags that came with removed bytes.
-#[unsafe(no_mangle)]
-pub extern "C" fn petasunok_combine_removed_bytes(
+pub fn petasunok_combine_removed_bytes(
     ours: CHead,
     our_epochs: &[u16],
     our_counts: &[u32],
@@ -51,8 +50,7 @@ pub extern "C" fn petasunok_combine_removed_bytes(
 }
 
 // The same where ours may be absent; then ours is not looked at.
-#[unsafe(no_mangle)]
-pub extern "C" fn petasunok_optional_combine_removed_bytes(
+pub fn petasunok_optional_combine_removed_bytes(
     present: u8,
     ours: CHead,
     our_epochs: &[u16],

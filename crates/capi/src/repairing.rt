@@ -7,8 +7,7 @@ ghost use Rattle.capi_spec.specs.Told.{repair_answer, told_as};
 use capi_spec::CRepaired;
 
 // Writes canonical bytes for old ones, and lists the changes with their offsets.
-#[unsafe(no_mangle)]
-pub extern "C" fn petasunok_repair(
+pub fn petasunok_repair(
     src: &[u8],
     out: &mut [u8],
     offsets: &mut [usize],

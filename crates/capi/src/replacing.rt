@@ -9,8 +9,7 @@ ghost use Rattle.capi_spec.specs.Calls.{totals_replaced_c};
 use capi_spec::{CCount, CHead};
 
 // Replaces one element's old flags by new ones in a table of totals; absent flags are not looked at.
-#[unsafe(no_mangle)]
-pub extern "C" fn petasunok_totals_replace(
+pub fn petasunok_totals_replace(
     rows: usize,
     owners: &mut [[u8; 32]],
     epochs: &mut [u16],

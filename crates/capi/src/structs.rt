@@ -9,8 +9,7 @@ use totals_index_spec::Total;
 
 // Replaces one element's old flags by new ones in a table of structs, with three slices as a work area; absent flags are not looked at. It branches
 // on the test of the form over slices, so that both are one definition with another call inside.
-#[unsafe(no_mangle)]
-pub extern "C" fn petasunok_totals_replace_structs(
+pub fn petasunok_totals_replace_structs(
     rows: usize,
     table: &mut [Total],
     owners: &mut [[u8; 32]],

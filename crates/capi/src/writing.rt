@@ -10,13 +10,7 @@ use capi_spec::{CCount, CHead};
 use records_spec::{Counted, Refusal};
 
 // Writes flags as bytes.
-#[unsafe(no_mangle)]
-pub extern "C" fn petasunok_serialize(
-    flags: CHead,
-    epochs: &[u16],
-    counts: &[u32],
-    out: &mut [u8],
-) -> CCount
+pub fn petasunok_serialize(flags: CHead, epochs: &[u16], counts: &[u32], out: &mut [u8]) -> CCount
     ensures { after result out.new ≡ told_as count_told (serialized_c (flags_were_c flags epochs.now counts.now) out.old) }
 {
     if capi_given::is_kind(flags.kind) {
@@ -31,8 +25,7 @@ pub extern "C" fn petasunok_serialize(
 }
 
 // The number of bytes of flags.
-#[unsafe(no_mangle)]
-pub extern "C" fn petasunok_serialized_size(flags: CHead, epochs: &[u16], counts: &[u32]) -> CCount
+pub fn petasunok_serialized_size(flags: CHead, epochs: &[u16], counts: &[u32]) -> CCount
     ensures { result ≡ count_told (size_c (flags_were_c flags epochs.now counts.now)) }
 {
     if capi_given::is_kind(flags.kind) {
@@ -46,13 +39,7 @@ pub extern "C" fn petasunok_serialized_size(flags: CHead, epochs: &[u16], counts
 }
 
 // The size of flags before they are made.
-#[unsafe(no_mangle)]
-pub extern "C" fn petasunok_approximate_size(
-    has_owner_id: u8,
-    given: u8,
-    changes: u16,
-    size: u8,
-) -> u32
+pub fn petasunok_approximate_size(has_owner_id: u8, given: u8, changes: u16, size: u8) -> u32
     ensures { result ≡ approximate (is_true has_owner_id) (changes_given given changes size) }
 {
     codec::approximate_size(

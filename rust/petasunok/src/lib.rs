@@ -92,7 +92,7 @@
 //!
 //! 1. in the folder that the environment variable `PETASUNOK_LIB` names, if it is set (a whole path);
 //! 2. in `PREFIX/lib`, where this crate is installed in `PREFIX/src/petasunok`;
-//! 3. in the repository that this crate comes from, where the kit's `rt staticlib capi` makes it if it is missing.
+//! 3. in the repository that this crate comes from, where `tools/archive` makes it with the Rattle kit if it is missing.
 #![deny(unsafe_code, unsafe_op_in_unsafe_fn)]
 #![warn(missing_docs)]
 

@@ -1,0 +1,77 @@
+// The adding merge, for C.
+ghost use Rattle.std.specs.Prelude.{◌≡◌};
+ghost use Rattle.records_spec.specs.Outcomes.{after};
+ghost use Rattle.capi_spec.specs.Given.{flags_were_c};
+ghost use Rattle.records_spec.specs.Answers.{tables_were, tables_left};
+ghost use Rattle.capi_spec.specs.Told.{flags_told};
+ghost use Rattle.capi_spec.specs.Calls.{combined_added_c, optional_combined_added_c};
+
+use capi_spec::{CFlags, CHead};
+
+// Merges ours with the incoming flags that came with added bytes.
+#[unsafe(no_mangle)]
+pub extern "C" fn petasunok_combine_added_bytes(
+    ours: CHead,
+    our_epochs: &[u16],
+    our_counts: &[u32],
+    theirs: CHead,
+    their_epochs: &[u16],
+    their_counts: &[u32],
+    added_bytes: u32,
+    strategy: u8,
+    epochs: &mut [u16],
+    counts: &mut [u32],
+) -> CFlags
+    ensures { let our_flags = flags_were_c ours our_epochs.now our_counts.now in
+        let their_flags = flags_were_c theirs their_epochs.now their_counts.now in
+        let tables_lent = tables_were epochs.old counts.old in
+        after result (tables_left epochs.new counts.new) ≡ flags_told (combined_added_c our_flags their_flags added_bytes strategy tables_lent) }
+{
+    capi::petasunok_combine_added_bytes(
+        ours,
+        our_epochs,
+        our_counts,
+        theirs,
+        their_epochs,
+        their_counts,
+        added_bytes,
+        strategy,
+        epochs,
+        counts,
+    )
+}
+
+// The same where ours may be absent; then ours is not looked at.
+#[unsafe(no_mangle)]
+pub extern "C" fn petasunok_optional_combine_added_bytes(
+    present: u8,
+    ours: CHead,
+    our_epochs: &[u16],
+    our_counts: &[u32],
+    theirs: CHead,
+    their_epochs: &[u16],
+    their_counts: &[u32],
+    added_bytes: u32,
+    strategy: u8,
+    epochs: &mut [u16],
+    counts: &mut [u32],
+) -> CFlags
+    ensures { let our_flags = flags_were_c ours our_epochs.now our_counts.now in
+        let their_flags = flags_were_c theirs their_epochs.now their_counts.now in
+        let tables_lent = tables_were epochs.old counts.old in
+        after result (tables_left epochs.new counts.new) ≡ flags_told (optional_combined_added_c present our_flags their_flags added_bytes strategy tables_lent) }
+{
+    capi::petasunok_optional_combine_added_bytes(
+        present,
+        ours,
+        our_epochs,
+        our_counts,
+        theirs,
+        their_epochs,
+        their_counts,
+        added_bytes,
+        strategy,
+        epochs,
+        counts,
+    )
+}
