@@ -38,36 +38,36 @@ use Rattle.contracts.proofs.Laws.{c_keeps, c_keeps_with, c_flags_keep}
 pub keeps : (c : PublicCall) → Keeps (contract c)
 unfolding placing_if writing serialized handed_on combined_added combined_removed handed_on_beside summed split_key split_value placing_repair replacing
 keeps Calls.deserialize κs i x e p h = flags_keeps x _ _ _ (leaving_kept _ _) p h
-keeps Calls.deserialize-single-epoch κs i x e p h = flags_keeps x _ _ _ (leaving_kept _ _) p h
-keeps Calls.deserialize-multi-epoch κs i x e p h = flags_keeps x _ _ _ (leaving_kept _ _) p h
-keeps Calls.deserialize-single-epoch-owned κs i x e p h = flags_keeps x _ _ _ (leaving_kept _ _) p h
-keeps Calls.deserialize-multi-epoch-owned κs i x e p h = flags_keeps x _ _ _ (leaving_kept _ _) p h
+keeps Calls.deserialize_single_epoch κs i x e p h = flags_keeps x _ _ _ (leaving_kept _ _) p h
+keeps Calls.deserialize_multi_epoch κs i x e p h = flags_keeps x _ _ _ (leaving_kept _ _) p h
+keeps Calls.deserialize_single_epoch_owned κs i x e p h = flags_keeps x _ _ _ (leaving_kept _ _) p h
+keeps Calls.deserialize_multi_epoch_owned κs i x e p h = flags_keeps x _ _ _ (leaving_kept _ _) p h
 keeps Calls.judge κs i x e p h = absurd (h refl)
-keeps Calls.judge-as κs i x e p h = absurd (h refl)
+keeps Calls.judge_as κs i x e p h = absurd (h refl)
 keeps Calls.list κs i x e p h = told_keeps_with counted x _ _ _ (leaving_kept _ _) p h
 keeps Calls.serialize κs i x e p h = told_keeps_with counted x _ _ _ (leaving_kept _ _) p h
-keeps Calls.serialized-size κs i x e p h = (told_keeps counted x h, refl)
-keeps Calls.approximate-size κs i x e p h = absurd (h refl)
-keeps Calls.new-single-epoch κs i x e p h = absurd (h refl)
-keeps Calls.set-owner-id κs i x e p h = absurd (h refl)
-keeps Calls.base-epoch κs i x e p h = absurd (h refl)
-keeps Calls.owner-id κs i x e p h = absurd (h refl)
-keeps Calls.type-byte κs i x e p h = absurd (h refl)
-keeps Calls.choose-owner κs i x e p h = absurd (h refl)
-keeps Calls.combine-owners κs i x e p h = absurd (h refl)
-keeps Calls.combine-owner-id κs i x e p h = absurd (h refl)
-keeps Calls.choose-owner-id κs i x e p h = absurd (h refl)
-keeps Calls.combine-added-bytes κs i x e p h = flags_keeps x _ _ _ (leaving_kept _ _) p h
-keeps Calls.optional-combine-added-bytes κs i x e p h = flags_keeps x _ _ _ (either_kept _ i.0 _ _ (leaving_kept _ _) (leaving_kept _ _)) p h
-keeps Calls.combine-removed-bytes κs i x e p h = flags_keeps x _ _ _ (leaving_kept _ _) p h
-keeps Calls.optional-combine-removed-bytes κs i x e p h = flags_keeps x _ _ _ (either_kept _ i.0 _ _ (leaving_kept _ _) (leaving_kept _ _)) p h
-keeps Calls.has_removal_lem κs i x e p h = (told_keeps decided x h, refl)
-keeps Calls.total-removed-bytes κs i x e p h = (told_keeps totalled x h, refl)
-keeps Calls.add-assign κs i x e p h = told_keeps_with told_removal x _ _ _ (leaving_kept _ _) p h
-keeps Calls.split-key-removed-bytes κs i x e p h = told_keeps_with told_removal x _ _ _ (leaving_kept _ _) p h
-keeps Calls.split-value-removed-bytes κs i x e p h = told_keeps_with told_split x _ _ _ (leaving_kept _ _) p h
+keeps Calls.serialized_size κs i x e p h = (told_keeps counted x h, refl)
+keeps Calls.approximate_size κs i x e p h = absurd (h refl)
+keeps Calls.new_single_epoch κs i x e p h = absurd (h refl)
+keeps Calls.set_owner_id κs i x e p h = absurd (h refl)
+keeps Calls.base_epoch κs i x e p h = absurd (h refl)
+keeps Calls.owner_id κs i x e p h = absurd (h refl)
+keeps Calls.type_byte κs i x e p h = absurd (h refl)
+keeps Calls.choose_owner κs i x e p h = absurd (h refl)
+keeps Calls.combine_owners κs i x e p h = absurd (h refl)
+keeps Calls.combine_owner_id κs i x e p h = absurd (h refl)
+keeps Calls.choose_owner_id κs i x e p h = absurd (h refl)
+keeps Calls.combine_added_bytes κs i x e p h = flags_keeps x _ _ _ (leaving_kept _ _) p h
+keeps Calls.optional_combine_added_bytes κs i x e p h = flags_keeps x _ _ _ (either_kept _ i.0 _ _ (leaving_kept _ _) (leaving_kept _ _)) p h
+keeps Calls.combine_removed_bytes κs i x e p h = flags_keeps x _ _ _ (leaving_kept _ _) p h
+keeps Calls.optional_combine_removed_bytes κs i x e p h = flags_keeps x _ _ _ (either_kept _ i.0 _ _ (leaving_kept _ _) (leaving_kept _ _)) p h
+keeps Calls.has_removal κs i x e p h = (told_keeps decided x h, refl)
+keeps Calls.total_removed_bytes κs i x e p h = (told_keeps totalled x h, refl)
+keeps Calls.add_assign κs i x e p h = told_keeps_with told_removal x _ _ _ (leaving_kept _ _) p h
+keeps Calls.split_key_removed_bytes κs i x e p h = told_keeps_with told_removal x _ _ _ (leaving_kept _ _) p h
+keeps Calls.split_value_removed_bytes κs i x e p h = told_keeps_with told_split x _ _ _ (leaving_kept _ _) p h
 keeps Calls.repair κs i x e p h = told_keeps_with told_repair x _ _ _ (leaving_kept _ _) p h
-keeps Calls.totals-replace κs i x e p h = told_keeps_with counted x _ _ _ (leaving_kept _ _) p h
+keeps Calls.totals_replace κs i x e p h = told_keeps_with counted x _ _ _ (leaving_kept _ _) p h
 
 -- a choice of owners as C gets it
 choice_keeps : (x : COwner) (c : Choice) → x ≡ owner_told c → (x.refusal ≡ 0 → ⊥) → x ≡ record { refusal = x.refusal; which = 0 }
@@ -80,64 +80,64 @@ choice_keeps x (Refused r) e h =
 
 pub keeps_c : (c : CallForC) → Keeps (contract_c c)
 unfolding placing_if writing serialized handed_on combined_added combined_removed handed_on_beside summed split_key split_value placing_repair replacing
-keeps_c CallsForC.petasunok-deserialize κs i x e p h = c_flags_keep x _ _ _ (leaving_kept _ _) p h
-keeps_c CallsForC.petasunok-deserialize-single-epoch κs i x e p h = c_flags_keep x _ _ _ (leaving_kept _ _) p h
-keeps_c CallsForC.petasunok-deserialize-multi-epoch κs i x e p h = c_flags_keep x _ _ _ (leaving_kept _ _) p h
-keeps_c CallsForC.petasunok-deserialize-single-epoch-owned κs i x e p h = c_flags_keep x _ _ _ (leaving_kept _ _) p h
-keeps_c CallsForC.petasunok-deserialize-multi-epoch-owned κs i x e p h = c_flags_keep x _ _ _ (leaving_kept _ _) p h
-keeps_c CallsForC.petasunok-serialize κs i x e p h =
+keeps_c CallsForC.petasunok_deserialize κs i x e p h = c_flags_keep x _ _ _ (leaving_kept _ _) p h
+keeps_c CallsForC.petasunok_deserialize_single_epoch κs i x e p h = c_flags_keep x _ _ _ (leaving_kept _ _) p h
+keeps_c CallsForC.petasunok_deserialize_multi_epoch κs i x e p h = c_flags_keep x _ _ _ (leaving_kept _ _) p h
+keeps_c CallsForC.petasunok_deserialize_single_epoch_owned κs i x e p h = c_flags_keep x _ _ _ (leaving_kept _ _) p h
+keeps_c CallsForC.petasunok_deserialize_multi_epoch_owned κs i x e p h = c_flags_keep x _ _ _ (leaving_kept _ _) p h
+keeps_c CallsForC.petasunok_serialize κs i x e p h =
     c_keeps_with count_told (λ (a : CCount). a.refusal) (λ a. refl) (λ n. refl) x _ _ _ (named_kept _ (is_kind i.0.kind) _ (leaving_kept _ _)) p h
-keeps_c CallsForC.petasunok-serialized-size κs i x e p h =
-    let answer = begun κs (contract_c CallsForC.petasunok-serialized-size).params
+keeps_c CallsForC.petasunok_serialized_size κs i x e p h =
+    let answer = begun κs (contract_c CallsForC.petasunok_serialized_size).params
     (λ flags epochs counts. size_c (holding_c flags epochs.now counts.now)) i in
     (c_keeps count_told (λ (a : CCount). a.refusal) (λ a. refl) (λ n. refl) x answer p h, refl)
-keeps_c CallsForC.petasunok-approximate-size κs i x e p h = absurd (h refl)
-keeps_c CallsForC.petasunok-new-single-epoch κs i x e p h = absurd (h refl)
-keeps_c CallsForC.petasunok-set-owner-id κs i x e p h =
+keeps_c CallsForC.petasunok_approximate_size κs i x e p h = absurd (h refl)
+keeps_c CallsForC.petasunok_new_single_epoch κs i x e p h = absurd (h refl)
+keeps_c CallsForC.petasunok_set_owner_id κs i x e p h =
     (c_keeps head_answer (λ (a : CFlags). a.refusal) (λ a. refl) (λ n. refl) x (with_owner_c i.0 i.1.0) p h, refl)
-keeps_c CallsForC.petasunok-base-epoch κs i x e p h =
+keeps_c CallsForC.petasunok_base_epoch κs i x e p h =
     (c_keeps count_told (λ (a : CCount). a.refusal) (λ a. refl) (λ n. refl) x (base_c i.0) p h, refl)
-keeps_c CallsForC.petasunok-owner-id κs i x e p h =
+keeps_c CallsForC.petasunok_owner_id κs i x e p h =
     (c_keeps owner_id_told (λ (a : CMaybeOwner). a.refusal) (λ a. refl) (λ n. refl) x (owner_id_c i.0) p h, refl)
-keeps_c CallsForC.petasunok-type-byte κs i x e p h =
+keeps_c CallsForC.petasunok_type_byte κs i x e p h =
     (c_keeps count_told (λ (a : CCount). a.refusal) (λ a. refl) (λ n. refl) x (type_byte_c i.0) p h, refl)
 keeps_c CallsForC.petasunok_combine_owner_id κs i x e p h = (choice_keeps x (owner_c i.1.1.0 i.0.now i.1.0.now) p h, refl)
-keeps_c CallsForC.petasunok-combine-added-bytes κs i x e p h =
-    let named = begun κs (contract_c CallsForC.petasunok-combine-added-bytes).params
+keeps_c CallsForC.petasunok_combine_added_bytes κs i x e p h =
+    let named = begun κs (contract_c CallsForC.petasunok_combine_added_bytes).params
     (λ ours _ _ theirs _ _ _ strategy _ _. can_merge true ours theirs strategy) i in
     c_flags_keep x _ _ _ (named_kept _ named _ (leaving_kept _ _)) p h
-keeps_c CallsForC.petasunok-optional-combine-added-bytes κs i x e p h =
-    let named = begun κs (contract_c CallsForC.petasunok-optional-combine-added-bytes).params
+keeps_c CallsForC.petasunok_optional_combine_added_bytes κs i x e p h =
+    let named = begun κs (contract_c CallsForC.petasunok_optional_combine_added_bytes).params
     (λ present ours _ _ theirs _ _ _ strategy _ _. can_merge (is_true present) ours theirs strategy) i in
     c_flags_keep x _ _ _ (named_kept _ named _ (either_kept _ (is_true i.0) _ _ (leaving_kept _ _) (leaving_kept _ _))) p h
-keeps_c CallsForC.petasunok-combine-removed-bytes κs i x e p h =
-    let named = begun κs (contract_c CallsForC.petasunok-combine-removed-bytes).params
+keeps_c CallsForC.petasunok_combine_removed_bytes κs i x e p h =
+    let named = begun κs (contract_c CallsForC.petasunok_combine_removed_bytes).params
     (λ ours _ _ theirs _ _ removal _ _ _ strategy _ _. can_merge true ours theirs strategy && is_removal removal.kind) i in
     c_flags_keep x _ _ _ (named_kept _ named _ (leaving_kept _ _)) p h
 keeps_c CallsForC.petasunok_optional_combine_removed_bytes κs i x e p h =
     let named = begun κs (contract_c CallsForC.petasunok_optional_combine_removed_bytes).params
     (λ present ours _ _ theirs _ _ removal _ _ _ strategy _ _. can_merge (is_true present) ours theirs strategy && is_removal removal.kind) i in
     c_flags_keep x _ _ _ (named_kept _ named _ (either_kept _ (is_true i.0) _ _ (leaving_kept _ _) (leaving_kept _ _))) p h
-keeps_c CallsForC.petasunok-has-removal κs i x e p h =
-    let answer = begun κs (contract_c CallsForC.petasunok-has-removal).params
+keeps_c CallsForC.petasunok_has_removal κs i x e p h =
+    let answer = begun κs (contract_c CallsForC.petasunok_has_removal).params
     (λ removal ids epochs bytes. has_removal_c (holding_rows_c removal (tables ids.now epochs.now bytes.now))) i in
     (c_keeps truth_told (λ (a : CCount). a.refusal) (λ a. refl) (λ n. refl) x answer p h, refl)
-keeps_c CallsForC.petasunok-total-removed-bytes κs i x e p h =
-    let answer = begun κs (contract_c CallsForC.petasunok-total-removed-bytes).params
+keeps_c CallsForC.petasunok_total_removed_bytes κs i x e p h =
+    let answer = begun κs (contract_c CallsForC.petasunok_total_removed_bytes).params
     (λ removal ids epochs bytes. total_removed_c (holding_rows_c removal (tables ids.now epochs.now bytes.now))) i in
     (c_keeps count_told (λ (a : CCount). a.refusal) (λ a. refl) (λ n. refl) x answer p h, refl)
-keeps_c CallsForC.petasunok-add-assign κs i x e p h =
-    let named = begun κs (contract_c CallsForC.petasunok-add-assign).params
+keeps_c CallsForC.petasunok_add_assign κs i x e p h =
+    let named = begun κs (contract_c CallsForC.petasunok_add_assign).params
     (λ lhs _ _ _ rhs _ _ _ _. is_removal lhs.kind && is_removal rhs.kind) i in
     c_keeps_with sum_answer (λ (a : CSum). a.refusal) (λ a. refl) (λ n. refl) x _ _ _ (named_kept _ named _ (leaving_kept _ _)) p h
-keeps_c CallsForC.petasunok-split-key-removed-bytes κs i x e p h =
+keeps_c CallsForC.petasunok_split_key_removed_bytes κs i x e p h =
     c_keeps_with sum_answer (λ (a : CSum). a.refusal) (λ a. refl) (λ n. refl) x _ _ _ (named_kept _ (is_kind i.0.kind) _ (leaving_kept _ _)) p h
-keeps_c CallsForC.petasunok-split-value-removed-bytes κs i x e p h =
+keeps_c CallsForC.petasunok_split_value_removed_bytes κs i x e p h =
     c_keeps_with split_answer (λ (a : CValueSplit). a.refusal) (λ a. refl) (λ n. refl) x _ _ _
     (named_kept _ (is_kind i.0.kind) _ (leaving_kept _ _)) p h
-keeps_c CallsForC.petasunok-repair κs i x e p h =
+keeps_c CallsForC.petasunok_repair κs i x e p h =
     c_keeps_with repair_answer (λ (a : CRepaired). a.refusal) (λ a. refl) (λ n. refl) x _ _ _ (leaving_kept _ _) p h
-keeps_c CallsForC.petasunok-totals-replace κs i x e p h =
-    let named = begun κs (contract_c CallsForC.petasunok-totals-replace).params
-    (λ _ _ _ _ old-present old-flags _ _ new-present new-flags _ _. can_replace old-present old-flags new-present new-flags) i in
+keeps_c CallsForC.petasunok_totals_replace κs i x e p h =
+    let named = begun κs (contract_c CallsForC.petasunok_totals_replace).params
+    (λ _ _ _ _ old_present old_flags _ _ new_present new_flags _ _. can_replace old_present old_flags new_present new_flags) i in
     c_keeps_with count_told (λ (a : CCount). a.refusal) (λ a. refl) (λ n. refl) x _ _ _ (named_kept _ named _ (leaving_kept _ _)) p h

@@ -1,4 +1,4 @@
--- THE SAME OF THE TWO CALLS THAT ARE WALKED BY HAND, `totals_index::replace` and `petasunok_totals_replace_structs`, whose contracts are the
+-- THE SAME OF THE TWO CALLS THAT ARE WALKED BY HAND, `totals_index::replace_structs` and `petasunok_totals_replace_structs`, whose contracts are the
 -- propositions `SaysStructs` and `SaysStructsC`: any two outcomes are equal, and a refusal is its number alone and keeps the table and the work
 -- area.
 -- Assumes nothing.
@@ -22,7 +22,7 @@ use Rattle.capi_spec.specs.declared.types.CCount.{CCount}
 use Rattle.contracts.proofs.Laws.{leaving_kept, named_kept, told_keeps_with, c_keeps_with, c_only}
 
 module _ (n : ℕ) (ts : List Total) (work : Tables) where
-  -- `totals_index::replace`
+  -- `totals_index::replace_structs`
   module _ (good : Bool) (old new : Option Flags) where
     pub structs_only : (r s : Counted) (m k : TableAndWork) → SaysStructs n ts work good old new r m → SaysStructs n ts work good old new s k
         → (r ≡ s) × (m ≡ k)
