@@ -1,7 +1,6 @@
+// Owners and the adding merge of flags.
 #![tactic(auto)]
 
-ghost use Rattle.records_spec.specs.Answers.{placing};
-// Owners and the adding merge of flags.
 mod adding;
 mod owners;
 mod placing;
