@@ -5,7 +5,6 @@ ghost use Rattle.std.specs.Prelude.{◌≤◌, ◌≡◌, length, take};
 ghost use Rattle.io.specs.Counts.{IsPrefixLen};
 ghost use Rattle.records_spec.specs.Refusals.{number};
 ghost use Rattle.listing_spec.specs.Text.{word_line};
-ghost use Rattle.records_spec.specs.Outcomes.{refused};
 
 use records_spec::Refusal;
 use repair_spec::{AnsweredRepair, LONGEST_FLAGS};

@@ -1,7 +1,7 @@
 // Standard input read to its end, and what the programs say where a stream fails.
 #![tactic(auto)]
 
-ghost use Rattle.std.specs.Prelude.{◌≡◌, IsTrue, length, take};
+ghost use Rattle.std.specs.Prelude.{◌≡◌, IsTrue};
 ghost use Rattle.std.specs.Io.KnownBytes.{Appends};
 ghost use Rattle.streams.specs.Reading.{meaning, Within, ReadsKnown};
 
