@@ -16,6 +16,7 @@ use Rattle.splitting_spec.specs.Calls.{told_split, split_key, split_value}
 use Rattle.removal_spec.specs.Calls.{combined_removed, handed_on_beside}
 use Rattle.repair_spec.specs.Calls.{told_repair, placing_repair}
 use Rattle.totals_spec.specs.Calls.{replacing}
+use Rattle.totals_index_spec.specs.Calls.{placing_structs, replacing_structs}
 use Rattle.rows_spec.specs.Rows.{tables}
 use Rattle.capi_spec.specs.Given.{is_true, is_kind, is_removal, can_merge, can_replace, holding_c, holding_rows_c}
 use Rattle.capi_spec.specs.Calls.{size_c, with_owner_c, base_c, owner_id_c, type_byte_c, owner_c, has_removal_c, total_removed_c}
@@ -37,6 +38,7 @@ use Rattle.contracts.proofs.Laws.{c_keeps, c_keeps_with, c_flags_keep}
 
 pub keeps : (c : PublicCall) → Keeps (contract c)
 unfolding placing_if writing serialized handed_on combined_added combined_removed handed_on_beside summed split_key split_value placing_repair replacing
+    replacing_structs placing_structs
 keeps Calls.deserialize κs i x e p h = flags_keeps x _ _ _ (leaving_kept _ _) p h
 keeps Calls.deserialize_single_epoch κs i x e p h = flags_keeps x _ _ _ (leaving_kept _ _) p h
 keeps Calls.deserialize_multi_epoch κs i x e p h = flags_keeps x _ _ _ (leaving_kept _ _) p h
@@ -68,6 +70,7 @@ keeps Calls.split_key_removed_bytes κs i x e p h = told_keeps_with told_removal
 keeps Calls.split_value_removed_bytes κs i x e p h = told_keeps_with told_split x _ _ _ (leaving_kept _ _) p h
 keeps Calls.repair κs i x e p h = told_keeps_with told_repair x _ _ _ (leaving_kept _ _) p h
 keeps Calls.totals_replace κs i x e p h = told_keeps_with counted x _ _ _ (leaving_kept _ _) p h
+keeps Calls.totals_replace_structs κs i x e p h = told_keeps_with counted x _ _ _ (leaving_kept _ _) p h
 
 -- a choice of owners as C gets it
 choice_keeps : (x : COwner) (c : Choice) → x ≡ owner_told c → (x.refusal ≡ 0 → ⊥) → x ≡ record { refusal = x.refusal; which = 0 }
@@ -80,6 +83,7 @@ choice_keeps x (Refused r) e h =
 
 pub keeps_c : (c : CallForC) → Keeps (contract_c c)
 unfolding placing_if writing serialized handed_on combined_added combined_removed handed_on_beside summed split_key split_value placing_repair replacing
+    replacing_structs placing_structs
 keeps_c CallsForC.petasunok_deserialize κs i x e p h = c_flags_keep x _ _ _ (leaving_kept _ _) p h
 keeps_c CallsForC.petasunok_deserialize_single_epoch κs i x e p h = c_flags_keep x _ _ _ (leaving_kept _ _) p h
 keeps_c CallsForC.petasunok_deserialize_multi_epoch κs i x e p h = c_flags_keep x _ _ _ (leaving_kept _ _) p h
@@ -140,4 +144,8 @@ keeps_c CallsForC.petasunok_repair κs i x e p h =
 keeps_c CallsForC.petasunok_totals_replace κs i x e p h =
     let named = begun κs (contract_c CallsForC.petasunok_totals_replace).params
     (λ _ _ _ _ old_present old_flags _ _ new_present new_flags _ _. can_replace old_present old_flags new_present new_flags) i in
+    c_keeps_with count_told (λ (a : CCount). a.refusal) (λ a. refl) (λ n. refl) x _ _ _ (named_kept _ named _ (leaving_kept _ _)) p h
+keeps_c CallsForC.petasunok_totals_replace_structs κs i x e p h =
+    let named = begun κs (contract_c CallsForC.petasunok_totals_replace_structs).params
+    (λ _ _ _ _ _ old_present old_flags _ _ new_present new_flags _ _. can_replace old_present old_flags new_present new_flags) i in
     c_keeps_with count_told (λ (a : CCount). a.refusal) (λ a. refl) (λ n. refl) x _ _ _ (named_kept _ named _ (leaving_kept _ _)) p h

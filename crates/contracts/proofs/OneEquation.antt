@@ -39,6 +39,7 @@ one_equation Calls.split_key_removed_bytes κs i x e = refl
 one_equation Calls.split_value_removed_bytes κs i x e = refl
 one_equation Calls.repair κs i x e = refl
 one_equation Calls.totals_replace κs i x e = refl
+one_equation Calls.totals_replace_structs κs i x e = refl
 
 pub one_equation_c : (c : CallForC) → OneEquation (contract_c c)
 one_equation_c CallsForC.petasunok_deserialize κs i x e = refl
@@ -66,3 +67,4 @@ one_equation_c CallsForC.petasunok_split_key_removed_bytes κs i x e = refl
 one_equation_c CallsForC.petasunok_split_value_removed_bytes κs i x e = refl
 one_equation_c CallsForC.petasunok_repair κs i x e = refl
 one_equation_c CallsForC.petasunok_totals_replace κs i x e = refl
+one_equation_c CallsForC.petasunok_totals_replace_structs κs i x e = refl

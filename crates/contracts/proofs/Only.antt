@@ -49,6 +49,7 @@ only Calls.split_key_removed_bytes κs i x y e f p q = left_only told_removal re
 only Calls.split_value_removed_bytes κs i x y e f p q = left_only told_split split_as split_back x y _ _ _ p q
 only Calls.repair κs i x y e f p q = left_only told_repair repair_as repair_back x y _ _ _ p q
 only Calls.totals_replace κs i x y e f p q = left_only counted counted_as counted_back x y _ _ _ p q
+only Calls.totals_replace_structs κs i x y e f p q = left_only counted counted_as counted_back x y _ _ _ p q
 
 pub only_c : (c : CallForC) → Only (contract_c c)
 only_c CallsForC.petasunok_deserialize κs i x y e f p q = c_only x y _ _ _ p q
@@ -76,3 +77,4 @@ only_c CallsForC.petasunok_split_key_removed_bytes κs i x y e f p q = c_only x 
 only_c CallsForC.petasunok_split_value_removed_bytes κs i x y e f p q = c_only x y _ _ _ p q
 only_c CallsForC.petasunok_repair κs i x y e f p q = c_only x y _ _ _ p q
 only_c CallsForC.petasunok_totals_replace κs i x y e f p q = c_only x y _ _ _ p q
+only_c CallsForC.petasunok_totals_replace_structs κs i x y e f p q = c_only x y _ _ _ p q

@@ -1,6 +1,6 @@
--- THE SAME OF THE TWO CALLS THAT ARE WALKED BY HAND, `totals_index::replace_structs` and `petasunok_totals_replace_structs`, whose contracts are the
--- propositions `SaysStructs` and `SaysStructsC`: any two outcomes are equal, and a refusal is its number alone and keeps the table and the work
--- area.
+-- THE SAME OF THE TWO CALLS OVER STRUCTS, `totals_index::replace_structs` and `petasunok_totals_replace_structs`, said of the propositions that
+-- their contracts name, `SaysStructs` and `SaysStructsC`: any two outcomes are equal, and a refusal is its number alone and keeps the table and the
+-- work area.
 -- Assumes nothing.
 use mathlib.Core.Path.{◌≡◌, refl}
 use mathlib.Core.Bool.{Bool}

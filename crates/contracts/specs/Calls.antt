@@ -1,5 +1,4 @@
--- THE TABLE OF PUBLIC CALLS, with their contracts as the crates state them. Beside these stand `contract_c` for C, and
--- `totals_index::replace_structs`, which is walked by hand (Walked).
+-- THE TABLE OF PUBLIC CALLS, with their contracts as the crates state them. Beside these stands `contract_c` for C.
 -- Assumes nothing.
 use Rattle.std.specs.Prelude.{ℕ, ◌&&◌}
 use Rattle.records_spec.specs.Flags
@@ -27,6 +26,7 @@ use Rattle.splitting_spec.specs.Calls.{told_split, split_key, split_value}
 use Rattle.removal_spec.specs.Calls.{combined_removed, optional_combined_removed}
 use Rattle.repair_spec.specs.Calls.{told_repair, repair_lent, repaired_into}
 use Rattle.totals_spec.specs.Calls.{given, proper_given, replacing}
+use Rattle.totals_index_spec.specs.Calls.{beside, replacing_structs}
 use Rattle.contracts.specs.Forms.{valued, answering, answering_with, flagged}
 use Rattle.contracts.specs.Contract.{Contract, contract_of, answering_alone}
 use Rattle.codec.proofs.deserialize.Kinds as deserialize_kinds
@@ -91,6 +91,8 @@ use Rattle.repair.proofs.repair.Kinds as repair_kinds
 use Rattle.repair.proofs.repair.Reads as repair_reads
 use Rattle.totals.proofs.replace.Kinds as totals_replace_kinds
 use Rattle.totals.proofs.replace.Reads as totals_replace_reads
+use Rattle.totals_index.proofs.replace_structs.Kinds as totals_replace_structs_kinds
+use Rattle.totals_index.proofs.replace_structs.Reads as totals_replace_structs_reads
 
 -- the calls by name
 pub data PublicCall : Type 0 where
@@ -108,7 +110,7 @@ pub data PublicCall : Type 0 where
   -- removals
   has_removal total_removed_bytes add_assign split_key_removed_bytes split_value_removed_bytes : PublicCall
   -- repair and totals
-  repair totals_replace : PublicCall
+  repair totals_replace totals_replace_structs : PublicCall
 
 -- the contract of each
 abbrev pub contract : PublicCall → Contract
@@ -262,3 +264,13 @@ contract totals_replace =
     ))
     (λ κs rows owners epochs totals old_present old_flags old_epochs old_counts new_present new_flags new_epochs new_counts.
     tables owners.now epochs.now totals.now)
+contract totals_replace_structs =
+    contract_of (answering_with counted) 8 totals_replace_structs_kinds.ps totals_replace_structs_kinds.r totals_replace_structs_reads.Learnt (λ κs x. x)
+    (λ κs rows table owners epochs totals old_present old_flags old_epochs old_counts new_present new_flags new_epochs new_counts. (
+      beside table.now (tables owners.now epochs.now totals.now),
+      λ m. replacing_structs rows m.table m.work (proper_given old_present (holding old_flags old_epochs.now old_counts.now) && proper_given new_present
+          (holding new_flags new_epochs.now new_counts.now)) (given old_present (holding old_flags old_epochs.now old_counts.now))
+          (given new_present (holding new_flags new_epochs.now new_counts.now)),
+    ))
+    (λ κs rows table owners epochs totals old_present old_flags old_epochs old_counts new_present new_flags new_epochs new_counts.
+    beside table.now (tables owners.now epochs.now totals.now))

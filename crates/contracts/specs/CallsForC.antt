@@ -1,5 +1,4 @@
--- THE TABLE OF THE CALLS FOR C, with their contracts as `capi` states them. `petasunok_totals_replace_structs`, which is walked by hand, stands in
--- proofs/Walked.
+-- THE TABLE OF THE CALLS FOR C, with their contracts as `capi` states them.
 -- Assumes nothing.
 use Rattle.std.specs.Prelude.{ℕ}
 use Rattle.records_spec.specs.Flags.{owner_if, head_for, lending}
@@ -8,11 +7,12 @@ use Rattle.codec_spec.specs.Sizes.{approximate}
 use Rattle.codec_spec.specs.Calls.{deserialized_as, deserialized}
 use Rattle.rows_spec.specs.Rows.{tables}
 use Rattle.repair_spec.specs.Calls.{repair_lent, repaired_into}
+use Rattle.totals_index_spec.specs.Calls.{beside}
 use Rattle.capi_spec.specs.Given.{is_true, holding_c, changes_given, holding_rows_c}
 use Rattle.capi_spec.specs.Told.{told_as, head_told, flags_told, head_answer, count_told, truth_told, owner_told, owner_id_told}
 use Rattle.capi_spec.specs.Told.{sum_answer, split_answer, repair_answer}
 use Rattle.capi_spec.specs.Calls.{serialized_c, size_c, owner_c, combined_added_c, optional_combined_added_c, combined_removed_c, optional_combined_removed_c}
-use Rattle.capi_spec.specs.Calls.{split_key_c, split_value_c, summed_c, has_removal_c, total_removed_c, totals_replaced_c}
+use Rattle.capi_spec.specs.Calls.{split_key_c, split_value_c, summed_c, has_removal_c, total_removed_c, totals_replaced_c, structs_replaced_c}
 use Rattle.capi_spec.specs.Calls.{with_owner_c, base_c, owner_id_c, type_byte_c}
 use Rattle.capi_spec.specs.declared.types.CHead.{CHead}
 use Rattle.contracts.specs.Forms.{valued, flagged_c, head_c, counted_c, number_c, choice_c, owner_id_for_c, summed_for_c, split_for_c, repaired_c}
@@ -67,6 +67,8 @@ use Rattle.capi.proofs.petasunok_repair.Kinds as petasunok_repair_kinds
 use Rattle.capi.proofs.petasunok_repair.Reads as petasunok_repair_reads
 use Rattle.capi.proofs.petasunok_totals_replace.Kinds as petasunok_totals_replace_kinds
 use Rattle.capi.proofs.petasunok_totals_replace.Reads as petasunok_totals_replace_reads
+use Rattle.capi.proofs.petasunok_totals_replace_structs.Kinds as petasunok_totals_replace_structs_kinds
+use Rattle.capi.proofs.petasunok_totals_replace_structs.Reads as petasunok_totals_replace_structs_reads
 
 -- the calls by name
 pub data CallForC : Type 0 where
@@ -82,7 +84,7 @@ pub data CallForC : Type 0 where
   petasunok_optional_combine_removed_bytes : CallForC
   -- for C: removals, repair and totals
   petasunok_has_removal petasunok_total_removed_bytes petasunok_add_assign petasunok_split_key_removed_bytes : CallForC
-  petasunok_split_value_removed_bytes petasunok_repair petasunok_totals_replace : CallForC
+  petasunok_split_value_removed_bytes petasunok_repair petasunok_totals_replace petasunok_totals_replace_structs : CallForC
 
 -- the contract of each
 abbrev pub contract_c : CallForC → Contract
@@ -232,3 +234,13 @@ contract_c petasunok_totals_replace =
     ))
     (λ κs rows owners epochs totals old_present old_flags old_epochs old_counts new_present new_flags new_epochs new_counts.
     tables owners.now epochs.now totals.now)
+contract_c petasunok_totals_replace_structs =
+    contract_of counted_c 8 petasunok_totals_replace_structs_kinds.ps petasunok_totals_replace_structs_kinds.r
+    petasunok_totals_replace_structs_reads.Learnt (λ κs x. x)
+    (λ κs rows table owners epochs totals old_present old_flags old_epochs old_counts new_present new_flags new_epochs new_counts. (
+      beside table.now (tables owners.now epochs.now totals.now),
+      λ m. told_as count_told (structs_replaced_c rows m.table m.work old_present (holding_c old_flags old_epochs.now old_counts.now) new_present
+          (holding_c new_flags new_epochs.now new_counts.now)),
+    ))
+    (λ κs rows table owners epochs totals old_present old_flags old_epochs old_counts new_present new_flags new_epochs new_counts.
+    beside table.now (tables owners.now epochs.now totals.now))
