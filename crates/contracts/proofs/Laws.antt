@@ -6,9 +6,10 @@ use mathlib.Core.Bool.{Bool, true, false, cond}
 use Prim.Native.Nat.{ℕ}
 use Rattle.records_spec.specs.Outcomes.{Answer, ok, refused, number_in, After, after, leaving}
 use Rattle.records_spec.specs.Flags.{no_head, Lent, lending, Held, blank}
-use Rattle.records_spec.specs.Answers.{FlagsAfter, present_in, shown}
+use Rattle.records_spec.specs.Answers.{FlagsAfter, present_in, shown, counted}
 use Rattle.records_spec.specs.declared.answer.Answered.{Answered}
-use Rattle.records_spec.proofs.Only.{refused_keeps}
+use Rattle.records_spec.specs.declared.answer.Counted.{Counted}
+use Rattle.records_spec.proofs.Only.{refused_keeps, back_only, counted_as, counted_back}
 use Rattle.capi_spec.specs.Calls.{where_named}
 use Rattle.capi_spec.specs.Told.{told_as, flags_answer, flags_told}
 use Rattle.capi_spec.specs.declared.types.CFlags.{CFlags}
@@ -97,3 +98,7 @@ pub c_only : {C M : Type 0} (x y : C) (m n : M) (d : After C M) → after x m �
 c_only {C} {M} x y m n d p q =
     let e = p ∙ sym q in
     (ap (λ (a : After C M). a.answer) e, ap (λ (a : After C M). a.lent) e)
+
+-- two counts or refusals that tell the same are the same
+pub counted_only : (c d : Counted) (x : Answer ℕ) → counted c ≡ x → counted d ≡ x → c ≡ d
+counted_only = back_only counted counted_as counted_back
