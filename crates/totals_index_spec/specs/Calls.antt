@@ -52,6 +52,6 @@ placing_structs n x ts work = leaving (beside ts work) do
 unfoldable pub replacing_structs : ℕ → List Total → Tables → Bool → Option Flags → Option Flags → StructsAfter
 replacing_structs n ts work good old new = placing_structs n (verdict n ts good old new) ts work
 
--- what the contract of `replace_structs` says of its answer and what it leaves; the checker exports no contract of what is walked by hand
+-- what the contract of `replace_structs` says of its answer and what it leaves
 abbrev pub SaysStructs : ℕ → List Total → Tables → Bool → Option Flags → Option Flags → Counted → TableAndWork → Type 0
 SaysStructs n ts work good old new r m = after (counted r) m ≡ replacing_structs n ts work good old new
