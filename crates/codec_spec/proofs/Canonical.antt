@@ -5,7 +5,7 @@ use native.Mathlib.Decide.{ℕ_discrete}
 use native.Mathlib.Omega.{arith}
 use mathlib.Core.Path.{◌≡◌, refl, sym, ap, ap₂, ◌∙◌}
 use mathlib.Core.Bool.{Bool, true, false, cond}
-use mathlib.Core.Option.{Option, none, some}
+use Rattle.std.specs.Prelude.{Option, None, Some}
 use mathlib.Core.List.{List, [], ◌∷◌, ◌++◌}
 use borrow.Author.Tests.{eq-eqb, ne_eqb}
 use lib.Dec.{eqb}
@@ -31,25 +31,25 @@ use Rattle.codec_spec.proofs.RoundTrip.{field_back, field_below}
 -- ---- proper flags
 
 owned_if : (b : Bool) (o : Option (List ℕ)) → owned (cond b (kind_of o 0) (kind_of o 1)) ≡ owns o
-owned_if true none = refl
-owned_if true (some o) = refl
-owned_if false none = refl
-owned_if false (some o) = refl
+owned_if true None = refl
+owned_if true (Some o) = refl
+owned_if false None = refl
+owned_if false (Some o) = refl
 
 kind_if : (o : Option (List ℕ)) (n : ℕ) → kind_of o n ≡ cond (eqb n 0) (kind_of o 0) (kind_of o 1)
-kind_if none n = refl
-kind_if (some o) n = refl
+kind_if None n = refl
+kind_if (Some o) n = refl
 
 owned_kind : (o : Option (List ℕ)) (n : ℕ) → owned (kind_of o n) ≡ owns o
 owned_kind o n = ap owned (kind_if o n) ∙ owned_if (eqb n 0) o
 
 single_kind : (o : Option (List ℕ)) → multi (kind_of o 0) ≡ false
-single_kind none = refl
-single_kind (some o) = refl
+single_kind None = refl
+single_kind (Some o) = refl
 
 multi_kind : (o : Option (List ℕ)) (n : ℕ) → multi (kind_of o (suc n)) ≡ true
-multi_kind none n = rw (ne_eqb (suc n) 0 (λ e. omega arith))
-multi_kind (some o) n = rw (ne_eqb (suc n) 0 (λ e. omega arith))
+multi_kind None n = rw (ne_eqb (suc n) 0 (λ e. omega arith))
+multi_kind (Some o) n = rw (ne_eqb (suc n) 0 (λ e. omega arith))
 
 -- ---- what is written is read
 
@@ -74,7 +74,7 @@ as_back base o (r ∷ rs) p =
     let ys : List ℕ = records_bytes (r ∷ rs) in
     let xs : List ℕ = head_bytes k o base ++ ys in
     let h = head_back k (owns o) o base ys (owned_kind o (suc (length rs))) p.owner_fits p.base_fits in
-    let q : records_in k xs ≡ record { fault = none; records = r ∷ rs } =
+    let q : records_in k xs ≡ record { fault = None; records = r ∷ rs } =
     ap₂ (λ (b : ℕ) (l : List ℕ). parse (head_size k) 0 b l) h.base_is h.behind ∙ records_back (head_size k) base (r ∷ rs) p.records_fit in
     multi_long k xs (multi_kind o (length rs)) (omega (arith, h.long))
     ∙ ap (λ (q : Parsed). with_records (length xs) (base_in k xs) (owner_in k xs) q.fault q.records) q

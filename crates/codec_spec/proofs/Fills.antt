@@ -5,7 +5,8 @@ use native.Mathlib.Decide.{dec_lt}
 use native.Mathlib.Omega.{arith}
 use mathlib.Core.Path.{◌≡◌, refl, sym, ap, ap₂, ◌∙◌}
 use mathlib.Core.Bool.{true}
-use mathlib.Core.Option.{none, some-ne-none}
+use Rattle.std.specs.Prelude.{None}
+use Rattle.std.proofs.lemmas.Option.{none-some}
 use mathlib.Core.List.{List, [], ◌∷◌}
 use lib.ListN.{length, take, drop, set}
 use lib.Seq.{drop-drop}
@@ -29,7 +30,7 @@ pub record Ahead (d : List ℕ) (at prev : ℕ) : Type 0 where
   pub is_next : next prev (drop at d) ≡ good item size
   pub turn : Turn d at prev item size
 
-pub ahead : (d : List ℕ) (at prev : ℕ) → (rest d at prev).fault ≡ none → 1 ≤ length (rest d at prev).records → Ahead d at prev
+pub ahead : (d : List ℕ) (at prev : ℕ) → (rest d at prev).fault ≡ None → 1 ≤ length (rest d at prev).records → Ahead d at prev
 ahead d at prev f n =
     elim (dec_lt at (length d)) [
       | yes h ↦ by h (next prev (drop at d)) refl
@@ -37,7 +38,7 @@ ahead d at prev f n =
     ]
   where
     by : at < length d → (x : Next) → next prev (drop at d) ≡ x → Ahead d at prev
-    by h (bad r) q = absurd (some-ne-none _ (sym (ap (λ (p : Parsed). p.fault) (rest_bad d at prev r h q)) ∙ f))
+    by h (bad r) q = absurd (none-some _ (sym (sym (ap (λ (p : Parsed). p.fault) (rest_bad d at prev r h q)) ∙ f)))
     by h (good r u) q = record { item = r; size = u; is_next = q; turn = rest_good d at prev r u h q }
 
 module _ (d : List ℕ) (at prev : ℕ) (a : Ahead d at prev) where
@@ -67,7 +68,7 @@ module _ (d : List ℕ) (at prev : ℕ) (a : Ahead d at prev) where
 -- the place reached in the bytes and in the tables
 pub record Going (all : List At) (d : List ℕ) (k : ℕ) (es₀ cs₀ es cs : List ℕ) (at i : ℕ) : Type 0 where
   pub prev : ℕ
-  pub no_fault : (rest d at prev).fault ≡ none
+  pub no_fault : (rest d at prev).fault ≡ None
   pub filling : Filling all (rest d at prev).records k i es₀ cs₀ es cs
 
 pub going_start : (d es cs : List ℕ) (at n k : ℕ) (s : Sound d at n) → Going (rest d at s.before).records d k es cs es cs at k

@@ -3,7 +3,7 @@
 -- Assumes nothing.
 use Prim.Native.Nat.{ℕ}
 use mathlib.Core.Path.{◌≡◌, refl}
-use mathlib.Core.Option.{none, some}
+use Rattle.std.specs.Prelude.{None, Some}
 use mathlib.Core.List.{List, [], ◌∷◌, ◌++◌, map}
 use lib.ListN.{replicate}
 use Rattle.fields_spec.specs.Big.{said_after}
@@ -39,26 +39,26 @@ pub examples : List Example
 examples =
     -- P1 to P9
     example 2 [] gives_none
-    ∷ example 2 (0x00 ∷ 0x00 ∷ 0x05 ∷ []) (gives (flags 5 none []))
+    ∷ example 2 (0x00 ∷ 0x00 ∷ 0x05 ∷ []) (gives (flags 5 None []))
     ∷ example 2 (0x00 ∷ 0x05 ∷ []) (refuses 2)
     ∷ example 2 (0x01 ∷ 0x00 ∷ 0x05 ∷ []) (refuses 2)
-    ∷ example 2 (0x01 ∷ 0x00 ∷ 0x05 ∷ 0x00 ∷ 0x07 ∷ 0xAC ∷ 0x02 ∷ []) (gives (flags 5 none (7 ⦂ 300 ∷ [])))
+    ∷ example 2 (0x01 ∷ 0x00 ∷ 0x05 ∷ 0x00 ∷ 0x07 ∷ 0xAC ∷ 0x02 ∷ []) (gives (flags 5 None (7 ⦂ 300 ∷ [])))
     ∷ example 2 (0x01 ∷ 0x00 ∷ 0x05 ∷ 0x00 ∷ 0x05 ∷ 0x01 ∷ []) (refuses 3)
     ∷ example 2 (0x01 ∷ 0x00 ∷ 0x05 ∷ 0x00 ∷ 0x07 ∷ 0x81 ∷ 0x00 ∷ []) (refuses 3)
     ∷ example 2 (0x01 ∷ 0x00 ∷ 0x05 ∷ 0x00 ∷ 0x07 ∷ 0x80 ∷ []) (refuses 2)
     ∷ example 2 (0x04 ∷ []) (refuses 1)
     -- exact room, and one place less
-    ∷ example 1 (above5 (0x00 ∷ 0x07 ∷ 0x01 ∷ [])) (gives (flags 5 none (7 ⦂ 1 ∷ [])))
+    ∷ example 1 (above5 (0x00 ∷ 0x07 ∷ 0x01 ∷ [])) (gives (flags 5 None (7 ⦂ 1 ∷ [])))
     ∷ example 0 (above5 (0x00 ∷ 0x07 ∷ 0x01 ∷ [])) (refuses 10)
     -- 4,294,967,295 and one more; ten bytes with the top bit, and nine; an epoch twice
-    ∷ example 1 (above5 (0x00 ∷ 0x07 ∷ 0xFF ∷ 0xFF ∷ 0xFF ∷ 0xFF ∷ 0x0F ∷ [])) (gives (flags 5 none (7 ⦂ 4294967295 ∷ [])))
+    ∷ example 1 (above5 (0x00 ∷ 0x07 ∷ 0xFF ∷ 0xFF ∷ 0xFF ∷ 0xFF ∷ 0x0F ∷ [])) (gives (flags 5 None (7 ⦂ 4294967295 ∷ [])))
     ∷ example 1 (above5 (0x00 ∷ 0x07 ∷ 0x80 ∷ 0x80 ∷ 0x80 ∷ 0x80 ∷ 0x10 ∷ [])) (refuses 3)
     ∷ example 1 (above5 (0x00 ∷ 0x07 ∷ replicate 10 0x80)) (refuses 2)
     ∷ example 1 (above5 (0x00 ∷ 0x07 ∷ (replicate 9 0x80 ++ (0x01 ∷ [])))) (refuses 3)
     ∷ example 2 (above5 (0x00 ∷ 0x07 ∷ 0x01 ∷ 0x00 ∷ 0x07 ∷ 0x01 ∷ [])) (refuses 3)
     -- owned flags
-    ∷ example 1 (0x02 ∷ (someone ++ (0x00 ∷ 0x05 ∷ []))) (gives (flags 5 (some someone) []))
-    ∷ example 1 (0x03 ∷ (someone ++ (0x00 ∷ 0x05 ∷ 0x00 ∷ 0x07 ∷ 0x01 ∷ []))) (gives (flags 5 (some someone) (7 ⦂ 1 ∷ [])))
+    ∷ example 1 (0x02 ∷ (someone ++ (0x00 ∷ 0x05 ∷ []))) (gives (flags 5 (Some someone) []))
+    ∷ example 1 (0x03 ∷ (someone ++ (0x00 ∷ 0x05 ∷ 0x00 ∷ 0x07 ∷ 0x01 ∷ []))) (gives (flags 5 (Some someone) (7 ⦂ 1 ∷ [])))
     ∷ example 1 (0x02 ∷ (someone ++ (0x00 ∷ []))) (refuses 2)
     ∷ []
 

@@ -5,7 +5,7 @@ use native.Mathlib.Decide.{dec_lt}
 use native.Mathlib.Nat.{add-zero}
 use native.Mathlib.Omega.{arith}
 use mathlib.Core.Path.{◌≡◌, refl, sym, ap, ap₂, ◌∙◌}
-use mathlib.Core.Option.{none, some}
+use Rattle.std.specs.Prelude.{None, Some}
 use mathlib.Core.List.{List, [], ◌∷◌}
 use borrow.Author.Tests.{lt-ltb, le-ltb, le-leb, lt-leb}
 use lib.ListN.{length, take, drop, length-drop, drop_of_length-le}
@@ -101,12 +101,12 @@ parse_skip at (suc k) prev (x ∷ xs) =
     let e : suc at + k ≡ at + suc k = omega arith in
     parse_skip (suc at) k prev xs ∙ ap (λ (i : ℕ). parse i 0 prev (drop k xs)) e
 
-pub parse_nil : (at prev : ℕ) → parse at 0 prev [] ≡ record { fault = none; records = [] }
+pub parse_nil : (at prev : ℕ) → parse at 0 prev [] ≡ record { fault = None; records = [] }
 unfolding parse
 parse_nil at prev = refl
 
 pub parse_bad : (at prev : ℕ) (xs : List ℕ) (r : Refusal) → 1 ≤ length xs → next prev xs ≡ bad r
-    → parse at 0 prev xs ≡ record { fault = some (record { refusal = r; place = at }); records = [] }
+    → parse at 0 prev xs ≡ record { fault = Some (record { refusal = r; place = at }); records = [] }
 unfolding parse
 parse_bad at prev [] r h q = absurd (omega arith)
 parse_bad at prev (x ∷ xs) r h q = ap (λ (n : Next). following n at (λ r used. parse (suc at) (pred used) r.epoch xs)) q
@@ -131,11 +131,11 @@ parse_good at prev (x ∷ xs) r (suc u) h hu q =
 abbrev pub rest : List ℕ → ℕ → ℕ → Parsed
 rest d at prev = parse at 0 prev (drop at d)
 
-pub rest_end : (d : List ℕ) (at prev : ℕ) → length d ≤ at → rest d at prev ≡ record { fault = none; records = [] }
+pub rest_end : (d : List ℕ) (at prev : ℕ) → length d ≤ at → rest d at prev ≡ record { fault = None; records = [] }
 rest_end d at prev h = ap (parse at 0 prev) (drop_of_length-le d {i = at} h) ∙ parse_nil at prev
 
 pub rest_bad : (d : List ℕ) (at prev : ℕ) (r : Refusal) → at < length d → next prev (drop at d) ≡ bad r
-    → rest d at prev ≡ record { fault = some (record { refusal = r; place = at }); records = [] }
+    → rest d at prev ≡ record { fault = Some (record { refusal = r; place = at }); records = [] }
 rest_bad d at prev r h q = parse_bad at prev (drop at d) r (omega (arith, length-drop at d)) q
 
 -- a record that was read, and those behind it

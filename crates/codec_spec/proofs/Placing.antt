@@ -5,7 +5,7 @@ use native.Mathlib.Nat.{zero-add}
 use native.Mathlib.Omega.{arith}
 use mathlib.Core.Path.{◌≡◌, refl, sym, ap, ap₂, ◌∙◌}
 use mathlib.Core.Bool.{Bool, true, false}
-use mathlib.Core.Option.{Option, none, some}
+use Rattle.std.specs.Prelude.{Option, None, Some}
 use mathlib.Core.List.{List, [], ◌∷◌}
 use borrow.Author.Tests.{le-leb}
 use lib.ListN.{length}
@@ -47,17 +47,17 @@ module _ (end base : ℕ) (owner : Option (List ℕ)) (es cs es' cs' : List ℕ)
         → filled s es' cs' ≡ filled_from end 0 f rs es cs
         → a ≡ record { outcome = Refused r; head = no_head }
         → shown a (lending es' cs') ≡ placing_if (answer (with_records end base owner f rs)) (lending es cs)
-    found_faulty (some x) rs r place q e ea =
+    found_faulty (Some x) rs r place q e ea =
         let v : s ≡ Faulty x.refusal x.place = ap (λ (y : Filled). y.scan) e in
         refused_as (refused_at x.refusal x.place) r x.refusal x.place refl (cc) (ap (λ (y : Filled). y.epochs) e)
         (ap (λ (y : Filled). y.counts) e) ea
-    found_faulty none [] r place q e ea =
+    found_faulty None [] r place q e ea =
         let h : room_for (0 + length {A = At} []) (length es) (length cs)
         ≡ true = simp (le-leb 0 (length es) (omega arith), le-leb 0 (length cs) (omega arith)) in
         let v : s ≡ Records 0 = ap (λ (y : Filled). y.scan) (rw h at e) in
         let z : ◌≡◌ {A = ℕ} 0 1 = cc in
         absurd (omega arith)
-    found_faulty none (x ∷ rs) r place q e ea =
+    found_faulty None (x ∷ rs) r place q e ea =
         by (room_for (0 + length (x ∷ rs)) (length es) (length cs)) refl ∙ sym (placing_some (flags base owner (x ∷ rs)) (lending es cs))
       where
         by : (b : Bool) → room_for (0 + length (x ∷ rs)) (length es) (length cs) ≡ b

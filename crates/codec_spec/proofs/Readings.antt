@@ -3,7 +3,7 @@ use Prim.Native.Nat.{ℕ, suc, ◌≤◌, ◌<◌}
 use native.Mathlib.Omega.{arith}
 use mathlib.Core.Path.{◌≡◌, refl, sym, ap, ap₂, ◌∙◌}
 use mathlib.Core.Bool.{true, false}
-use mathlib.Core.Option.{Option, none, some}
+use Rattle.std.specs.Prelude.{Option, None, Some}
 use mathlib.Core.List.{List, [], ◌∷◌}
 use borrow.Author.Tests.{le-leb, lt-leb, eq-eqb, ne_eqb}
 use lib.ListN.{length, get_or}
@@ -60,10 +60,10 @@ agrees_single k m = rw m
 module _ (end base : ℕ) (owner : Option (List ℕ)) where
   pub scanned_faulty : (f : Option Fault) (rs : List At) (r : Refusal) (place : ℕ) → scan_of end f (length rs) ≡ Faulty r place
       → with_records end base owner f rs ≡ refused_at r place
-  scanned_faulty (some f) rs r place e = cc
-  scanned_faulty none [] r place e = cc
-  scanned_faulty none (a ∷ rs) r place e =
-      let g : Records (suc (length rs)) ≡ Faulty r place = scan_some end _ _ none refl refl (λ z. omega arith) ∙ e in cc
+  scanned_faulty (Some f) rs r place e = cc
+  scanned_faulty None [] r place e = cc
+  scanned_faulty None (a ∷ rs) r place e =
+      let g : Records (suc (length rs)) ≡ Faulty r place = scan_some end _ _ None refl refl (λ z. omega arith) ∙ e in cc
 
   pub record Scanned (f : Option Fault) (rs : List At) (n : ℕ) : Type 0 where
     pub reads : with_records end base owner f rs ≡ some_flags (flags base owner rs)
@@ -71,10 +71,10 @@ module _ (end base : ℕ) (owner : Option (List ℕ)) where
     pub some_records : 1 ≤ n
 
   pub scanned_records : (f : Option Fault) (rs : List At) (n : ℕ) → scan_of end f (length rs) ≡ Records n → Scanned f rs n
-  scanned_records (some f) rs n e = let z : ◌≡◌ {A = ℕ} 0 1 = cc in absurd (omega arith)
-  scanned_records none [] n e = let z : ◌≡◌ {A = ℕ} 0 1 = cc in absurd (omega arith)
-  scanned_records none (a ∷ rs) n e =
-      let g : Records (suc (length rs)) ≡ Records n = scan_some end _ _ none refl refl (λ z. omega arith) ∙ e in
+  scanned_records (Some f) rs n e = let z : ◌≡◌ {A = ℕ} 0 1 = cc in absurd (omega arith)
+  scanned_records None [] n e = let z : ◌≡◌ {A = ℕ} 0 1 = cc in absurd (omega arith)
+  scanned_records None (a ∷ rs) n e =
+      let g : Records (suc (length rs)) ≡ Records n = scan_some end _ _ None refl refl (λ z. omega arith) ∙ e in
       let c : suc (length rs) ≡ n = cc in
       record { reads = refl; count = sym c; some_records = omega arith }
 

@@ -5,7 +5,8 @@ use native.Mathlib.Nat.{le_refl}
 use native.Mathlib.Omega.{arith}
 use mathlib.Core.Path.{◌≡◌, refl, sym, ap, ap₂, ◌∙◌}
 use mathlib.Core.Bool.{Bool}
-use mathlib.Core.Option.{Option, none, some, some-ne-none}
+use Rattle.std.specs.Prelude.{Option, None, Some}
+use Rattle.std.proofs.lemmas.Option.{none-some}
 use mathlib.Core.List.{List, [], ◌∷◌, ◌++◌, append_assoc}
 use lib.ListN.{length, take, drop, length-take, length-drop, length-append, take-append-drop}
 use lib.Seq.{drop_at, take_at, take-add, get_or-drop}
@@ -38,7 +39,7 @@ next_back prev r ys h he hc =
     ap (λ (l : List ℕ). found (drop 2 l)) a ∙ ap found (drop_at (big 2 r.epoch) (varint r.bytes ++ ys) 2 two) ∙ found_back r.bytes ys hc in
     next_long prev xs l ∙ ap₂ (with_count prev) e v ∙ with_count_above prev r.epoch r.bytes (length (varint r.bytes)) h
 
-pub records_back : (at prev : ℕ) (rs : List At) → Canonical prev rs → parse at 0 prev (records_bytes rs) ≡ record { fault = none; records = rs }
+pub records_back : (at prev : ℕ) (rs : List At) → Canonical prev rs → parse at 0 prev (records_bytes rs) ≡ record { fault = None; records = rs }
 unfolding records_bytes
 records_back at prev [] p = parse_nil at prev
 records_back at prev (r ∷ rs) p =
@@ -105,7 +106,7 @@ unfolding records_bytes
 reread_none at prev =
     record { same_bytes = ap (λ (p : Parsed). records_bytes p.records) (parse_nil at prev); canonical = rw (parse_nil at prev) tt }
 
-reread : (n at prev : ℕ) (xs : List ℕ) → length xs ≤ n → Bytes xs → (parse at 0 prev xs).fault ≡ none → Reread at prev xs
+reread : (n at prev : ℕ) (xs : List ℕ) → length xs ≤ n → Bytes xs → (parse at 0 prev xs).fault ≡ None → Reread at prev xs
 reread zero at prev [] h b z = reread_none at prev
 reread (suc n) at prev [] h b z = reread_none at prev
 reread zero at prev (x ∷ xs) h b z = absurd (omega arith)
@@ -113,17 +114,17 @@ reread (suc n) at prev (x ∷ xs) h b z = by (next prev (x ∷ xs)) refl
     (λ r u k. reread n (at + u) r.epoch (drop u (x ∷ xs)) k (bytes_drop u (x ∷ xs) b))
   where
     by : (m : Next) → next prev (x ∷ xs) ≡ m
-        → ((r : At) (u : ℕ) → length (drop u (x ∷ xs)) ≤ n → (parse (at + u) 0 r.epoch (drop u (x ∷ xs))).fault ≡ none
+        → ((r : At) (u : ℕ) → length (drop u (x ∷ xs)) ≤ n → (parse (at + u) 0 r.epoch (drop u (x ∷ xs))).fault ≡ None
         → Reread (at + u) r.epoch (drop u (x ∷ xs)))
         → Reread at prev (x ∷ xs)
-    by (bad r) q later = absurd (some-ne-none _ (sym (ap (λ (p : Parsed). p.fault) (parse_bad at prev (x ∷ xs) r (omega arith) q)) ∙ z))
+    by (bad r) q later = absurd (none-some _ (sym (sym (ap (λ (p : Parsed). p.fault) (parse_bad at prev (x ∷ xs) r (omega arith) q)) ∙ z)))
     by (good r u) q later =
         let g = next_good prev (x ∷ xs) r u q in
         let s = parse_good at prev (x ∷ xs) r u (omega arith) (omega (arith, g.size)) q in
         reread_more at prev (x ∷ xs) r u b (omega arith) q
         (later r u (omega (arith, length-drop u (x ∷ xs), g.size)) (sym (ap (λ (p : Parsed). p.fault) s) ∙ z))
 
-pub records_reread : (at prev : ℕ) (xs : List ℕ) → Bytes xs → (parse at 0 prev xs).fault ≡ none → Reread at prev xs
+pub records_reread : (at prev : ℕ) (xs : List ℕ) → Bytes xs → (parse at 0 prev xs).fault ≡ None → Reread at prev xs
 records_reread at prev xs = reread (length xs) at prev xs (le_refl (length xs))
 
 -- ---- what stands before the records
@@ -154,7 +155,7 @@ head_back k b o base ys e (owner w n bs) h =
     let l = length-append w (big 2 base) in
     record {
       base_is = rw e (ap (λ (x : List ℕ). said (take 2 x)) d ∙ ap said (take_at (big 2 base) ys 2 two) ∙ said_big 2 base h);
-      owner_is = rw e (ap some (ap (take 32) a ∙ take_at w (big 2 base ++ ys) 32 n));
+      owner_is = rw e (ap Some (ap (take 32) a ∙ take_at w (big 2 base ++ ys) 32 n));
       behind = rw e (drop_at (w ++ big 2 base) ys 34 (omega arith));
       long = rw e (omega (arith, length-append (w ++ big 2 base) ys));
     }

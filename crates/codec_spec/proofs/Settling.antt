@@ -5,7 +5,7 @@ use native.Mathlib.Decide.{dec_lt, ℕ_discrete}
 use native.Mathlib.Omega.{arith}
 use mathlib.Core.Path.{◌≡◌, refl, sym, ap, ◌∙◌}
 use mathlib.Core.Bool.{Bool, true, false}
-use mathlib.Core.Option.{Option, none, some}
+use Rattle.std.specs.Prelude.{Option, None, Some}
 use mathlib.Core.List.{List, [], ◌∷◌}
 use lib.ListN.{length, take, drop}
 use Rattle.records_spec.specs.Tables.{At}
@@ -60,15 +60,15 @@ no_refusal r p f e = let z : ◌≡◌ {A = ℕ} 0 1 = cc in omega arith
 
 -- what flags with records say of these
 record With (base : ℕ) (owner : Option (List ℕ)) (ft : Option Fault) (rs : List At) (f : Flags) : Type 0 where
-  pub no_fault : ft ≡ none
+  pub no_fault : ft ≡ None
   pub some_records : 1 ≤ length rs
   pub are_flags : f ≡ flags base owner rs
 
 with_flags : (end base : ℕ) (owner : Option (List ℕ)) (ft : Option Fault) (rs : List At) (f : Flags) → with_records end base owner ft rs ≡ some_flags f
     → With base owner ft rs f
-with_flags end base owner (some x) rs f e = absurd (no_refusal _ _ f e)
-with_flags end base owner none [] f e = absurd (no_refusal _ _ f e)
-with_flags end base owner none (r ∷ rs) f e = record { no_fault = refl; some_records = omega arith; are_flags = cc }
+with_flags end base owner (Some x) rs f e = absurd (no_refusal _ _ f e)
+with_flags end base owner None [] f e = absurd (no_refusal _ _ f e)
+with_flags end base owner None (r ∷ rs) f e = record { no_fault = refl; some_records = omega arith; are_flags = cc }
 
 pub read_whole : (k : Kind) (xs : List ℕ) (f : Flags) → read_as k xs ≡ some_flags f → Whole k xs f
 read_whole k xs f e = by (multi k) refl
@@ -110,11 +110,11 @@ flags_whole (b ∷ xs) f e = by (kind_of_byte b) e
     by (Known k) e = (k, read_whole k (b ∷ xs) f e)
     by Unknown e = absurd (no_refusal _ _ f e)
 
-no_some : (a : List ℕ) → ◌≡◌ {A = Option (List ℕ)} none (some a) → ⊥
+no_some : (a : List ℕ) → ◌≡◌ {A = Option (List ℕ)} None (Some a) → ⊥
 no_some a e = let z : ◌≡◌ {A = ℕ} 0 1 = cc in omega arith
 
 -- their owner is what stands behind the kind
-pub owner_behind : (xs : List ℕ) (f : Flags) (a : List ℕ) → read xs ≡ some_flags f → f.owner ≡ some a
+pub owner_behind : (xs : List ℕ) (f : Flags) (a : List ℕ) → read xs ≡ some_flags f → f.owner ≡ Some a
     → (owned_head ≤ length xs) × (a ≡ take owner_length (drop behind_kind xs))
 owner_behind xs f a e o = by (owned k) refl
   where
@@ -124,12 +124,12 @@ owner_behind xs f a e o = by (owned k) refl
     w : Whole k xs f
     w = (flags_whole xs f e).1
 
-    in_bytes : owner_in k xs ≡ some a
+    in_bytes : owner_in k xs ≡ Some a
     in_bytes = sym (ap (λ (g : Flags). g.owner) w.in_bytes) ∙ o
 
     by : (b : Bool) → owned k ≡ b → (owned_head ≤ length xs) × (a ≡ take owner_length (drop behind_kind xs))
     by true h =
-        let i : some (take owner_length (drop behind_kind xs)) ≡ some a = rw h at in_bytes in
+        let i : Some (take owner_length (drop behind_kind xs)) ≡ Some a = rw h at in_bytes in
         (owned_size k (length xs) h w.complete.head_inside, cc)
     by false h = absurd (no_some a (rw h at in_bytes))
 

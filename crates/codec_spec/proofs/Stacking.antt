@@ -4,7 +4,8 @@ use Prim.Native.Nat.{ℕ, ◌+◌, ◌≤◌, ◌<◌}
 use native.Mathlib.Omega.{arith}
 use mathlib.Core.Path.{◌≡◌, refl, sym, ap, ap₂, ◌∙◌}
 use mathlib.Core.Bool.{Bool, true, false}
-use mathlib.Core.Option.{Option, none, some, some-ne-none}
+use Rattle.std.specs.Prelude.{Option, None, Some}
+use Rattle.std.proofs.lemmas.Option.{none-some}
 use mathlib.Core.List.{List, ◌++◌, append-nil}
 use lib.Dec.{eqb}
 use lib.ListN.{length, take, drop, length-append, take-append-drop}
@@ -28,15 +29,15 @@ use Rattle.codec_spec.proofs.Turns.{scan_some}
 -- ---- what is left in each case
 
 module _ (end k : ℕ) (rs : List At) (es cs : List ℕ) where
-  pub filled_faulty : (f : Option Fault) (r : Refusal) (place : ℕ) → f ≡ some (record { refusal = r; place = place })
+  pub filled_faulty : (f : Option Fault) (r : Refusal) (place : ℕ) → f ≡ Some (record { refusal = r; place = place })
       → filled (Faulty r place) es cs ≡ filled_from end k f rs es cs
   filled_faulty f r place e = sym (ap (λ (g : Option Fault). filled_from end k g rs es cs) e)
 
-  pub filled_short : (f : Option Fault) → f ≡ none → room_for (k + length rs) (length es) (length cs) ≡ false
+  pub filled_short : (f : Option Fault) → f ≡ None → room_for (k + length rs) (length es) (length cs) ≡ false
       → filled (Faulty NoRoom end) es cs ≡ filled_from end k f rs es cs
   filled_short f e h = sym (ap (λ (g : Option Fault). filled_from end k g rs es cs) e ∙ rw h)
 
-  pub filled_all : (f : Option Fault) (n : ℕ) (es' cs' : List ℕ) → f ≡ none → room_for (k + length rs) (length es) (length cs) ≡ true
+  pub filled_all : (f : Option Fault) (n : ℕ) (es' cs' : List ℕ) → f ≡ None → room_for (k + length rs) (length es) (length cs) ≡ true
       → n ≡ k + length rs → es' ≡ sets es k (epochs_of rs) → cs' ≡ sets cs k (counts_of rs)
       → filled (Records n) es' cs' ≡ filled_from end k f rs es cs
   filled_all f n es' cs' e h en ee ec =
@@ -45,7 +46,7 @@ module _ (end k : ℕ) (rs : List At) (es cs : List ℕ) where
 
   -- records were placed
   pub record Whole (f : Option Fault) (n : ℕ) (es' cs' : List ℕ) : Type 0 where
-    pub no_fault : f ≡ none
+    pub no_fault : f ≡ None
     pub has_room : room_for (k + length rs) (length es) (length cs) ≡ true
     pub count : n ≡ k + length rs
     pub epochs_set : es' ≡ sets es k (epochs_of rs)
@@ -53,13 +54,13 @@ module _ (end k : ℕ) (rs : List At) (es cs : List ℕ) where
 
   pub filled_whole : (f : Option Fault) (s : Scan) (n : ℕ) (es' cs' : List ℕ) → s ≡ Records n → filled s es' cs' ≡ filled_from end k f rs es cs
       → Whole f n es' cs'
-  filled_whole (some f) s n es' cs' q e =
+  filled_whole (Some f) s n es' cs' q e =
       let g : s ≡ Faulty f.refusal f.place = ap (λ (x : Filled). x.scan) e in
       let z : ◌≡◌ {A = ℕ} 0 1 = cc in
       absurd (omega arith)
-  filled_whole none s n es' cs' q e = by (room_for (k + length rs) (length es) (length cs)) refl
+  filled_whole None s n es' cs' q e = by (room_for (k + length rs) (length es) (length cs)) refl
     where
-      by : (b : Bool) → room_for (k + length rs) (length es) (length cs) ≡ b → Whole none n es' cs'
+      by : (b : Bool) → room_for (k + length rs) (length es) (length cs) ≡ b → Whole None n es' cs'
       by true h =
           let g : filled s es' cs' ≡ filled (Records (k + length rs)) (sets es k (epochs_of rs)) (sets cs k (counts_of rs)) = rw h at e in
           let x : s ≡ Records (k + length rs) = ap (λ (x : Filled). x.scan) g in
@@ -79,9 +80,9 @@ module _ (end k : ℕ) (rs : List At) (es cs : List ℕ) where
 pub filled_alike : (end k j : ℕ) (f g : Option Fault) (rs ss : List At) (es cs es' cs' : List ℕ) (s : Scan) (r : Refusal) (place : ℕ)
     → g ≡ f → j + length ss ≡ k + length rs → s ≡ Faulty r place → filled s es' cs' ≡ filled_from end j g ss es cs
     → filled (Faulty r place) es' cs' ≡ filled_from end k f rs es cs
-filled_alike end k j f (some x) rs ss es cs es' cs' s r place p q v e =
+filled_alike end k j f (Some x) rs ss es cs es' cs' s r place p q v e =
     ap (λ (t : Scan). filled t es' cs') (sym v) ∙ e ∙ ap (λ (h : Option Fault). filled_from end k h rs es cs) p
-filled_alike end k j f none rs ss es cs es' cs' s r place p q v e = by (room_for (j + length ss) (length es) (length cs)) refl
+filled_alike end k j f None rs ss es cs es' cs' s r place p q v e = by (room_for (j + length ss) (length es) (length cs)) refl
   where
     by : (b : Bool) → room_for (j + length ss) (length es) (length cs) ≡ b → filled (Faulty r place) es' cs' ≡ filled_from end k f rs es cs
     by true h =
@@ -96,34 +97,34 @@ filled_alike end k j f none rs ss es cs es' cs' s r place p q v e = by (room_for
 -- ---- two passes
 
 -- bytes are left, so without a fault there is a record
-pub sound_some : (d : List ℕ) (at prev : ℕ) → at < length d → (rest d at prev).fault ≡ none → 1 ≤ length (rest d at prev).records
+pub sound_some : (d : List ℕ) (at prev : ℕ) → at < length d → (rest d at prev).fault ≡ None → 1 ≤ length (rest d at prev).records
 sound_some d at prev h e = by (next prev (drop at d)) refl
   where
     by : (x : Next) → next prev (drop at d) ≡ x → 1 ≤ length (rest d at prev).records
-    by (bad r) q = absurd (some-ne-none _ (sym (ap (λ (p : Parsed). p.fault) (rest_bad d at prev r h q)) ∙ e))
+    by (bad r) q = absurd (none-some _ (sym (sym (ap (λ (p : Parsed). p.fault) (rest_bad d at prev r h q)) ∙ e)))
     by (good r u) q = omega (arith, ap (λ (p : Parsed). length p.records) (rest_good d at prev r u h q).step)
 
 module _ (end k : ℕ) (f : Option Fault) (rs : List At) (es cs : List ℕ) where
   -- all were judged: one is at fault
-  pub judged_faulty : (r : Refusal) (place : ℕ) → (f ≡ none → 1 ≤ length rs) → Faulty r place ≡ scan_of end f (length rs)
+  pub judged_faulty : (r : Refusal) (place : ℕ) → (f ≡ None → 1 ≤ length rs) → Faulty r place ≡ scan_of end f (length rs)
       → filled (Faulty r place) es cs ≡ filled_from end k f rs es cs
   judged_faulty r place here e = by f refl
     where
       by : (g : Option Fault) → f ≡ g → filled (Faulty r place) es cs ≡ filled_from end k f rs es cs
-      by (some x) q = ap (λ (s : Scan). filled s es cs) (e ∙ ap (λ (g : Option Fault). scan_of end g (length rs)) q)
+      by (Some x) q = ap (λ (s : Scan). filled s es cs) (e ∙ ap (λ (g : Option Fault). scan_of end g (length rs)) q)
           ∙ sym (ap (λ (g : Option Fault). filled_from end k g rs es cs) q)
-      by none q =
+      by None q =
           let l = here q in
           let s : Faulty r place ≡ Records (length rs) = e ∙ sym (scan_some end (length rs) (length rs) f q refl (λ z. omega arith)) in
           let z : ◌≡◌ {A = ℕ} 0 1 = cc in
           absurd (omega arith)
 
 -- or none is, and so many there are
-pub judged_sound : (end : ℕ) (f : Option Fault) (m n : ℕ) → Records n ≡ scan_of end f m → (f ≡ none) × (n ≡ m)
-judged_sound end (some x) m n e = let z : ◌≡◌ {A = ℕ} 0 1 = cc in absurd (omega arith)
-judged_sound end none m n e = by (eqb m 0) refl
+pub judged_sound : (end : ℕ) (f : Option Fault) (m n : ℕ) → Records n ≡ scan_of end f m → (f ≡ None) × (n ≡ m)
+judged_sound end (Some x) m n e = let z : ◌≡◌ {A = ℕ} 0 1 = cc in absurd (omega arith)
+judged_sound end None m n e = by (eqb m 0) refl
   where
-    by : (b : Bool) → eqb m 0 ≡ b → (◌≡◌ {A = Option Fault} none none) × (n ≡ m)
+    by : (b : Bool) → eqb m 0 ≡ b → (◌≡◌ {A = Option Fault} None None) × (n ≡ m)
     by true q = let s : Records n ≡ Faulty WrongSize end = rw q at e in let z : ◌≡◌ {A = ℕ} 0 1 = cc in absurd (omega arith)
     by false q = let s : Records n ≡ Records m = rw q at e in (refl, cc)
 
@@ -165,7 +166,7 @@ module _ {d : List ℕ} {at prev n j e : ℕ} {bes bcs bes' bcs' : List ℕ} (t 
 
   -- the last block: nothing is behind it
   module _ (last : length d ≤ j) where
-    last_sound : (rest d at prev).fault ≡ none
+    last_sound : (rest d at prev).fault ≡ None
     last_sound = t.fault_on ∙ ap (λ (p : Parsed). p.fault) (rest_end d j e last)
 
     last_records : take n (rest d at prev).records ≡ (rest d at prev).records
@@ -176,7 +177,7 @@ module _ {d : List ℕ} {at prev n j e : ℕ} {bes bcs bes' bcs' : List ℕ} (t 
 
     -- what is left of it alone is what is left of all
     pub last_filled : (k : ℕ) (es cs : List ℕ) → n ≤ length bes → n ≤ length bcs
-        → filled_from j k none (take n (records_of bes' bcs')) es cs ≡ filled_from (length d) k (rest d at prev).fault (rest d at prev).records es cs
+        → filled_from j k None (take n (records_of bes' bcs')) es cs ≡ filled_from (length d) k (rest d at prev).fault (rest d at prev).records es cs
     last_filled k es cs he hc =
         let ej : j ≡ length d = omega (arith, t.within) in
         let er = taken_block he hc ∙ last_records in

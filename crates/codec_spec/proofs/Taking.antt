@@ -3,7 +3,7 @@
 use Prim.Native.Nat.{ℕ, ◌+◌, ◌≤◌, ◌<◌}
 use native.Mathlib.Omega.{arith}
 use mathlib.Core.Path.{◌≡◌, refl, sym, ap, ◌∙◌}
-use mathlib.Core.Option.{some}
+use Rattle.std.specs.Prelude.{Some}
 use mathlib.Core.List.{List, [], ◌∷◌, ◌++◌}
 use lib.ListN.{length, take, drop, set, length-drop}
 use lib.Seq.{drop-drop, take-add, length-sets}
@@ -40,7 +40,7 @@ module _ {d : List ℕ} {at prev n j e : ℕ} {es₀ cs₀ es cs : List ℕ} (t 
 
   module _ (inside : j < length d) where
     -- the next record is at fault
-    pub taken_bad : (r : Refusal) → got_of j (next e (drop j d)) ≡ Bad r → (rest d at prev).fault ≡ some (record { refusal = r; place = j })
+    pub taken_bad : (r : Refusal) → got_of j (next e (drop j d)) ≡ Bad r → (rest d at prev).fault ≡ Some (record { refusal = r; place = j })
     taken_bad r q = t.fault_on ∙ ap (λ (p : Parsed). p.fault) (rest_bad d j e r inside (got_bad j (next e (drop j d)) r q))
 
     -- the next record is read too
@@ -65,14 +65,14 @@ module _ {d : List ℕ} {at prev n j e : ℕ} {es₀ cs₀ es cs : List ℕ} (t 
 -- ---- a block, as the code tells it
 
 pub blocked_faulty : (d : List ℕ) (at prev : ℕ) (es cs es' cs' : List ℕ) (r : Refusal) (place : ℕ)
-    → (rest d at prev).fault ≡ some (record { refusal = r; place = place })
+    → (rest d at prev).fault ≡ Some (record { refusal = r; place = place })
     → Blocked d at prev (Faulty r place) es cs es' cs'
 blocked_faulty d at prev es cs es' cs' r place h =
     record {
       at_fault = λ s p e.
           let a : r ≡ s = cc in
           let b : place ≡ p = cc in
-          h ∙ (λ i. some (record { refusal = a i; place = b i }));
+          h ∙ (λ i. Some (record { refusal = a i; place = b i }));
       taken = λ n j e q. let z : ◌≡◌ {A = ℕ} 0 1 = cc in absurd (omega arith);
     }
 

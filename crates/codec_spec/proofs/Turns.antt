@@ -2,7 +2,7 @@
 use Prim.Native.Nat.{ℕ, ◌+◌}
 use native.Mathlib.Omega.{arith}
 use mathlib.Core.Path.{◌≡◌, sym, ap₂, ◌∙◌}
-use mathlib.Core.Option.{Option, none}
+use Rattle.std.specs.Prelude.{Option, None}
 use borrow.Author.Tests.{ne_eqb}
 use Rattle.records_spec.specs.Tables.{◌⦂◌}
 use Rattle.records_spec.specs.declared.refusal.Refusal.{Refusal}
@@ -25,9 +25,9 @@ got_good at (good a u) e k j q =
     (u, (λ i. good (p i ⦂ c i) u), cc)
 
 -- no record, and one or more
-pub scan_none : (end n : ℕ) (f : Option Fault) → f ≡ none → n ≡ 0 → Faulty WrongSize end ≡ scan_of end f n
+pub scan_none : (end n : ℕ) (f : Option Fault) → f ≡ None → n ≡ 0 → Faulty WrongSize end ≡ scan_of end f n
 scan_none end n f e z = ap₂ (scan_of end) (sym e) (sym z)
 
-pub scan_some : (end m n : ℕ) (f : Option Fault) → f ≡ none → m ≡ n → (m ≡ 0 → ⊥) → Records m ≡ scan_of end f n
+pub scan_some : (end m n : ℕ) (f : Option Fault) → f ≡ None → m ≡ n → (m ≡ 0 → ⊥) → Records m ≡ scan_of end f n
 scan_some end m n f e q z =
     sym (ap₂ (scan_of end) e (sym q) ∙ rw (ne_eqb m 0 z))

@@ -1,7 +1,7 @@
 -- The bytes of flags: kind; owner if owned; base epoch, big-endian; per record the epoch, big-endian, then the count as minimal varint.
 -- Assumes nothing.
 use Rattle.std.specs.Prelude.{ℕ, ◌+◌, cond, List, [], ◌∷◌, ◌++◌, length}
-use Rattle.std.proofs.Math.Option.{Option, none, some}
+use Rattle.std.specs.Prelude.{Option, None, Some}
 use Rattle.fields_spec.specs.Big.{big}
 use Rattle.fields_spec.specs.Varint.{varint}
 use Rattle.records_spec.specs.Tables.{At}
@@ -19,8 +19,8 @@ records_bytes (r ∷ rs) = record_bytes r ++ records_bytes rs
 
 -- the owner if owned
 abbrev pub owner_bytes : Option (List ℕ) → List ℕ
-owner_bytes none = []
-owner_bytes (some o) = o
+owner_bytes None = []
+owner_bytes (Some o) = o
 
 -- the bytes before the records
 abbrev pub head_bytes : Kind → Option (List ℕ) → ℕ → List ℕ

@@ -1,7 +1,7 @@
 -- What the calls of this crate answer and leave.
 -- Assumes nothing.
 use Rattle.std.specs.Prelude.{ℕ, List, length}
-use Rattle.std.proofs.Math.Option.{Option, none, some}
+use Rattle.std.specs.Prelude.{Option, None, Some}
 use Rattle.records_spec.specs.Refusals.{number}
 use Rattle.records_spec.specs.Outcomes.{Answer, ok, refused, ◌unless◌, leaving, ◌>>◌}
 use Rattle.records_spec.specs.Flags.{Flags, Lent, Held, flags_of, head_of, no_head, proper}
@@ -21,8 +21,8 @@ judgement (refused_at r place) = record { verdict = Refused r place; head = no_h
 
 -- what reading answers: the place of a fault is dropped
 abbrev pub answer : Read → Answer (Option Flags)
-answer no_flags = ok none
-answer (some_flags f) = ok (some f)
+answer no_flags = ok None
+answer (some_flags f) = ok (Some f)
 answer (refused_at r place) = refused (number r)
 
 -- the four readers by kind

@@ -1,7 +1,7 @@
 -- Reading flags, as document 01 has it under "Reading `deserialize`". Each fault has the place of its record, or the input's length
 -- where no record is at fault. Assumes nothing.
 use Rattle.std.specs.Prelude.{ℕ, zero, suc, pred, ◌+◌, cond, List, [], ◌∷◌, ltb, leb, eqb, length, take, drop}
-use Rattle.std.proofs.Math.Option.{Option, none, some}
+use Rattle.std.specs.Prelude.{Option, None, Some}
 use Rattle.fields_spec.specs.Big.{said}
 use Rattle.fields_spec.specs.Varint.{Found, incomplete, notCanonical, whole, found}
 use Rattle.records_spec.specs.Tables.{At, ◌⦂◌}
@@ -44,12 +44,12 @@ pub record Parsed : Type 0 where
 
 -- a fault at the place at ends it; a record stands before those that go finds behind it
 abbrev pub following : Next → ℕ → (At → ℕ → Parsed) → Parsed
-following (bad r) at go = record { fault = some (record { refusal = r; place = at }); records = [] }
+following (bad r) at go = record { fault = Some (record { refusal = r; place = at }); records = [] }
 following (good r used) at go = record { fault = (go r used).fault; records = r ∷ (go r used).records }
 
 -- of the bytes from the place at on, of which the first k belong to the record before, at the epoch prev
 unfoldable pub parse : ℕ → ℕ → ℕ → List ℕ → Parsed
-parse at k prev [] = record { fault = none; records = [] }
+parse at k prev [] = record { fault = None; records = [] }
 parse at (suc k) prev (x ∷ xs) = parse (suc at) k prev xs
 parse at zero prev (x ∷ xs) = following (next prev (x ∷ xs)) at (λ r used. parse (suc at) (pred used) r.epoch xs)
 
@@ -63,9 +63,9 @@ pub data Read : Type 0 where
 
 -- records of flags whose bytes end at end: no record is refused too
 abbrev pub with_records : ℕ → ℕ → Option (List ℕ) → Option Fault → List At → Read
-with_records end base owner (some f) rs = refused_at f.refusal f.place
-with_records end base owner none [] = refused_at WrongSize end
-with_records end base owner none (r ∷ rs) = some_flags (flags base owner (r ∷ rs))
+with_records end base owner (Some f) rs = refused_at f.refusal f.place
+with_records end base owner None [] = refused_at WrongSize end
+with_records end base owner None (r ∷ rs) = some_flags (flags base owner (r ∷ rs))
 
 -- the base epoch of flags of a kind
 abbrev pub base_in : Kind → List ℕ → ℕ

@@ -1,7 +1,7 @@
 -- What the theorems on reading and writing speak of besides: canonical records, proper flags, accepted bytes, numbers that are in their range.
 -- Assumes nothing.
 use Rattle.std.specs.Prelude.{ℕ, ◌≤◌, ◌<◌, ◌≡◌, Bool, true, false, List, [], ◌∷◌, length, get_or}
-use Rattle.std.proofs.Math.Option.{Option, none, some}
+use Rattle.std.specs.Prelude.{Option, None, Some}
 use Rattle.fields_spec.specs.Varint.{largest}
 use Rattle.fields_spec.specs.Theorems.{Bytes}
 use Rattle.records_spec.specs.Tables.{At}
@@ -18,13 +18,13 @@ Canonical prev (r ∷ rs) = (prev < r.epoch) × (r.epoch < 65536) × (r.bytes �
 
 -- the owner that flags of a kind have: an owner's bytes where the kind is owned
 pub data OwnerFits : Bool → Option (List ℕ) → Type 0 where
-  unowned : OwnerFits false none
-  owner : (o : List ℕ) → length o ≡ owner_length → Bytes o → OwnerFits true (some o)
+  unowned : OwnerFits false None
+  owner : (o : List ℕ) → length o ≡ owner_length → Bytes o → OwnerFits true (Some o)
 
 -- whether there is an owner
 abbrev pub owns : Option (List ℕ) → Bool
-owns none = false
-owns (some o) = true
+owns None = false
+owns (Some o) = true
 
 -- each number in its range, an owner's bytes, epochs strictly ascending and above the base
 pub record ProperFlags (f : Flags) : Type 0 where

@@ -4,7 +4,7 @@
 use mathlib.Core.Path.{◌≡◌, refl, sym, ap, ◌∙◌}
 use mathlib.Core.Logic.{◌⊎◌, ⊎_elim}
 use mathlib.Core.Bool.{Bool, true, false, true≢false}
-use mathlib.Core.Option.{Option, none, some}
+use Rattle.std.specs.Prelude.{Option, None, Some}
 use mathlib.Core.List.{List}
 use Prim.Native.Nat.{ℕ, ◌≤◌}
 use native.Mathlib.Omega.{arith}
@@ -43,35 +43,35 @@ module _ (w : ChosenOwner) where
       → combined_owner s o t ≡ refused (number DifferentOwners)
   refused_owner s o t e h = five s o t (sym (ap (λ (v : ChosenOwner). v.refused) e) ∙ h)
     where
-      differ : (s : MergingOwnersStrategy) (o t : List ℕ) → (chosen_as (chosen (disputed s) (some o) (some t))).refused ≡ true
-          → chosen (disputed s) (some o) (some t) ≡ refused (number DifferentOwners)
+      differ : (s : MergingOwnersStrategy) (o t : List ℕ) → (chosen_as (chosen (disputed s) (Some o) (Some t))).refused ≡ true
+          → chosen (disputed s) (Some o) (Some t) ≡ refused (number DifferentOwners)
       differ RaiseIssue o t h = refl
       differ UseOurs o t h = absurd (true≢false (sym h))
       differ UseTheirs o t h = absurd (true≢false (sym h))
 
-      both : (b : Bool) (s : MergingOwnersStrategy) (o t : List ℕ) → same o t ≡ b → (chosen_as (combined_owner s (some o) (some t))).refused ≡ true
-          → combined_owner s (some o) (some t) ≡ refused (number DifferentOwners)
+      both : (b : Bool) (s : MergingOwnersStrategy) (o t : List ℕ) → same o t ≡ b → (chosen_as (combined_owner s (Some o) (Some t))).refused ≡ true
+          → combined_owner s (Some o) (Some t) ≡ refused (number DifferentOwners)
       both true s o t e h = absurd (true≢false (sym (rw e at h)))
       both false s o t e h = rw e (differ s o t (rw e at h))
 
       five : (s : MergingOwnersStrategy) (o t : Option (List ℕ)) → (chosen_as (combined_owner s o t)).refused ≡ true
           → combined_owner s o t ≡ refused (number DifferentOwners)
-      five s none none h = absurd (true≢false (sym h))
-      five s none (some t) h = absurd (true≢false (sym h))
-      five s (some o) none h = absurd (true≢false (sym h))
-      five s (some o) (some t) h = both (same o t) s o t refl h
+      five s None None h = absurd (true≢false (sym h))
+      five s None (Some t) h = absurd (true≢false (sym h))
+      five s (Some o) None h = absurd (true≢false (sym h))
+      five s (Some o) (Some t) h = both (same o t) s o t refl h
 
 -- where theirs is none or the same as ours, ours stays, for every strategy
-pub owner_stays : (s : MergingOwnersStrategy) (o t : Option (List ℕ)) → (t ≡ none) ⊎ (t ≡ o) → combined_owner s o t ≡ ok o
+pub owner_stays : (s : MergingOwnersStrategy) (o t : Option (List ℕ)) → (t ≡ None) ⊎ (t ≡ o) → combined_owner s o t ≡ ok o
 owner_stays s o t = ⊎_elim (λ e. rw e (alone o)) (λ e. rw e (both o))
   where
-    alone : (o : Option (List ℕ)) → combined_owner s o none ≡ ok o
-    alone none = refl
-    alone (some o) = refl
+    alone : (o : Option (List ℕ)) → combined_owner s o None ≡ ok o
+    alone None = refl
+    alone (Some o) = refl
 
     both : (o : Option (List ℕ)) → combined_owner s o o ≡ ok o
-    both none = refl
-    both (some o) = rw (same_self o)
+    both None = refl
+    both (Some o) = rw (same_self o)
 
 -- ---- what was read
 
@@ -100,14 +100,14 @@ module _ (x : Read) (j : Judgement) (e : j ≡ judgement x) (go : Option (List �
 
 -- an owner that was read is what stands behind the kind
 pub record Owned (xs a : List ℕ) : Type 0 where
-  pub was_read : owner_read (read xs) ≡ some a
+  pub was_read : owner_read (read xs) ≡ Some a
   pub long : owned_head ≤ length xs
   pub is_there : a ≡ take owner_length (drop behind_kind xs)
 
-pub owner_place : (xs a : List ℕ) → owner_read (read xs) ≡ some a → Owned xs a
+pub owner_place : (xs a : List ℕ) → owner_read (read xs) ≡ Some a → Owned xs a
 owner_place xs a o = by (read xs) refl
   where
-    no_owner : {A : Type 0} → ◌≡◌ {A = Option (List ℕ)} none (some a) → A
+    no_owner : {A : Type 0} → ◌≡◌ {A = Option (List ℕ)} None (Some a) → A
     no_owner e = let z : ◌≡◌ {A = ℕ} 0 1 = cc in absurd (omega arith)
 
     by : (x : Read) → read xs ≡ x → Owned xs a
@@ -118,15 +118,15 @@ owner_place xs a o = by (read xs) refl
 -- ---- whose owner was chosen
 
 -- an owner that is chosen exists
-pub choice_ours : (s : MergingOwnersStrategy) (o t : Option (List ℕ)) → choice s o t ≡ Ours → (a : List ℕ) × (o ≡ some a)
-choice_ours s none none e = let z : ◌≡◌ {A = ℕ} 0 1 = cc in absurd (omega arith)
-choice_ours s none (some t) e = let z : ◌≡◌ {A = ℕ} 0 1 = cc in absurd (omega arith)
-choice_ours s (some o) t e = (o, refl)
+pub choice_ours : (s : MergingOwnersStrategy) (o t : Option (List ℕ)) → choice s o t ≡ Ours → (a : List ℕ) × (o ≡ Some a)
+choice_ours s None None e = let z : ◌≡◌ {A = ℕ} 0 1 = cc in absurd (omega arith)
+choice_ours s None (Some t) e = let z : ◌≡◌ {A = ℕ} 0 1 = cc in absurd (omega arith)
+choice_ours s (Some o) t e = (o, refl)
 
-pub choice_theirs : (s : MergingOwnersStrategy) (o t : Option (List ℕ)) → choice s o t ≡ Theirs → (a : List ℕ) × (t ≡ some a)
-choice_theirs s none none e = let z : ◌≡◌ {A = ℕ} 0 1 = cc in absurd (omega arith)
-choice_theirs s (some o) none e = let z : ◌≡◌ {A = ℕ} 0 1 = cc in absurd (omega arith)
-choice_theirs s o (some t) e = (t, refl)
+pub choice_theirs : (s : MergingOwnersStrategy) (o t : Option (List ℕ)) → choice s o t ≡ Theirs → (a : List ℕ) × (t ≡ Some a)
+choice_theirs s None None e = let z : ◌≡◌ {A = ℕ} 0 1 = cc in absurd (omega arith)
+choice_theirs s (Some o) None e = let z : ◌≡◌ {A = ℕ} 0 1 = cc in absurd (omega arith)
+choice_theirs s o (Some t) e = (t, refl)
 
 -- what is no refusal is the rest
 unless_rest : (x : Read) (rest c : Choice) → ((r : Refusal) → Refused r ≡ c → ⊥) → unless_refused x rest ≡ c → rest ≡ c

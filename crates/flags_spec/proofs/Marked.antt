@@ -3,7 +3,7 @@
 -- Assumes nothing.
 use Prim.Native.Nat.{ℕ}
 use mathlib.Core.Path.{◌≡◌, refl}
-use mathlib.Core.Option.{none}
+use Rattle.std.specs.Prelude.{None}
 use mathlib.Core.List.{List, [], ◌∷◌, map}
 use Rattle.records_spec.specs.Tables.{◌⦂◌, records_of, epochs_of, counts_of, ascending, held, put, union}
 use Rattle.records_spec.specs.Flags.{flags, head_for, proper, lending, holding, Lent}
@@ -24,7 +24,7 @@ pub record Example : Type 0 where
 -- what the call leaves
 abbrev combined : Example → FlagsAfter
 combined e =
-    combined_added (holding (head_for 5 none 1) (7 ∷ []) (300 ∷ [])) (holding (head_for e.base none 0) [] []) e.amount RaiseIssue e.out
+    combined_added (holding (head_for 5 None 1) (7 ∷ []) (300 ∷ [])) (holding (head_for e.base None 0) [] []) e.amount RaiseIssue e.out
 
 -- an example by its parts, with flags or a refusal as the answer
 abbrev example : ℕ → ℕ → List ℕ → List ℕ → (Lent → FlagsAfter) → Example
@@ -32,13 +32,13 @@ example base amount es cs expected = record { base = base; amount = amount; out 
 
 pub examples : List Example
 examples =
-    example 7 50 (1 ∷ 2 ∷ []) (3 ∷ 4 ∷ []) (gives (flags 5 none (7 ⦂ 350 ∷ [])))
-    ∷ example 7 50 (1 ∷ []) (3 ∷ []) (gives (flags 5 none (7 ⦂ 350 ∷ [])))
+    example 7 50 (1 ∷ 2 ∷ []) (3 ∷ 4 ∷ []) (gives (flags 5 None (7 ⦂ 350 ∷ [])))
+    ∷ example 7 50 (1 ∷ []) (3 ∷ []) (gives (flags 5 None (7 ⦂ 350 ∷ [])))
     ∷ example 7 50 (1 ∷ []) [] (refuses 10)
-    ∷ example 8 0 (1 ∷ 2 ∷ 3 ∷ []) (4 ∷ 5 ∷ 6 ∷ []) (gives (flags 5 none (7 ⦂ 300 ∷ 8 ⦂ 0 ∷ [])))
-    ∷ example 8 0 (1 ∷ 2 ∷ []) (4 ∷ 5 ∷ []) (gives (flags 5 none (7 ⦂ 300 ∷ 8 ⦂ 0 ∷ [])))
+    ∷ example 8 0 (1 ∷ 2 ∷ 3 ∷ []) (4 ∷ 5 ∷ 6 ∷ []) (gives (flags 5 None (7 ⦂ 300 ∷ 8 ⦂ 0 ∷ [])))
+    ∷ example 8 0 (1 ∷ 2 ∷ []) (4 ∷ 5 ∷ []) (gives (flags 5 None (7 ⦂ 300 ∷ 8 ⦂ 0 ∷ [])))
     ∷ example 8 0 (1 ∷ []) (4 ∷ 5 ∷ []) (refuses 10)
-    ∷ example 7 4294966995 (1 ∷ []) (3 ∷ []) (gives (flags 5 none (7 ⦂ 4294967295 ∷ [])))
+    ∷ example 7 4294966995 (1 ∷ []) (3 ∷ []) (gives (flags 5 None (7 ⦂ 4294967295 ∷ [])))
     ∷ example 7 4294966996 (1 ∷ []) (3 ∷ []) (refuses 6)
     ∷ example 4 0 (1 ∷ []) (3 ∷ []) (refuses 4)
     ∷ []

@@ -1,7 +1,7 @@
 -- Merging flags with what was added: document 01, "Merging".
 -- Assumes nothing.
 use Rattle.std.specs.Prelude.{ℕ, ◌+◌, cond, List, ltb, leb, eqb}
-use Rattle.std.proofs.Math.Option.{Option}
+use Rattle.std.specs.Prelude.{Option}
 use Rattle.fields_spec.specs.Varint.{largest}
 use Rattle.records_spec.specs.Tables.{◌⦂◌, held, put, union}
 use Rattle.records_spec.specs.Flags.{Flags, flags}

@@ -1,7 +1,7 @@
 -- The owner rule: document 01, "Owners".
 -- Assumes nothing.
 use Rattle.std.specs.Prelude.{ℕ, true, false, cond, List, []}
-use Rattle.std.proofs.Math.Option.{Option, none, some}
+use Rattle.std.specs.Prelude.{Option, None, Some}
 use Rattle.records_spec.specs.Refusals.{number}
 use Rattle.records_spec.specs.Flags.{same, maybe_owner}
 use Rattle.records_spec.specs.Outcomes.{Answer, ok, refused}
@@ -21,16 +21,16 @@ disputed UseTheirs = Theirs
 
 -- whose owner stands: otherwise whichever exists, or none; ours where both are the same
 abbrev pub choice : MergingOwnersStrategy → Option (List ℕ) → Option (List ℕ) → Choice
-choice s none none = Neither
-choice s none (some t) = Theirs
-choice s (some o) none = Ours
-choice s (some o) (some t) = cond (same o t) Ours (disputed s)
+choice s None None = Neither
+choice s None (Some t) = Theirs
+choice s (Some o) None = Ours
+choice s (Some o) (Some t) = cond (same o t) Ours (disputed s)
 
 -- the owner that was chosen of two, or the refusal
 abbrev pub chosen : Choice → Option (List ℕ) → Option (List ℕ) → Answer (Option (List ℕ))
 chosen Ours ours theirs = ok ours
 chosen Theirs ours theirs = ok theirs
-chosen Neither ours theirs = ok none
+chosen Neither ours theirs = ok None
 chosen (Refused r) ours theirs = refused (number r)
 
 -- the owner of a merge, or the refusal
@@ -40,15 +40,15 @@ combined_owner s ours theirs = chosen (choice s ours theirs) ours theirs
 -- the same as the code has it
 abbrev pub chosen_as : Answer (Option (List ℕ)) → ChosenOwner
 chosen_as (ok owner) = record { refused = false; owner = maybe_owner owner }
-chosen_as (refused n) = record { refused = true; owner = maybe_owner none }
+chosen_as (refused n) = record { refused = true; owner = maybe_owner None }
 
 -- ---- of two encodings
 
 -- the owner that was read; no flags are unowned
 abbrev pub owner_read : Read → Option (List ℕ)
-owner_read no_flags = none
+owner_read no_flags = None
 owner_read (some_flags f) = f.owner
-owner_read (refused_at r place) = none
+owner_read (refused_at r place) = None
 
 -- the refusal of what was read, or the rest
 abbrev pub unless_refused : Read → Choice → Choice
@@ -62,6 +62,6 @@ choice_read s ours theirs = unless_refused ours (unless_refused theirs (choice s
 
 -- the bytes of the owner that was chosen; none where there is none
 abbrev pub chosen_bytes : Answer (Option (List ℕ)) → List ℕ
-chosen_bytes (ok none) = []
-chosen_bytes (ok (some owner)) = owner
+chosen_bytes (ok None) = []
+chosen_bytes (ok (Some owner)) = owner
 chosen_bytes (refused n) = []

@@ -1,6 +1,6 @@
 -- Bytes as hexadecimal digits: from a place on, their number, and how they are written. Assumes nothing.
 use mathlib.Core.Path.{◌≡◌, refl, ap}
-use mathlib.Core.Option.{some}
+use Rattle.std.specs.Prelude.{Some}
 use mathlib.Core.List.{List, [], ◌∷◌}
 use Prim.Native.Nat.{ℕ, ◌+◌, ◌*◌, ◌/◌, ◌%◌, ◌≤◌, ◌<◌}
 use native.Mathlib.Numerals.{add-one}
@@ -17,7 +17,7 @@ length_hex [] = refl
 length_hex (b ∷ bs) = omega (arith, length_hex bs)
 
 -- the owner's line
-pub length_owner : (o : List ℕ) → length (owner_line (some o)) ≡ 7 + length (hex o)
+pub length_owner : (o : List ℕ) → length (owner_line (Some o)) ≡ 7 + length (hex o)
 length_owner o = omega (arith, length-append (hex o) (ascii "\n"))
 
 module _ (bs : List ℕ) (k : ℕ) where

@@ -3,7 +3,7 @@
 use Rattle.std.specs.Prelude.{ℕ, zero, suc, ◌+◌, ◌/◌, ◌%◌, true, false, cond, List, [], ◌∷◌, ◌++◌, ltb, length}
 use Prim.Native.Char.{code}
 use Prim.Native.String.{String, len, char_at}
-use Rattle.std.proofs.Math.Option.{Option, none, some}
+use Rattle.std.specs.Prelude.{Option, None, Some}
 use Rattle.records_spec.specs.Tables.{At}
 use Rattle.records_spec.specs.Flags.{Flags, type_byte, kind_of}
 use Rattle.records_spec.specs.Outcomes.{refused, Answer, ok}
@@ -42,8 +42,8 @@ word_line word n = ascii word ++ (decimal n ++ ascii "\n")
 
 -- the owner's line, if there is one
 abbrev pub owner_line : Option (List ℕ) → List ℕ
-owner_line none = []
-owner_line (some o) = ascii "owner " ++ (hex o ++ ascii "\n")
+owner_line None = []
+owner_line (Some o) = ascii "owner " ++ (hex o ++ ascii "\n")
 
 -- a record's line
 abbrev pub record_line : At → List ℕ
@@ -63,5 +63,5 @@ flags_text f =
 -- what reading answers, as text
 abbrev pub listing : Answer (Option Flags) → List ℕ
 listing (refused n) = word_line "refused " n
-listing (ok none) = ascii "none\n"
-listing (ok (some f)) = flags_text f
+listing (ok None) = ascii "None\n"
+listing (ok (Some f)) = flags_text f

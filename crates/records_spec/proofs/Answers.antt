@@ -2,7 +2,7 @@
 -- Assumes nothing.
 use mathlib.Core.Path.{◌≡◌, refl, sym, ap, ◌∙◌}
 use mathlib.Core.Bool.{true, false, and-eq-true_iff}
-use mathlib.Core.Option.{none, some}
+use Rattle.std.specs.Prelude.{Option, None, Some, Result, Ok, Err}
 use mathlib.Core.List.{List}
 use Prim.Native.Nat.{ℕ, ◌≤◌, ◌<◌}
 use native.Mathlib.Omega.{arith}
@@ -12,14 +12,12 @@ use borrow.Author.Tests.{leb-true, le-leb, lt-leb}
 use Rattle.records_spec.specs.Refusals.{number}
 use Rattle.records_spec.specs.Tables.{At, epochs_of, counts_of, over}
 use Rattle.records_spec.specs.Inner.Tables.{Placed}
-use Rattle.records_spec.specs.Flags.{Flags, head_of, no_head, Lent, lending, holding, blank}
+use Rattle.records_spec.specs.Flags.{Flags, head_of, Lent, lending, holding, blank}
 use Rattle.records_spec.specs.Outcomes.{Answer, ok, refused, after, kept, refusing, leaving}
 use Rattle.records_spec.specs.Answers.{shown, room_for, in_tables, placing, placing_if, writing}
 use Rattle.records_spec.specs.declared.head.Head.{Head}
 use Rattle.records_spec.specs.declared.refusal.Refusal.{Refusal}
 use Rattle.records_spec.specs.declared.refusal.Refusal.TheVariants.{NoRoom}
-use Rattle.records_spec.specs.declared.answer.Outcome.TheVariants.{Present, Refused}
-use Rattle.records_spec.specs.declared.answer.Answered.{Answered}
 use Rattle.records_spec.proofs.Tables.{length_epochs_of, length_counts_of, over_sets}
 
 -- ---- answers
@@ -44,12 +42,12 @@ pub placing_refused : (n : ℕ) (t : Lent) → placing (refused n) t ≡ kept n 
 unfolding placing leaving
 placing_refused n t = refl
 
-pub placing_none : (t : Lent) → placing_if (ok none) t ≡ after (ok false) (blank t)
+pub placing_none : (t : Lent) → placing_if (ok None) t ≡ after (ok false) (blank t)
 unfolding placing_if leaving
 placing_none t = refl
 
 -- flags, or a refusal, where there may be no flags
-pub placing_some : (f : Flags) (t : Lent) → placing_if (ok (some f)) t ≡ placing (ok f) t
+pub placing_some : (f : Flags) (t : Lent) → placing_if (ok (Some f)) t ≡ placing (ok f) t
 unfolding placing_if placing
 placing_some f t = refl
 
@@ -69,23 +67,23 @@ module _ (f : Flags) (t : Lent) where
 
 -- ---- what is left behind an answer
 
-module _ (a : Answered) (t : Lent) where
-  pub refused_left : (r : Refusal) → a ≡ record { outcome = Refused r; head = no_head } → shown a t ≡ refusing r (blank t)
-  refused_left r e = ap (λ (b : Answered). shown b t) e
+module _ (a : Result (Option Head) Refusal) (t : Lent) where
+  pub refused_left : (r : Refusal) → a ≡ Err r → shown a t ≡ refusing r (blank t)
+  refused_left r e = ap (λ (b : Result (Option Head) Refusal). shown b t) e
 
-  pub refused_placing : (x : Answer Flags) (r : Refusal) → a ≡ record { outcome = Refused r; head = no_head } → x ≡ refused (number r)
+  pub refused_placing : (x : Answer Flags) (r : Refusal) → a ≡ Err r → x ≡ refused (number r)
       → shown a t ≡ placing x t
   refused_placing x r e f = refused_left r e ∙ sym (ap (λ (y : Answer Flags). placing y t) f ∙ placing_refused (number r) t)
 
   -- the flags' records were placed from the start on
-  pub placed_left : (f : Flags) (head : Head) (n : ℕ) (es₀ cs₀ : List ℕ) → a ≡ record { outcome = Present; head = head } → head ≡ head_of f
+  pub placed_left : (f : Flags) (head : Head) (n : ℕ) (es₀ cs₀ : List ℕ) → a ≡ Ok (Some head) → head ≡ head_of f
       → Placed f.records 0 n es₀ cs₀ t.epochs t.counts → length f.records ≤ length es₀ → length f.records ≤ length cs₀
       → shown a t ≡ placing (ok f) (lending es₀ cs₀)
   placed_left f head n es₀ cs₀ ea eh p he hc =
       let rs : List At = f.records in
       let ee = p.epochs_set ∙ over_sets (epochs_of rs) es₀ (omega (arith, length_epochs_of rs)) in
       let ec = p.counts_set ∙ over_sets (counts_of rs) cs₀ (omega (arith, length_counts_of rs)) in
-      ap (λ (b : Answered). shown b t) ea
+      ap (λ (b : Result (Option Head) Refusal). shown b t) ea
       ∙ (λ i. after (ok true) (holding (eh i) (ee i) (ec i)))
       ∙ sym (placing_fits f (lending es₀ cs₀) he hc)
 

@@ -1,22 +1,19 @@
 -- The statements leave no choice: any two outcomes that one allows are equal, since what is shown of an outcome tells it.
 -- Assumes nothing.
 use mathlib.Core.Path.{◌≡◌, refl, sym, ap, ◌∙◌}
-use mathlib.Core.Bool.{Bool, cond}
+use mathlib.Core.Bool.{Bool, true, false}
 use Prim.Native.Nat.{ℕ, ◌<◌}
+use Rattle.std.specs.Prelude.{Option, None, Some, Result, Ok, Err}
 use native.Mathlib.Omega.{arith}
 use Rattle.records_spec.specs.Refusals.{number, refusal_of}
-use Rattle.records_spec.specs.Outcomes.{Answer, ok, refused, number_in, After, after, kept, leaving}
+use Rattle.records_spec.specs.Outcomes.{Answer, ok, refused, answered, number_in, After, after, kept, leaving}
 use Rattle.records_spec.specs.Flags.{Lent, lending}
-use Rattle.records_spec.specs.Answers.{FlagsAfter, present_in, shown, counted}
+use Rattle.records_spec.specs.Answers.{FlagsAfter, shown}
 use Rattle.records_spec.specs.declared.refusal.Refusal.{Refusal}
 use Rattle.records_spec.proofs.Answers.{refused_not_ok}
 use Rattle.records_spec.specs.declared.refusal.Refusal.TheVariants.{UnknownType, WrongSize, NonCanonical, DifferentBaseEpoch, DifferentOwners}
 use Rattle.records_spec.specs.declared.refusal.Refusal.TheVariants.{Overflow, NoStorageAtEpoch, TotalTooLarge, NoRoom, BadTable, IndexMismatch}
-use Rattle.records_spec.specs.declared.answer.Outcome.{Outcome}
-use Rattle.records_spec.specs.declared.answer.Outcome.TheVariants.{Absent, Present, Refused}
-use Rattle.records_spec.specs.declared.answer.Answered.{Answered}
-use Rattle.records_spec.specs.declared.answer.Counted.{Counted}
-use Rattle.records_spec.specs.declared.answer.Counted.TheVariants.{Count, Refused as NotCounted}
+use Rattle.records_spec.specs.declared.head.Head.{Head}
 
 pub same_only : {A : Type 0} (x y d : A) → x ≡ d → y ≡ d → x ≡ y
 same_only x y d p q = p ∙ sym q
@@ -84,26 +81,30 @@ never_8 = unused 8 (λ e. omega arith)
 
 -- ---- answers
 
--- the number that a call answered, or its refusal
-abbrev pub counted_as : Answer ℕ → Counted
-counted_as (ok n) = Count n
-counted_as (refused n) = NotCounted (refusal_of n)
+-- the answer that a call told, or its refusal
+abbrev pub answered_as : {A : Type 0} → Answer A → Result A Refusal
+answered_as (ok a) = Ok a
+answered_as (refused n) = Err (refusal_of n)
 
-pub counted_back : (c : Counted) → counted_as (counted c) ≡ c
-counted_back (Count n) = refl
-counted_back (NotCounted r) = ap NotCounted (named_back r)
+pub answered_back : {A : Type 0} (r : Result A Refusal) → answered_as (answered r) ≡ r
+answered_back (Ok a) = refl
+answered_back (Err r) = ap Err (named_back r)
 
--- the outcome that a truth or a refusal's number tells
-abbrev outcome_as : Answer Bool → Outcome
-outcome_as (ok b) = cond b Present Absent
-outcome_as (refused n) = Refused (refusal_of n)
+-- the flags' head, none or the refusal, by what a call left
+abbrev shown_as : FlagsAfter → Result (Option Head) Refusal
+shown_as x = by x.answer
+  where
+    by : Answer Bool → Result (Option Head) Refusal
+    by (ok true) = Ok (Some x.lent.head)
+    by (ok false) = Ok None
+    by (refused n) = Err (refusal_of n)
 
-outcome_back : (o : Outcome) → outcome_as (present_in o) ≡ o
-outcome_back Absent = refl
-outcome_back Present = refl
-outcome_back (Refused r) = ap Refused (named_back r)
+shown_back : (t : Lent) (a : Result (Option Head) Refusal) → shown_as (shown a t) ≡ a
+shown_back t (Ok None) = refl
+shown_back t (Ok (Some h)) = refl
+shown_back t (Err r) = ap Err (named_back r)
 
-pub shown_only : (a b : Answered) (t u : Lent) (x : FlagsAfter) → shown a t ≡ x → shown b u ≡ x → (a ≡ b) × (t ≡ u)
+pub shown_only : (a b : Result (Option Head) Refusal) (t u : Lent) (x : FlagsAfter) → shown a t ≡ x → shown b u ≡ x → (a ≡ b) × (t ≡ u)
 shown_only a b t u x p q =
-    let e = left_only present_in outcome_as outcome_back a.outcome b.outcome _ _ x p q in
-    ((λ i. record { outcome = e.0 i; head = (e.1 i).head }), (λ i. lending (e.1 i).epochs (e.1 i).counts))
+    let e = same_only (shown a t) (shown b u) x p q in
+    (sym (shown_back t a) ∙ ap shown_as e ∙ shown_back u b, ap (λ (w : FlagsAfter). lending w.lent.epochs w.lent.counts) e)

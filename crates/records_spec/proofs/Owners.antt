@@ -1,27 +1,14 @@
--- An owner or none as the code has it tells the owner; and whether two owners are the same: it is equality, and a loop can ask it byte by
--- byte. By cases on the owner and on the bytes.
+-- Whether two owners are the same: it is equality, and a loop can ask it byte by byte. By cases on the bytes.
 -- Assumes nothing.
 use mathlib.Core.Path.{◌≡◌, refl, sym}
-use mathlib.Core.Option.{Option, none, some}
 use mathlib.Core.List.{List, [], ◌∷◌}
-use mathlib.Core.Bool.{true, false, ◌&&◌, and-eq-true_iff, true≢false}
+use mathlib.Core.Bool.{true, ◌&&◌, and-eq-true_iff, true≢false}
 use Prim.Native.Nat.{ℕ, ◌+◌, ◌≤◌, ◌<◌}
 use lib.Dec.{eqb}
 use lib.ListN.{length, drop, get_or, drop_of_length-le}
 use borrow.Author.Tests.{eqb-true, eq-eqb}
-use Rattle.records_spec.specs.Flags.{owner_if, id_of, maybe_owner, same}
+use Rattle.records_spec.specs.Flags.{same}
 use Rattle.records_spec.proofs.Rising.{drop_next}
-
-pub owner_back : (o : Option (List ℕ)) → o ≡ owner_if (maybe_owner o).owned (maybe_owner o).id
-owner_back none = refl
-owner_back (some o) = refl
-
--- its bytes, or zeros
-pub owner_bytes_lem : (o : Option (List ℕ)) → (maybe_owner o).id ≡ id_of o
-owner_bytes_lem none = refl
-owner_bytes_lem (some o) = refl
-
--- ---- the same owner
 
 pub same_self : (xs : List ℕ) → same xs xs ≡ true
 unfolding same

@@ -3,7 +3,7 @@
 -- Assumes nothing.
 use mathlib.Core.Path.{◌≡◌, refl, sym, ap, ◌∙◌}
 use mathlib.Core.Bool.{Bool, true, false, ◌&&◌, and-eq-true_iff}
-use mathlib.Core.Option.{Option, none, some}
+use Rattle.std.specs.Prelude.{Option, None, Some}
 use mathlib.Core.List.{List}
 use Prim.Native.Nat.{ℕ, ◌≤◌}
 use native.Mathlib.Omega.{arith}
@@ -80,20 +80,20 @@ agrees_told o n = by o (eqb n 0) refl
     some_left e = let d = eqb-false n 0 e in le-leb 1 n (omega arith)
 
     by : (o : Option (List ℕ)) (b : Bool) → eqb n 0 ≡ b → agrees (kind_of o n) n ≡ true
-    by none true e = simp e
-    by none false e = rw e (some_left e)
-    by (some o) true e = simp e
-    by (some o) false e = rw e (some_left e)
+    by None true e = simp e
+    by None false e = rw e (some_left e)
+    by (Some o) true e = simp e
+    by (Some o) false e = rw e (some_left e)
 
 -- the owner of flags' head is theirs
 pub owner_head : (f : Flags) → owner_of (head_of f) ≡ f.owner
 owner_head f = by f.owner (eqb (length f.records) 0) refl
   where
     by : (o : Option (List ℕ)) (b : Bool) → eqb (length f.records) 0 ≡ b → owner_if (owned (kind_of o (length f.records))) (id_of o) ≡ o
-    by none true e = rw e
-    by none false e = rw e
-    by (some o) true e = rw e
-    by (some o) false e = rw e
+    by None true e = rw e
+    by None false e = rw e
+    by (Some o) true e = rw e
+    by (Some o) false e = rw e
 
 -- ---- flags whose records stand at the start of two tables
 

@@ -1,17 +1,13 @@
 -- What calls leave that answer flags, or a number: an answer stands at the start of what was lent, and the places behind it are untouched.
 -- Assumes nothing.
-use Rattle.std.specs.Prelude.{ℕ, Bool, true, false, ◌&&◌, List, leb, length}
-use Rattle.std.proofs.Math.Option.{Option, none, some}
+use Rattle.std.specs.Prelude.{ℕ, Bool, true, false, ◌&&◌, List, leb, length, Result, Ok, Err}
+use Rattle.std.specs.Prelude.{Option, None, Some}
 use Rattle.records_spec.specs.Refusals.{number}
 use Rattle.records_spec.specs.Outcomes.{Answer, ok, refused, ◌>>=◌, After, after, leaving, placed}
 use Rattle.records_spec.specs.Tables.{At, records_of, epochs_of, counts_of, over}
-use Rattle.records_spec.specs.Flags.{Flags, head_of, Lent, lending, Held, holding, blank}
+use Rattle.records_spec.specs.Flags.{Flags, head_of, no_head, Lent, lending, Held, holding, blank}
 use Rattle.records_spec.specs.declared.head.Head.{Head}
-use Rattle.records_spec.specs.declared.answer.Outcome.{Outcome}
-use Rattle.records_spec.specs.declared.answer.Outcome.TheVariants.{Absent, Present, Refused}
-use Rattle.records_spec.specs.declared.answer.Answered.{Answered}
-use Rattle.records_spec.specs.declared.answer.Counted.{Counted}
-use Rattle.records_spec.specs.declared.answer.Counted.TheVariants.{Count, Refused as NotCounted}
+use Rattle.records_spec.specs.declared.refusal.Refusal.{Refusal}
 
 -- ---- calls that answer flags
 
@@ -19,15 +15,21 @@ use Rattle.records_spec.specs.declared.answer.Counted.TheVariants.{Count, Refuse
 abbrev pub FlagsAfter : Type 0
 FlagsAfter = After (Answer Bool) Held
 
--- whether there are flags, or a refusal, as the code told it
-abbrev pub present_in : Outcome → Answer Bool
-present_in Absent = ok false
-present_in Present = ok true
-present_in (Refused r) = refused (number r)
+-- whether there are flags, or a refusal, as the code tells it: by their head, or none
+abbrev pub present_in : Result (Option Head) Refusal → Answer Bool
+present_in (Ok None) = ok false
+present_in (Ok (Some h)) = ok true
+present_in (Err r) = refused (number r)
+
+-- the head that the code tells, which is all zeros where there are no flags
+abbrev pub head_in : Result (Option Head) Refusal → Head
+head_in (Ok None) = no_head
+head_in (Ok (Some h)) = h
+head_in (Err r) = no_head
 
 -- what the code answered and left
-abbrev pub shown : Answered → Lent → FlagsAfter
-shown a t = after (present_in a.outcome) (holding a.head t.epochs t.counts)
+abbrev pub shown : Result (Option Head) Refusal → Lent → FlagsAfter
+shown a t = after (present_in a) (holding (head_in a) t.epochs t.counts)
 
 -- whether n records have room in tables of these lengths
 abbrev pub room_for : ℕ → ℕ → ℕ → Bool
@@ -43,8 +45,8 @@ placed_flags f t = placed (room_for (length f.records) (length t.epochs) (length
 
 -- the same, or no flags, which leave the tables as they came
 abbrev pub placed_if : Option Flags → Lent → Answer (Bool × Held)
-placed_if none t = ok (false, blank t)
-placed_if (some f) t = placed_flags f t
+placed_if None t = ok (false, blank t)
+placed_if (Some f) t = placed_flags f t
 
 -- what is left of two tables where the answer is flags or a refusal
 unfoldable pub placing : Answer Flags → Lent → FlagsAfter
@@ -59,11 +61,6 @@ placing_if x t = leaving (blank t) do
   placed_if f t
 
 -- ---- calls that answer a number
-
--- what the code answered
-abbrev pub counted : Counted → Answer ℕ
-counted (Count n) = ok n
-counted (NotCounted r) = refused (number r)
 
 -- all that a writer of bytes leaves: their number or a refusal, and the lent output
 abbrev pub BytesAfter : Type 0

@@ -1,13 +1,10 @@
 -- Flags, and the head by value that stands for them beside the two lent tables: document 01, "Flags and their bytes".
 -- Assumes nothing.
 use Rattle.std.specs.Prelude.{ℕ, Bool, true, false, cond, ◌&&◌, List, [], ◌∷◌, leb, eqb, length, take, replicate}
-use Rattle.std.proofs.Math.Option.{Option, none, some}
+use Rattle.std.specs.Prelude.{Option, None, Some}
 use Rattle.records_spec.specs.Tables.{At, records_of, ascending}
 use Rattle.records_spec.specs.declared.head.Kind.{Kind}
 use Rattle.records_spec.specs.declared.head.Kind.TheVariants.{SingleEpoch, MultiEpoch, SingleEpochOwned, MultiEpochOwned}
-use Rattle.records_spec.specs.declared.head.KindByte.{KindByte}
-use Rattle.records_spec.specs.declared.head.KindByte.TheVariants.{Known, Unknown}
-use Rattle.records_spec.specs.declared.head.MaybeOwner.{MaybeOwner}
 use Rattle.records_spec.specs.declared.head.Head.{Head}
 
 -- the base epoch, the owner or none, and the records; of proper flags these tell the kind
@@ -44,15 +41,15 @@ type_byte SingleEpochOwned = 2
 type_byte MultiEpochOwned = 3
 
 -- the kind that a byte names, if it is at most 3
-abbrev pub kind_of_byte : ℕ → KindByte
+abbrev pub kind_of_byte : ℕ → Option Kind
 kind_of_byte b =
-    cond (eqb b 0) (Known SingleEpoch)
-    (cond (eqb b 1) (Known MultiEpoch) (cond (eqb b 2) (Known SingleEpochOwned) (cond (eqb b 3) (Known MultiEpochOwned) Unknown)))
+    cond (eqb b 0) (Some SingleEpoch)
+    (cond (eqb b 1) (Some MultiEpoch) (cond (eqb b 2) (Some SingleEpochOwned) (cond (eqb b 3) (Some MultiEpochOwned) None)))
 
 -- the kind of flags with this owner and this number of records
 abbrev pub kind_of : Option (List ℕ) → ℕ → Kind
-kind_of none n = cond (eqb n 0) SingleEpoch MultiEpoch
-kind_of (some o) n = cond (eqb n 0) SingleEpochOwned MultiEpochOwned
+kind_of None n = cond (eqb n 0) SingleEpoch MultiEpoch
+kind_of (Some o) n = cond (eqb n 0) SingleEpochOwned MultiEpochOwned
 
 -- ---- owners
 
@@ -66,13 +63,13 @@ zeros = replicate owner_length 0
 
 -- the owner, if there is one
 abbrev pub owner_if : Bool → List ℕ → Option (List ℕ)
-owner_if true o = some o
-owner_if false o = none
+owner_if true o = Some o
+owner_if false o = None
 
 -- the owner's bytes, or zeros
 abbrev pub id_of : Option (List ℕ) → List ℕ
-id_of none = zeros
-id_of (some o) = o
+id_of None = zeros
+id_of (Some o) = o
 
 -- whether two owners are the same, byte for byte
 unfoldable pub same : List ℕ → List ℕ → Bool
@@ -80,11 +77,6 @@ same [] [] = true
 same [] (y ∷ ys) = false
 same (x ∷ xs) [] = false
 same (x ∷ xs) (y ∷ ys) = eqb x y && same xs ys
-
--- an owner or none, as the code has it
-abbrev pub maybe_owner : Option (List ℕ) → MaybeOwner
-maybe_owner none = record { owned = false; id = zeros }
-maybe_owner (some o) = record { owned = true; id = o }
 
 -- ---- heads
 
@@ -102,7 +94,7 @@ head_of f = head_for f.base f.owner (length f.records)
 
 -- no flags at all
 abbrev pub no_head : Head
-no_head = head_for 0 none 0
+no_head = head_for 0 None 0
 
 -- owned flags change their owner; others stay
 abbrev pub with_owner : Head → List ℕ → Head

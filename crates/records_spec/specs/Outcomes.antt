@@ -1,6 +1,6 @@
 -- The one form of what every call leaves: its answer or a refusal's number, and the memory that was lent. Document 01, "Refusal numbers".
 -- Assumes nothing.
-use Rattle.std.specs.Prelude.{ℕ, Bool, cond}
+use Rattle.std.specs.Prelude.{ℕ, Bool, cond, Result, Ok, Err}
 use Rattle.records_spec.specs.Refusals.{number}
 use Rattle.records_spec.specs.declared.refusal.Refusal.{Refusal}
 use Rattle.records_spec.specs.declared.refusal.Refusal.TheVariants.{NoRoom}
@@ -13,6 +13,11 @@ infix 10 ◌if◌
 pub data Answer (A : Type 0) : Type 0 where
   ok : A → Answer A
   refused : ℕ → Answer A
+
+-- the same, as the code tells it
+abbrev pub answered : {A : Type 0} → Result A Refusal → Answer A
+answered (Ok a) = ok a
+answered (Err r) = refused (number r)
 
 -- a test on the way: the refusal, and when it is given
 pub data Test : Type 0 where

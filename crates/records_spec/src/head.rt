@@ -7,26 +7,12 @@ pub const OWNER_LENGTH: usize = 32;
 pub type OwnerId = [u8; OWNER_LENGTH];
 
 // The four kinds, in the order of their bytes.
-#[derive(Clone, Copy)]
+#[derive(Clone, Copy, Debug, PartialEq, Eq)]
 pub enum Kind {
     SingleEpoch,
     MultiEpoch,
     SingleEpochOwned,
     MultiEpochOwned,
-}
-
-// What a byte 0 says.
-#[derive(Clone, Copy)]
-pub enum KindByte {
-    Known(Kind),
-    Unknown,
-}
-
-// An owner or none; the bytes of none are not read, and are zeros in an answer.
-#[derive(Clone, Copy)]
-pub struct MaybeOwner {
-    pub owned: bool,
-    pub id: OwnerId,
 }
 
 // Flags without their records, which stand in the first `records` places of two tables.

@@ -1,7 +1,7 @@
 // Why a call is refused.
 
 // The refusals of documents 01 and 02, in the order of their numbers.
-#[derive(Clone, Copy)]
+#[derive(Clone, Copy, Debug, PartialEq, Eq)]
 pub enum Refusal {
     UnknownType,
     WrongSize,

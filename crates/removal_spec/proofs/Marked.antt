@@ -4,7 +4,7 @@
 -- Assumes nothing.
 use Prim.Native.Nat.{ℕ}
 use mathlib.Core.Path.{◌≡◌, refl}
-use mathlib.Core.Option.{none, some}
+use Rattle.std.specs.Prelude.{None, Some}
 use mathlib.Core.List.{List, [], ◌∷◌, map}
 use lib.ListN.{replicate}
 use Rattle.records_spec.specs.Tables.{At, ◌⦂◌, records_of, epochs_of, counts_of, ascending, has, held, put, union}
@@ -60,33 +60,33 @@ b = replicate 32 2
 -- unowned records above base 5, incoming kind 0 at 9, and the removal that the split of some bytes makes; room for two records
 abbrev own : List At → ℕ → (Lent → FlagsAfter) → Example
 own rs n answer =
-    example (flags 5 none rs) (flags 9 none []) (value_removal (flags 5 none rs) n) RaiseIssue (1 ∷ 2 ∷ []) (3 ∷ 4 ∷ []) answer
+    example (flags 5 None rs) (flags 9 None []) (value_removal (flags 5 None rs) n) RaiseIssue (1 ∷ 2 ∷ []) (3 ∷ 4 ∷ []) answer
 
 -- unowned {7:10} above base 5, incoming kind 0 at 9, and a removal; room for one record
 abbrev ten : Removal → (Lent → FlagsAfter) → Example
-ten x answer = example (flags 5 none (7 ⦂ 10 ∷ [])) (flags 9 none []) x RaiseIssue (1 ∷ []) (3 ∷ []) answer
+ten x answer = example (flags 5 None (7 ⦂ 10 ∷ [])) (flags 9 None []) x RaiseIssue (1 ∷ []) (3 ∷ []) answer
 
 pub examples : List Example
 examples =
     -- P10, P11, P12, and the boundaries
-    own (7 ⦂ 10 ∷ 9 ⦂ 5 ∷ []) 6 (gives (flags 5 none (7 ⦂ 6 ∷ [])))
-    ∷ own (7 ⦂ 10 ∷ 9 ⦂ 5 ∷ []) 20 (gives (flags 5 none []))
-    ∷ own (7 ⦂ 10 ∷ 9 ⦂ 3 ∷ []) 1 (gives (flags 5 none (7 ⦂ 9 ∷ [])))
-    ∷ own (7 ⦂ 4 ∷ []) 1 (gives (flags 5 none []))
-    ∷ own (7 ⦂ 5 ∷ []) 1 (gives (flags 5 none (7 ⦂ 4 ∷ [])))
-    ∷ own (7 ⦂ 10 ∷ 9 ⦂ 5 ∷ []) 0 (gives (flags 5 none (7 ⦂ 10 ∷ 9 ⦂ 5 ∷ [])))
-    ∷ own (7 ⦂ 1 ∷ []) 4294967293 (gives (flags 5 none []))
-    ∷ own (7 ⦂ 10 ∷ 9 ⦂ 4294967295 ∷ []) 4294967294 (gives (flags 5 none (7 ⦂ 8 ∷ [])))
-    ∷ own (7 ⦂ 10 ∷ 9 ⦂ 4294967295 ∷ []) 4294967295 (gives (flags 5 none (7 ⦂ 7 ∷ [])))
+    own (7 ⦂ 10 ∷ 9 ⦂ 5 ∷ []) 6 (gives (flags 5 None (7 ⦂ 6 ∷ [])))
+    ∷ own (7 ⦂ 10 ∷ 9 ⦂ 5 ∷ []) 20 (gives (flags 5 None []))
+    ∷ own (7 ⦂ 10 ∷ 9 ⦂ 3 ∷ []) 1 (gives (flags 5 None (7 ⦂ 9 ∷ [])))
+    ∷ own (7 ⦂ 4 ∷ []) 1 (gives (flags 5 None []))
+    ∷ own (7 ⦂ 5 ∷ []) 1 (gives (flags 5 None (7 ⦂ 4 ∷ [])))
+    ∷ own (7 ⦂ 10 ∷ 9 ⦂ 5 ∷ []) 0 (gives (flags 5 None (7 ⦂ 10 ∷ 9 ⦂ 5 ∷ [])))
+    ∷ own (7 ⦂ 1 ∷ []) 4294967293 (gives (flags 5 None []))
+    ∷ own (7 ⦂ 10 ∷ 9 ⦂ 4294967295 ∷ []) 4294967294 (gives (flags 5 None (7 ⦂ 8 ∷ [])))
+    ∷ own (7 ⦂ 10 ∷ 9 ⦂ 4294967295 ∷ []) 4294967295 (gives (flags 5 None (7 ⦂ 7 ∷ [])))
     -- exact room, and one record less
-    ∷ ten (sectioned (row zeros 7 2 ∷ [])) (gives (flags 5 none (7 ⦂ 8 ∷ [])))
-    ∷ example (flags 5 none (7 ⦂ 10 ∷ [])) (flags 9 none []) (sectioned (row zeros 7 2 ∷ [])) RaiseIssue (1 ∷ []) [] (refuses 10)
-    ∷ example (flags 5 none (7 ⦂ 10 ∷ [])) (flags 9 none []) (sectioned (row zeros 7 7 ∷ [])) RaiseIssue [] [] (gives (flags 5 none []))
+    ∷ ten (sectioned (row zeros 7 2 ∷ [])) (gives (flags 5 None (7 ⦂ 8 ∷ [])))
+    ∷ example (flags 5 None (7 ⦂ 10 ∷ [])) (flags 9 None []) (sectioned (row zeros 7 2 ∷ [])) RaiseIssue (1 ∷ []) [] (refuses 10)
+    ∷ example (flags 5 None (7 ⦂ 10 ∷ [])) (flags 9 None []) (sectioned (row zeros 7 7 ∷ [])) RaiseIssue [] [] (gives (flags 5 None []))
     -- none and basic are not read; the base is skipped; 0 leaves more than 3 as it is
-    ∷ ten nothing (gives (flags 5 none (7 ⦂ 10 ∷ [])))
-    ∷ ten (basic 10) (gives (flags 5 none (7 ⦂ 10 ∷ [])))
-    ∷ ten (sectioned (row zeros 5 99 ∷ row zeros 7 1 ∷ [])) (gives (flags 5 none (7 ⦂ 9 ∷ [])))
-    ∷ ten (sectioned (row zeros 7 0 ∷ [])) (gives (flags 5 none (7 ⦂ 10 ∷ [])))
+    ∷ ten nothing (gives (flags 5 None (7 ⦂ 10 ∷ [])))
+    ∷ ten (basic 10) (gives (flags 5 None (7 ⦂ 10 ∷ [])))
+    ∷ ten (sectioned (row zeros 5 99 ∷ row zeros 7 1 ∷ [])) (gives (flags 5 None (7 ⦂ 9 ∷ [])))
+    ∷ ten (sectioned (row zeros 7 0 ∷ [])) (gives (flags 5 None (7 ⦂ 10 ∷ [])))
     -- 7, 6, and of both the first
     ∷ ten (sectioned (row zeros 8 0 ∷ [])) (refuses 7)
     ∷ ten (sectioned (row zeros 7 11 ∷ [])) (refuses 6)
@@ -97,28 +97,28 @@ examples =
     ∷ ten (sectioned (row a 7 1 ∷ [])) (refuses 5)
     ∷ ten (sectioned (row zeros 7 1 ∷ row a 7 1 ∷ [])) (refuses 5)
     -- the incoming count stands
-    ∷ example (flags 5 none (7 ⦂ 10 ∷ 10 ⦂ 20 ∷ [])) (flags 9 none (10 ⦂ 8 ∷ [])) (sectioned (row zeros 10 2 ∷ [])) RaiseIssue (1 ∷ 2 ∷ [])
+    ∷ example (flags 5 None (7 ⦂ 10 ∷ 10 ⦂ 20 ∷ [])) (flags 9 None (10 ⦂ 8 ∷ [])) (sectioned (row zeros 10 2 ∷ [])) RaiseIssue (1 ∷ 2 ∷ [])
     (3 ∷ 4 ∷ [])
-    (gives (flags 5 none (7 ⦂ 10 ∷ 10 ⦂ 6 ∷ [])))
-    ∷ example (flags 5 none (7 ⦂ 10 ∷ 10 ⦂ 20 ∷ [])) (flags 9 none (10 ⦂ 8 ∷ [])) (sectioned (row zeros 10 9 ∷ [])) RaiseIssue (1 ∷ 2 ∷ [])
+    (gives (flags 5 None (7 ⦂ 10 ∷ 10 ⦂ 6 ∷ [])))
+    ∷ example (flags 5 None (7 ⦂ 10 ∷ 10 ⦂ 20 ∷ [])) (flags 9 None (10 ⦂ 8 ∷ [])) (sectioned (row zeros 10 9 ∷ [])) RaiseIssue (1 ∷ 2 ∷ [])
     (3 ∷ 4 ∷ []) (refuses 6)
     -- owners that differ: 5; ours finds the sections, the merged one is the answer's; not looked at where ours has no records
-    ∷ example (flags 5 (some a) (7 ⦂ 10 ∷ [])) (flags 9 (some b) []) (sectioned (row a 7 1 ∷ [])) RaiseIssue (1 ∷ []) (3 ∷ []) (refuses 5)
-    ∷ example (flags 5 (some a) (7 ⦂ 10 ∷ [])) (flags 9 (some b) []) (sectioned (row a 7 1 ∷ [])) UseOurs (1 ∷ []) (3 ∷ [])
-    (gives (flags 5 (some a) (7 ⦂ 9 ∷ [])))
-    ∷ example (flags 5 (some a) (7 ⦂ 10 ∷ [])) (flags 9 (some b) []) (sectioned (row a 7 1 ∷ [])) UseTheirs (1 ∷ []) (3 ∷ [])
-    (gives (flags 5 (some b) (7 ⦂ 9 ∷ [])))
-    ∷ example (flags 5 (some a) (7 ⦂ 10 ∷ [])) (flags 9 (some b) []) (sectioned (row b 7 1 ∷ [])) UseTheirs (1 ∷ []) (3 ∷ []) (refuses 5)
-    ∷ example (flags 5 (some a) []) (flags 9 (some b) (10 ⦂ 8 ∷ [])) (sectioned (row b 7 1 ∷ [])) RaiseIssue (1 ∷ []) (3 ∷ [])
-    (gives (flags 5 (some a) []))
+    ∷ example (flags 5 (Some a) (7 ⦂ 10 ∷ [])) (flags 9 (Some b) []) (sectioned (row a 7 1 ∷ [])) RaiseIssue (1 ∷ []) (3 ∷ []) (refuses 5)
+    ∷ example (flags 5 (Some a) (7 ⦂ 10 ∷ [])) (flags 9 (Some b) []) (sectioned (row a 7 1 ∷ [])) UseOurs (1 ∷ []) (3 ∷ [])
+    (gives (flags 5 (Some a) (7 ⦂ 9 ∷ [])))
+    ∷ example (flags 5 (Some a) (7 ⦂ 10 ∷ [])) (flags 9 (Some b) []) (sectioned (row a 7 1 ∷ [])) UseTheirs (1 ∷ []) (3 ∷ [])
+    (gives (flags 5 (Some b) (7 ⦂ 9 ∷ [])))
+    ∷ example (flags 5 (Some a) (7 ⦂ 10 ∷ [])) (flags 9 (Some b) []) (sectioned (row b 7 1 ∷ [])) UseTheirs (1 ∷ []) (3 ∷ []) (refuses 5)
+    ∷ example (flags 5 (Some a) []) (flags 9 (Some b) (10 ⦂ 8 ∷ [])) (sectioned (row b 7 1 ∷ [])) RaiseIssue (1 ∷ []) (3 ∷ [])
+    (gives (flags 5 (Some a) []))
     -- equal bases: the removal is not read, but tested
-    ∷ example (flags 5 none (7 ⦂ 10 ∷ [])) (flags 5 none (8 ⦂ 2 ∷ [])) (sectioned (row a 7 11 ∷ [])) RaiseIssue (1 ∷ 2 ∷ []) (3 ∷ 4 ∷ [])
-    (gives (flags 5 none (7 ⦂ 10 ∷ 8 ⦂ 2 ∷ [])))
-    ∷ example (flags 5 (some a) []) (flags 5 (some b) []) nothing RaiseIssue [] [] (refuses 5)
-    ∷ example (flags 5 none (7 ⦂ 10 ∷ [])) (flags 5 none []) (sectioned (row zeros 7 1 ∷ row zeros 7 1 ∷ [])) RaiseIssue (1 ∷ []) (3 ∷ [])
+    ∷ example (flags 5 None (7 ⦂ 10 ∷ [])) (flags 5 None (8 ⦂ 2 ∷ [])) (sectioned (row a 7 11 ∷ [])) RaiseIssue (1 ∷ 2 ∷ []) (3 ∷ 4 ∷ [])
+    (gives (flags 5 None (7 ⦂ 10 ∷ 8 ⦂ 2 ∷ [])))
+    ∷ example (flags 5 (Some a) []) (flags 5 (Some b) []) nothing RaiseIssue [] [] (refuses 5)
+    ∷ example (flags 5 None (7 ⦂ 10 ∷ [])) (flags 5 None []) (sectioned (row zeros 7 1 ∷ row zeros 7 1 ∷ [])) RaiseIssue (1 ∷ []) (3 ∷ [])
     (refuses 11)
     -- incoming base below ours, before owners are looked at
-    ∷ example (flags 5 (some a) (7 ⦂ 10 ∷ [])) (flags 4 (some b) []) nothing RaiseIssue (1 ∷ []) (3 ∷ []) (refuses 4)
+    ∷ example (flags 5 (Some a) (7 ⦂ 10 ∷ [])) (flags 4 (Some b) []) nothing RaiseIssue (1 ∷ []) (3 ∷ []) (refuses 4)
     ∷ []
 
 pub marked : map combined examples ≡ map (λ (e : Example). e.left) examples

@@ -3,7 +3,7 @@
 -- Assumes nothing.
 use mathlib.Core.Path.{◌≡◌, refl, sym, ap, ◌∙◌}
 use mathlib.Core.Bool.{true}
-use mathlib.Core.Option.{Option, none, some}
+use Rattle.std.specs.Prelude.{Option, None, Some}
 use mathlib.Core.List.{List, [], ◌∷◌, ◌++◌}
 use Prim.Native.Nat.{ℕ, zero, suc, ◌≤◌, ◌<◌, min}
 use native.Mathlib.Omega.{arith}
@@ -136,8 +136,8 @@ module _ (ours : Held) (n : ℕ) (t : Tables) (u : Told) (theirs : Held) (s : Me
 -- ---- no record left
 
 -- NO RECORD LEFT: KIND 0 OR 2
-pub none_left : (base : ℕ) (rs : List At) → rs ≡ [] → (head_of (flags base none rs)).kind ≡ SingleEpoch
+pub none_left : (base : ℕ) (rs : List At) → rs ≡ [] → (head_of (flags base None rs)).kind ≡ SingleEpoch
 none_left base rs e = rw e
 
-pub none_left_owned : (base : ℕ) (o : List ℕ) (rs : List At) → rs ≡ [] → (head_of (flags base (some o) rs)).kind ≡ SingleEpochOwned
+pub none_left_owned : (base : ℕ) (o : List ℕ) (rs : List At) → rs ≡ [] → (head_of (flags base (Some o) rs)).kind ≡ SingleEpochOwned
 none_left_owned base o rs e = rw e

@@ -1,7 +1,7 @@
 -- What the theorems on a split and its own merge speak of besides: the incoming flags, and the flags that are left.
 -- Assumes nothing.
 use Rattle.std.specs.Prelude.{ℕ, ◌<◌, ◌≡◌, ◌⊎◌, []}
-use Rattle.std.proofs.Math.Option.{none}
+use Rattle.std.specs.Prelude.{None}
 use Rattle.records_spec.specs.Flags.{Flags, flags}
 use Rattle.splitting_spec.specs.Sections.{split}
 use Rattle.removal_spec.specs.Removing.{minus}
@@ -14,4 +14,4 @@ less_own_split f n = flags f.base f.owner (minus f.records (split f.base f.recor
 pub record Incoming (f theirs : Flags) : Type 0 where
   pub bare : theirs.records ≡ []
   pub higher : f.base < theirs.base
-  pub owner : (theirs.owner ≡ none) ⊎ (theirs.owner ≡ f.owner)
+  pub owner : (theirs.owner ≡ None) ⊎ (theirs.owner ≡ f.owner)

@@ -4,7 +4,7 @@ use Prim.Native.Nat.{ℕ}
 use native.Mathlib.Omega.{arith}
 use mathlib.Core.Path.{◌≡◌, refl, sym, ap, ap₂, ◌∙◌}
 use mathlib.Core.Bool.{Bool, true, false, cond}
-use mathlib.Core.Option.{none, some}
+use Rattle.std.specs.Prelude.{None, Some}
 use mathlib.Core.List.{List, [], ◌∷◌, ◌++◌}
 use borrow.Author.Tests.{ne_eqb}
 use lib.Dec.{ltb, eqb}
@@ -56,7 +56,7 @@ module _ (k : Kind) (xs ps : List ℕ) (n : ℕ) (s : Settled k xs ps n) where
         ∙ ap (λ (b : Bool). line_if b 0 KindChanged ++ cut_line (extra k xs).cut) m
         ∙ by (ltb (head_size k) (length xs))
       where
-        by : (b : Bool) → cut_line (cond b (some (head_size k)) none) ≡ line_if b (head_size k) TailCut
+        by : (b : Bool) → cut_line (cond b (Some (head_size k)) None) ≡ line_if b (head_size k) TailCut
         by true = refl
         by false = refl
 

@@ -3,7 +3,7 @@ use Prim.Native.Nat.{ℕ, suc, ◌+◌, ◌*◌, ◌^◌, ◌≤◌, ◌<◌}
 use native.Mathlib.Omega.{arith}
 use mathlib.Core.Path.{◌≡◌, ap}
 use mathlib.Core.Bool.{Bool, true, false, cond}
-use mathlib.Core.Option.{Option, none, some}
+use Rattle.std.specs.Prelude.{Option, None, Some}
 use mathlib.Core.List.{List, [], ◌∷◌, ◌++◌}
 use lib.ListN.{length, take, drop, length-append, length-take}
 use Rattle.fields_spec.specs.Varint.{high, value, varint}
@@ -41,8 +41,8 @@ use Rattle.repair_spec.proofs.AnswerRead.{left_canonical, left_proper, Answered,
 chain_few : (k : Kind) (d : List ℕ) (base : ℕ) (before : List ℕ) (at : ℕ) (os : List Old) (c : Option ℕ) → Chain k d at os c → at ≤ length d
     → at + 2 * length (lines_after base before os ++ cut_line c) ≤ length d + 2
 unfolding lines_after
-chain_few k d base before at [] none p h = omega arith
-chain_few k d base before at [] (some c) p h = omega arith
+chain_few k d base before at [] None p h = omega arith
+chain_few k d base before at [] (Some c) p h = omega arith
 chain_few k d base before at (o ∷ os) c p h =
     let x = dropped base (again base o.epoch os) o in
     let ls = record_lines x (some_above o.epoch before) o in

@@ -5,7 +5,7 @@ use native.Mathlib.Decide.{dec_lt}
 use native.Mathlib.Omega.{arith}
 use mathlib.Core.Path.{◌≡◌, refl, sym, ap, ap₂, subst, ◌∙◌}
 use mathlib.Core.Bool.{Bool, true, false, cond, not, ◌&&◌}
-use mathlib.Core.Option.{Option, none, some}
+use Rattle.std.specs.Prelude.{Option, None, Some}
 use mathlib.Core.List.{List, [], ◌∷◌, ◌++◌}
 use borrow.Author.Tests.{lt-ltb, le-ltb, eq-eqb, ne_eqb}
 use lib.Dec.{ltb, eqb}
@@ -102,8 +102,8 @@ Highest before h = (e : ℕ) → some_above e before ≡ ltb e h
 
 highest_kept : (x : Option Change) (o : Old) (before : List ℕ) (h : ℕ) → Highest before h → Highest (keeping x o before) (higher x o h)
 unfolding some_above
-highest_kept (some c) o before h s e = s e
-highest_kept none o before h s e = rw (s e) (by (dec_lt e o.epoch) (dec_lt o.epoch h))
+highest_kept (Some c) o before h s e = s e
+highest_kept None o before h s e = rw (s e) (by (dec_lt e o.epoch) (dec_lt o.epoch h))
   where
     by : Dec (e < o.epoch) → Dec (o.epoch < h) → cond (ltb e o.epoch) true (ltb e h) ≡ ltb e (cond (ltb o.epoch h) h o.epoch)
     by (yes p) (yes q) = rw (lt-ltb e o.epoch p, lt-ltb o.epoch h q, lt-ltb e h (omega arith))

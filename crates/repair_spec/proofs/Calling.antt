@@ -4,7 +4,7 @@ use Prim.Native.Nat.{ℕ, ◌≤◌, ◌<◌}
 use native.Mathlib.Omega.{arith}
 use mathlib.Core.Path.{◌≡◌, refl, sym, ap, ◌∙◌}
 use mathlib.Core.Bool.{Bool, true, false, cond}
-use mathlib.Core.Option.{Option, none, some}
+use Rattle.std.specs.Prelude.{Option, None, Some}
 use mathlib.Core.List.{List, [], ◌∷◌}
 use borrow.Author.Tests.{le-leb, lt-leb}
 use lib.Dec.{leb, eqb}
@@ -46,9 +46,9 @@ as_flags k xs = by (multi k) (leb (head_size k) (length xs)) (eqb (length xs) (h
     by : (b c d : Bool) (f : Option Fault) (rs : List At)
         → cond b (cond c (with_records end (base_in k xs) (owner_in k xs) f rs) (refused_at WrongSize end))
         (cond d (some_flags (flags (base_in k xs) (owner_in k xs) [])) (refused_at WrongSize end)) ≡ no_flags → ⊥
-    by true true d (some f) rs e = let z : ◌≡◌ {A = ℕ} 0 1 = cc in omega arith
-    by true true d none [] e = let z : ◌≡◌ {A = ℕ} 0 1 = cc in omega arith
-    by true true d none (r ∷ rs) e = let z : ◌≡◌ {A = ℕ} 0 1 = cc in omega arith
+    by true true d (Some f) rs e = let z : ◌≡◌ {A = ℕ} 0 1 = cc in omega arith
+    by true true d None [] e = let z : ◌≡◌ {A = ℕ} 0 1 = cc in omega arith
+    by true true d None (r ∷ rs) e = let z : ◌≡◌ {A = ℕ} 0 1 = cc in omega arith
     by true false d f rs e = let z : ◌≡◌ {A = ℕ} 0 1 = cc in omega arith
     by false c true f rs e = let z : ◌≡◌ {A = ℕ} 0 1 = cc in omega arith
     by false c false f rs e = let z : ◌≡◌ {A = ℕ} 0 1 = cc in omega arith

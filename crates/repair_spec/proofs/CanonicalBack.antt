@@ -5,7 +5,8 @@ use native.Mathlib.Decide.{ℕ_discrete}
 use native.Mathlib.Omega.{arith}
 use mathlib.Core.Path.{◌≡◌, refl, sym, ap, ◌∙◌}
 use mathlib.Core.Bool.{Bool, true, false}
-use mathlib.Core.Option.{Option, none, some, some-ne-none, none-ne-some, some-injective}
+use Rattle.std.specs.Prelude.{Option, None, Some}
+use Rattle.std.proofs.lemmas.Option.{none-some, same_Some}
 use mathlib.Core.List.{List, [], ◌∷◌, ◌++◌}
 use borrow.Author.Tests.{le-ltb, le-leb, leb-true}
 use lib.ListN.{length, take, drop}
@@ -89,7 +90,7 @@ old_of at r u = record { offset = at; epoch = r.epoch; count = r.bytes; size = u
 record Found (at : ℕ) (xs : List ℕ) (r : At) (u : ℕ) : Type 0 where
   pub small : r.bytes ≤ largest
   pub as_written : u ≡ length (record_bytes r)
-  pub is_old : old_at at xs ≡ some (old_of at r u)
+  pub is_old : old_at at xs ≡ Some (old_of at r u)
 
 next_old : (at prev : ℕ) (xs : List ℕ) (r : At) (u : ℕ) → next prev xs ≡ good r u → Found at xs r u
 next_old at prev xs r u q =
@@ -104,36 +105,36 @@ next_old at prev xs r u q =
       as_written = omega (arith, g.size, a.least, length_record r);
       is_old =
           old_there_lem at xs (omega (arith, g.size, g.inside)) (omega (arith, a.used, a.least)) (omega (arith, a.used, a.inside))
-          ∙ (λ i. some (record { offset = at; epoch = e i; count = c i; size = s i }));
+          ∙ (λ i. Some (record { offset = at; epoch = e i; count = c i; size = s i }));
     }
 
 -- old records that are those that reading finds
 record Same (base prev : ℕ) (os : List Old) (c : Option ℕ) (p : Parsed) : Type 0 where
-  pub uncut : c ≡ none
+  pub uncut : c ≡ None
   pub plain : Plain prev os
   pub same : map_of base os ≡ p.records
 
 module _ (k : Kind) (d : List ℕ) (base : ℕ) (m : multi k ≡ true) where
   -- where nothing is at fault, a record stands there
-  no_fault : (at prev : ℕ) → at < length d → (rest d at prev).fault ≡ none → (r : At) × (u : ℕ) × (next prev (drop at d) ≡ good r u)
+  no_fault : (at prev : ℕ) → at < length d → (rest d at prev).fault ≡ None → (r : At) × (u : ℕ) × (next prev (drop at d) ≡ good r u)
   no_fault at prev h z = by (next prev (drop at d)) refl
     where
       by : (x : Next) → next prev (drop at d) ≡ x → (r : At) × (u : ℕ) × (next prev (drop at d) ≡ good r u)
-      by (bad r) q = absurd (some-ne-none _ (sym (ap (λ (p : Parsed). p.fault) (rest_bad d at prev r h q)) ∙ z))
+      by (bad r) q = absurd (none-some _ (sym (sym (ap (λ (p : Parsed). p.fault) (rest_bad d at prev r h q)) ∙ z)))
       by (good r u) q = (r, u, q)
 
-  same_end : (at prev : ℕ) (c : Option ℕ) → Ends k d at c → (rest d at prev).fault ≡ none → Same base prev [] c (rest d at prev)
+  same_end : (at prev : ℕ) (c : Option ℕ) → Ends k d at c → (rest d at prev).fault ≡ None → Same base prev [] c (rest d at prev)
   same_end at prev c (all_read h) z = record { uncut = refl; plain = tt; same = map_none base [] ∙ rw (rest_end d at prev h) }
   same_end at prev c (bytes_left h q) z =
       let n = no_fault at prev h z in
-      absurd (none-ne-some _ (sym (q m) ∙ (next_old at prev (drop at d) n.0 n.1 n.2).is_old))
+      absurd (none-some _ (sym (q m) ∙ (next_old at prev (drop at d) n.0 n.1 n.2).is_old))
 
   same_more : (at prev : ℕ) (r : At) (u : ℕ) (o : Old) (os : List Old) (c : Option ℕ) → base ≤ prev → next prev (drop at d) ≡ good r u → Link d at o
-      → (base ≤ o.epoch → (rest d (at + o.size) o.epoch).fault ≡ none → Same base o.epoch os c (rest d (at + o.size) o.epoch))
-      → (rest d at prev).fault ≡ none → Same base prev (o ∷ os) c (rest d at prev)
+      → (base ≤ o.epoch → (rest d (at + o.size) o.epoch).fault ≡ None → Same base o.epoch os c (rest d (at + o.size) o.epoch))
+      → (rest d at prev).fault ≡ None → Same base prev (o ∷ os) c (rest d at prev)
   same_more at prev r u o os c b q l later z =
       let f = next_old at prev (drop at d) r u q in
-      let is : o ≡ old_of at r u = some-injective _ _ (sym l.there ∙ f.is_old) in
+      let is : o ≡ old_of at r u = same_Some _ _ (sym l.there ∙ f.is_old) in
       let up : prev < o.epoch = rw is (next_good prev (drop at d) r u q).above in
       let small : o.count ≤ largest = rw is f.small in
       let step : rest d at prev ≡ before (o.epoch ⦂ o.count) (rest d (at + o.size) o.epoch) =
@@ -148,7 +149,7 @@ module _ (k : Kind) (d : List ℕ) (base : ℕ) (m : multi k ≡ true) where
             ∙ sym (ap (λ (p : Parsed). p.records) step);
       }
 
-  chain_same : (at prev : ℕ) (os : List Old) (c : Option ℕ) → base ≤ prev → Chain k d at os c → (rest d at prev).fault ≡ none
+  chain_same : (at prev : ℕ) (os : List Old) (c : Option ℕ) → base ≤ prev → Chain k d at os c → (rest d at prev).fault ≡ None
       → Same base prev os c (rest d at prev)
   chain_same at prev [] c b p z = same_end at prev c p z
   chain_same at prev (o ∷ os) c b p z =
@@ -188,7 +189,7 @@ unfolding map_onto lines_after
 stays_single k xs m h = record { left_is = rw m; no_line = simp (m, le-ltb (head_size k) (length xs) (omega arith)) }
 
 -- kinds 1 and 3: at least one record, and none at fault
-stays_multi : (k : Kind) (xs : List ℕ) → multi k ≡ true → (records_in k xs).fault ≡ none → 1 ≤ length (records_in k xs).records
+stays_multi : (k : Kind) (xs : List ℕ) → multi k ≡ true → (records_in k xs).fault ≡ None → 1 ≤ length (records_in k xs).records
     → Stays k xs (records_in k xs).records
 stays_multi k xs m z h =
     let base = base_in k xs in

@@ -5,7 +5,7 @@ use native.Mathlib.Decide.{dec_lt}
 use native.Mathlib.Omega.{arith}
 use mathlib.Core.Path.{◌≡◌, refl, sym, subst}
 use mathlib.Core.Bool.{Bool, true, false}
-use mathlib.Core.Option.{Option, none, some}
+use Rattle.std.specs.Prelude.{Option, None, Some}
 use mathlib.Core.List.{List, [], ◌∷◌, ◌++◌}
 use borrow.Author.Tests.{lt-ltb, le-ltb}
 use lib.ListN.{length, drop}
@@ -29,8 +29,8 @@ rest_chain k (suc f) d at g =
     by : at < length d → (x : Option Old) → old_at at (drop at d) ≡ x
         → ((j : ℕ) → length d ≤ j + f → Chain k d j (rest d j).records (rest d j).cut)
         → Chain k d at (rest d at).records (rest d at).cut
-    by i none q ih = rw (rest_cut d at i q) (bytes_left i (λ m. q))
-    by i (some o) q ih =
+    by i None q ih = rw (rest_cut d at i q) (bytes_left i (λ m. q))
+    by i (Some o) q ih =
         let t = rest_more d at o i q in
         rw t.step
         (record { there = q; starts = t.starts; some_bytes = t.some_bytes; inside = t.inside }, ih (at + o.size) (omega (arith, t.some_bytes)))
@@ -74,8 +74,8 @@ behind_from at [] = omega arith
 behind_from at (o ∷ os) = omega (arith, behind_from (at + o.size) os)
 
 -- the cut stands there
-cut_behind : (k : Kind) (d : List ℕ) (at c : ℕ) → Ends k d at (some c) → at ≡ c
+cut_behind : (k : Kind) (d : List ℕ) (at c : ℕ) → Ends k d at (Some c) → at ≡ c
 cut_behind k d at c (bytes_left h q) = refl
 
-pub chain_cut : (k : Kind) (d : List ℕ) (at : ℕ) (os : List Old) (c : ℕ) → Chain k d at os (some c) → at ≤ c
-chain_cut k d at os c p = omega (arith, behind_from at os, cut_behind k d (behind_all at os) c (chain_ends k d at os (some c) p))
+pub chain_cut : (k : Kind) (d : List ℕ) (at : ℕ) (os : List Old) (c : ℕ) → Chain k d at os (Some c) → at ≤ c
+chain_cut k d at os c p = omega (arith, behind_from at os, cut_behind k d (behind_all at os) c (chain_ends k d at os (Some c) p))

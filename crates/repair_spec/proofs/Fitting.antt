@@ -4,7 +4,7 @@ use native.Mathlib.Decide.{dec_lt}
 use native.Mathlib.Omega.{arith}
 use mathlib.Core.Path.{◌≡◌, refl, ap, ◌∙◌}
 use mathlib.Core.Bool.{Bool, true, false, cond, ◌&&◌, and-false, and-eq-true_iff}
-use mathlib.Core.Option.{Option, none, some}
+use Rattle.std.specs.Prelude.{Option, None, Some}
 use mathlib.Core.List.{List, [], ◌∷◌, ◌++◌, append_assoc}
 use lib.Dec.{leb, ltb, eqb}
 use borrow.Author.Tests.{lt-ltb, le-ltb, le-leb, lt-leb, eq-eqb, ne_eqb, ltb-true, ltb-false, leb-true, eqb-true}
@@ -38,19 +38,19 @@ module _ (base : ℕ) (o : Old) where
 
   -- what becomes of a record, by whether a later one replaces it
   pub data Fate (replaced : Bool) : Type 0 where
-    too_large : largest < o.count → dropped base replaced o ≡ some TooLarge → old_fits base o ≡ false → Fate replaced
-    too_low : o.count ≤ largest → o.epoch ≤ base → dropped base replaced o ≡ some NotAboveBase → old_fits base o ≡ false → Fate replaced
-    comes_again : OldFits base o → replaced ≡ true → dropped base replaced o ≡ some Replaced → Fate replaced
-    stays : OldFits base o → replaced ≡ false → dropped base replaced o ≡ none → Fate replaced
+    too_large : largest < o.count → dropped base replaced o ≡ Some TooLarge → old_fits base o ≡ false → Fate replaced
+    too_low : o.count ≤ largest → o.epoch ≤ base → dropped base replaced o ≡ Some NotAboveBase → old_fits base o ≡ false → Fate replaced
+    comes_again : OldFits base o → replaced ≡ true → dropped base replaced o ≡ Some Replaced → Fate replaced
+    stays : OldFits base o → replaced ≡ false → dropped base replaced o ≡ None → Fate replaced
 
   module _ (replaced : Bool) where
-    pub dropped_large : largest < o.count → dropped base replaced o ≡ some TooLarge
+    pub dropped_large : largest < o.count → dropped base replaced o ≡ Some TooLarge
     dropped_large h = simp (lt-ltb largest o.count h)
 
-    pub dropped_low : o.count ≤ largest → o.epoch ≤ base → dropped base replaced o ≡ some NotAboveBase
+    pub dropped_low : o.count ≤ largest → o.epoch ≤ base → dropped base replaced o ≡ Some NotAboveBase
     dropped_low h l = simp (le-ltb largest o.count h, le-leb o.epoch base l)
 
-    pub dropped_fits : OldFits base o → dropped base replaced o ≡ cond replaced (some Replaced) none
+    pub dropped_fits : OldFits base o → dropped base replaced o ≡ cond replaced (Some Replaced) None
     dropped_fits f = simp (le-ltb largest o.count f.small, lt-leb o.epoch base f.above)
 
     pub fate : Fate replaced
@@ -66,8 +66,8 @@ module _ (base : ℕ) (o : Old) where
         ]
       where
         by : (b : Bool) → replaced ≡ b → OldFits base o → Fate replaced
-        by true e f = comes_again f e (dropped_fits f ∙ ap (λ (b : Bool). cond b (some Replaced) none) e)
-        by false e f = stays f e (dropped_fits f ∙ ap (λ (b : Bool). cond b (some Replaced) none) e)
+        by true e f = comes_again f e (dropped_fits f ∙ ap (λ (b : Bool). cond b (Some Replaced) None) e)
+        by false e f = stays f e (dropped_fits f ∙ ap (λ (b : Bool). cond b (Some Replaced) None) e)
 
 -- ---- the records behind it
 
@@ -100,7 +100,7 @@ module _ (base e : ℕ) (o : Old) (os : List Old) where
 
 module _ (base : ℕ) (before : List ℕ) (o : Old) (os : List Old) where
   -- of a kept record
-  pub lines_kept : dropped base (again base o.epoch os) o ≡ none
+  pub lines_kept : dropped base (again base o.epoch os) o ≡ None
       → lines_after base before (o ∷ os) ≡ kept_lines (some_above o.epoch before) o ++ lines_after base (o.epoch ∷ before) os
   unfolding lines_after
   lines_kept e = ap (λ (x : Option Change). record_lines x (some_above o.epoch before) o ++ lines_after base (keeping x o before) os) e

@@ -5,7 +5,7 @@ use native.Mathlib.Decide.{dec_lt}
 use native.Mathlib.Omega.{arith}
 use mathlib.Core.Path.{◌≡◌, refl, sym, ap, ◌∙◌}
 use mathlib.Core.Bool.{Bool, true, false, cond, ◌&&◌}
-use mathlib.Core.Option.{Option, none, some}
+use Rattle.std.specs.Prelude.{Option, None, Some}
 use mathlib.Core.List.{List}
 use borrow.Author.Tests.{le-leb, lt-leb}
 use lib.Dec.{leb, eqb}
@@ -24,10 +24,10 @@ use Rattle.repair_spec.proofs.Padding.{capped_small, capped_above, says}
 
 -- ---- forwards
 
-pub got_fits : (o : Old) → o.count ≤ largest → got_old_of (some o) ≡ Fits o.epoch o.count (o.offset + o.size)
+pub got_fits : (o : Old) → o.count ≤ largest → got_old_of (Some o) ≡ Fits o.epoch o.count (o.offset + o.size)
 got_fits o h = rw (le-leb o.count largest h)
 
-pub got_large : (o : Old) → largest < o.count → got_old_of (some o) ≡ TooLarge (o.offset + o.size)
+pub got_large : (o : Old) → largest < o.count → got_old_of (Some o) ≡ TooLarge (o.offset + o.size)
 got_large o h = rw (lt-leb o.count largest h)
 
 -- a complete varint is whole or strange
@@ -53,7 +53,7 @@ module _ (d : List ℕ) (at : ℕ) (long : at + 2 ≤ length d) where
   two : 2 ≤ length (drop at d)
   two = rw length-drop (omega arith)
 
-  pub at_incomplete : found count_bytes ≡ incomplete → old_at at (drop at d) ≡ none
+  pub at_incomplete : found count_bytes ≡ incomplete → old_at at (drop at d) ≡ None
   at_incomplete e =
       elim (dec_lt (high count_bytes) 10) [
         | yes t ↦
@@ -74,10 +74,10 @@ module _ (d : List ℕ) (at : ℕ) (long : at + 2 ≤ length d) where
     size = 3 + high count_bytes;
   }
 
-  at_complete : high count_bytes < 10 → high count_bytes < length count_bytes → old_at at (drop at d) ≡ some standing
+  at_complete : high count_bytes < 10 → high count_bytes < length count_bytes → old_at at (drop at d) ≡ Some standing
   at_complete t l =
       old_there_lem at (drop at d) two (rw behind t) (rw behind l)
-      ∙ ap (λ (xs : List ℕ). some (record {
+      ∙ ap (λ (xs : List ℕ). Some (record {
         offset = at;
         epoch = said (take 2 (drop at d));
         count = value (take (suc (high xs)) xs);
@@ -98,7 +98,7 @@ module _ (d : List ℕ) (at : ℕ) (long : at + 2 ≤ length d) where
 
   module _ (e : found count_bytes ≡ notCanonical) (epoch next sum : ℕ) (ee : epoch ≡ said (take 2 (drop at d)))
       (en : next ≡ (at + 2) + suc (high count_bytes)) (es : sum ≡ count_capped (says d (at + 2) next)) where
-    there : old_at at (drop at d) ≡ some standing
+    there : old_at at (drop at d) ≡ Some standing
     there = at_complete (other_inside e).0 (other_inside e).1
 
     all_groups : says d (at + 2) next ≡ standing.count
@@ -133,9 +133,9 @@ old_parts : (o : Old) (at e c s : ℕ) → o.offset ≡ at → o.epoch ≡ e →
     → o ≡ record { offset = at; epoch = e; count = c; size = s }
 old_parts o at e c s p q r t z = record { offset = p z; epoch = q z; count = r z; size = t z }
 
-pub is_cut : (x : Option Old) → Cut ≡ got_old_of x → x ≡ none
-is_cut none e = refl
-is_cut (some o) e =
+pub is_cut : (x : Option Old) → Cut ≡ got_old_of x → x ≡ None
+is_cut None e = refl
+is_cut (Some o) e =
     elim (dec_lt largest o.count) [
       | yes h ↦ let f : Cut ≡ TooLarge (o.offset + o.size) = e ∙ got_large o h in let z : ◌≡◌ {A = ℕ} 0 1 = cc in absurd (omega arith)
       | no h ↦ let f : Cut ≡ Fits o.epoch o.count (o.offset + o.size) = e ∙ got_fits o (omega arith) in let z : ◌≡◌ {A = ℕ} 0 1 = cc in
@@ -145,13 +145,13 @@ is_cut (some o) e =
 -- a record whose count is too large, and the place behind it
 pub record Large (x : Option Old) (next : ℕ) : Type 0 where
   pub old : Old
-  pub is : x ≡ some old
+  pub is : x ≡ Some old
   pub large : largest < old.count
   pub behind : next ≡ old.offset + old.size
 
 pub is_large : (x : Option Old) (next : ℕ) → TooLarge next ≡ got_old_of x → Large x next
-is_large none next e = let z : ◌≡◌ {A = ℕ} 0 1 = cc in absurd (omega arith)
-is_large (some o) next e =
+is_large None next e = let z : ◌≡◌ {A = ℕ} 0 1 = cc in absurd (omega arith)
+is_large (Some o) next e =
     elim (dec_lt largest o.count) [
       | yes h ↦ let f : TooLarge next ≡ TooLarge (o.offset + o.size) = e ∙ got_large o h in record { old = o; is = refl; large = h; behind = cc }
       | no h ↦ let f : TooLarge next ≡ Fits o.epoch o.count (o.offset + o.size) = e ∙ got_fits o (omega arith) in
@@ -161,15 +161,15 @@ is_large (some o) next e =
 -- a record whose count fits
 pub record Fitting (x : Option Old) (e c next : ℕ) : Type 0 where
   pub old : Old
-  pub is : x ≡ some old
+  pub is : x ≡ Some old
   pub small : old.count ≤ largest
   pub epoch_is : old.epoch ≡ e
   pub count_is : old.count ≡ c
   pub behind : next ≡ old.offset + old.size
 
 pub is_fitting : (x : Option Old) (e c next : ℕ) → Fits e c next ≡ got_old_of x → Fitting x e c next
-is_fitting none e c next q = let z : ◌≡◌ {A = ℕ} 0 1 = cc in absurd (omega arith)
-is_fitting (some o) e c next q =
+is_fitting None e c next q = let z : ◌≡◌ {A = ℕ} 0 1 = cc in absurd (omega arith)
+is_fitting (Some o) e c next q =
     elim (dec_lt largest o.count) [
       | yes h ↦ let f : Fits e c next ≡ TooLarge (o.offset + o.size) = q ∙ got_large o h in let z : ◌≡◌ {A = ℕ} 0 1 = cc in absurd (omega arith)
       | no h ↦

@@ -3,7 +3,7 @@ use Prim.Native.Nat.{ℕ, ◌+◌, ◌*◌, ◌≤◌}
 use native.Mathlib.Omega.{arith}
 use mathlib.Core.Path.{◌≡◌, refl, sym, ap, ◌∙◌}
 use mathlib.Core.Bool.{Bool, true, false}
-use mathlib.Core.Option.{Option, none, some}
+use Rattle.std.specs.Prelude.{Option, None, Some}
 use mathlib.Core.List.{List, ◌++◌}
 use borrow.Author.Tests.{ltb-true}
 use lib.Dec.{ltb}
@@ -40,5 +40,5 @@ kept_few moved o h = by (ltb (length (record_bytes (o.epoch ⦂ o.count))) o.siz
     by false e = omega (arith, line_if_short moved o.offset Moved)
 
 pub record_few : (x : Option Change) (moved : Bool) (o : Old) → 3 ≤ o.size → 2 * length (record_lines x moved o) ≤ o.size
-record_few (some c) moved o h = omega arith
-record_few none moved o h = kept_few moved o h
+record_few (Some c) moved o h = omega arith
+record_few None moved o h = kept_few moved o h

@@ -2,7 +2,7 @@
 use Prim.Native.Nat.{ℕ, ◌+◌, ◌≤◌, ◌<◌}
 use mathlib.Core.Path.{◌≡◌, sym, ap, ◌∙◌}
 use mathlib.Core.Bool.{not}
-use mathlib.Core.Option.{Option, none, some}
+use Rattle.std.specs.Prelude.{Option, None, Some}
 use mathlib.Core.List.{List, [], ◌∷◌, ◌++◌, append_assoc}
 use lib.Dec.{ltb, eqb}
 use lib.ListN.{length, get_or, drop}
@@ -20,7 +20,7 @@ module _ (base : ℕ) (ps : List ℕ) (highest : ℕ) (d : List ℕ) (at : ℕ) 
   unfolding lines_by
   lines_end h = ap (λ (p : Olds). lines_by base ps highest p.records ++ cut_line p.cut) (rest_end d at h)
 
-  pub lines_cut : at < length d → old_at at (drop at d) ≡ none → lines_from base ps highest at d ≡ line at TailCut ∷ []
+  pub lines_cut : at < length d → old_at at (drop at d) ≡ None → lines_from base ps highest at d ≡ line at TailCut ∷ []
   unfolding lines_by
   lines_cut h q = ap (λ (p : Olds). lines_by base ps highest p.records ++ cut_line p.cut) (rest_cut d at h q)
 
@@ -45,7 +45,7 @@ module _ (base : ℕ) (ps : List ℕ) (highest : ℕ) (d : List ℕ) (at : ℕ) 
     lines_large l =
         let o = l.old in
         let t = large_turn d at more next l in
-        let e : dropping o ≡ some TooLarge = dropped_large base o (not (eqb (get_or ps o.epoch 0) o.offset)) l.large in
+        let e : dropping o ≡ Some TooLarge = dropped_large base o (not (eqb (get_or ps o.epoch 0) o.offset)) l.large in
         lines_more o next t.0 t.1
         ∙ ap (λ (x : Option Change). record_lines x (ltb o.epoch highest) o ++ lines_from base ps (higher x o highest) next d) e
         ∙ ap (λ (n : ℕ). line n TooLarge ∷ lines_from base ps highest next d) t.0.starts

@@ -3,7 +3,7 @@ use Prim.Native.Nat.{ℕ, ◌<◌}
 use native.Mathlib.Omega.{arith}
 use mathlib.Core.Path.{◌≡◌, refl, sym, ap, ◌∙◌}
 use mathlib.Core.Bool.{Bool, true, false}
-use mathlib.Core.Option.{Option, none, some}
+use Rattle.std.specs.Prelude.{Option, None, Some}
 use mathlib.Core.List.{List, [], ◌∷◌, ◌++◌, append-nil, append_assoc}
 use borrow.Author.Tests.{eq-eqb, ne_eqb}
 use Rattle.records_spec.specs.Tables.{At}
@@ -35,8 +35,8 @@ past_if false n m c ls h = refl
 
 at_record : (x : Option Change) (moved : Bool) (o : Old) (ls : List Line)
     → lines_at o.offset (record_lines x moved o ++ ls) ≡ record_lines x moved o ++ lines_at o.offset ls
-at_record (some c) moved o ls = simp (eq-eqb o.offset o.offset refl)
-at_record none moved o ls =
+at_record (Some c) moved o ls = simp (eq-eqb o.offset o.offset refl)
+at_record None moved o ls =
     let n = o.offset in
     let one : List Line = line_if (longer o) n ReEncoded in
     let two : List Line = line_if moved n Moved in
@@ -52,8 +52,8 @@ only_record x moved o a ls h p = at_record x moved o ls ∙ rw (at_below o.offse
 
 pub past_record : (n : ℕ) (x : Option Change) (moved : Bool) (o : Old) (ls : List Line) → (n ≡ o.offset → ⊥)
     → lines_at n (record_lines x moved o ++ ls) ≡ lines_at n ls
-past_record n (some c) moved o ls h = simp (ne_eqb n o.offset h)
-past_record n none moved o ls h =
+past_record n (Some c) moved o ls h = simp (ne_eqb n o.offset h)
+past_record n None moved o ls h =
     let two : List Line = line_if moved o.offset Moved in
     ap (lines_at n) (append_assoc (line_if (longer o) o.offset ReEncoded) two ls)
     ∙ past_if (longer o) n o.offset ReEncoded (two ++ ls) h

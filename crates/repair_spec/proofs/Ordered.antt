@@ -4,7 +4,7 @@ use Prim.Native.Nat.{ℕ, ◌+◌, ◌≤◌}
 use native.Mathlib.Omega.{arith}
 use mathlib.Core.Path.{◌≡◌}
 use mathlib.Core.Bool.{Bool, true, false}
-use mathlib.Core.Option.{Option, none, some}
+use Rattle.std.specs.Prelude.{Option, None, Some}
 use mathlib.Core.List.{List, [], ◌∷◌, ◌++◌, append_assoc}
 use Rattle.records_spec.specs.Tables.{At}
 use Rattle.records_spec.specs.Flags.{multi}
@@ -33,8 +33,8 @@ climbs_if false a n c ls h p = climbs_lower a n ls h p
 -- the lines of a record, before those behind its offset
 climbs_record : (d : Option Change) (moved : Bool) (a : ℕ) (o : Old) (ls : List Line) → a ≤ o.offset → Climbs o.offset ls
     → Climbs a (record_lines d moved o ++ ls)
-climbs_record (some c) moved a o ls h p = (h, p)
-climbs_record none moved a o ls h p =
+climbs_record (Some c) moved a o ls h p = (h, p)
+climbs_record None moved a o ls h p =
     let n : ℕ = o.offset in
     rw (append_assoc (line_if (longer o) n ReEncoded) (line_if moved n Moved) ls)
     (climbs_if (longer o) a n ReEncoded (line_if moved n Moved ++ ls) h (climbs_if moved n n Moved ls (omega arith) p))

@@ -5,7 +5,7 @@ use native.Mathlib.Decide.{dec_lt}
 use native.Mathlib.Nat.{add-zero}
 use native.Mathlib.Omega.{arith}
 use mathlib.Core.Path.{◌≡◌, refl, sym, ap, ◌∙◌}
-use mathlib.Core.Option.{Option, none, some}
+use Rattle.std.specs.Prelude.{Option, None, Some}
 use mathlib.Core.List.{List, [], ◌∷◌}
 use borrow.Author.Tests.{lt-ltb, le-ltb, le-leb, lt-leb}
 use lib.ListN.{length, take, drop, length-drop, drop_of_length-le}
@@ -16,16 +16,16 @@ use Rattle.repair_spec.specs.Olds.{Old, old_at, Olds, following_old, olds}
 
 -- ---- one record
 
-pub old_short : (at : ℕ) (xs : List ℕ) → length xs < 2 → old_at at xs ≡ none
+pub old_short : (at : ℕ) (xs : List ℕ) → length xs < 2 → old_at at xs ≡ None
 unfolding old_at
 old_short at xs h = simp (lt-leb 2 (length xs) h)
 
 -- ten continued bytes, or bytes that end before the varint
-pub old_ten : (at : ℕ) (xs : List ℕ) → 2 ≤ length xs → 10 ≤ high (drop 2 xs) → old_at at xs ≡ none
+pub old_ten : (at : ℕ) (xs : List ℕ) → 2 ≤ length xs → 10 ≤ high (drop 2 xs) → old_at at xs ≡ None
 unfolding old_at
 old_ten at xs h t = simp (le-leb 2 (length xs) h, le-ltb (high (drop 2 xs)) 10 t)
 
-pub old_cut : (at : ℕ) (xs : List ℕ) → 2 ≤ length xs → length (drop 2 xs) ≤ high (drop 2 xs) → old_at at xs ≡ none
+pub old_cut : (at : ℕ) (xs : List ℕ) → 2 ≤ length xs → length (drop 2 xs) ≤ high (drop 2 xs) → old_at at xs ≡ None
 unfolding old_at
 old_cut at xs h t =
     elim (dec_lt (high (drop 2 xs)) 10) [
@@ -43,7 +43,7 @@ old_there at xs = record {
 }
 
 pub old_there_lem : (at : ℕ) (xs : List ℕ) → 2 ≤ length xs → high (drop 2 xs) < 10 → high (drop 2 xs) < length (drop 2 xs)
-    → old_at at xs ≡ some (old_there at xs)
+    → old_at at xs ≡ Some (old_there at xs)
 unfolding old_at
 old_there_lem at xs h t l = simp (le-leb 2 (length xs) h, lt-ltb (high (drop 2 xs)) 10 t, lt-ltb (high (drop 2 xs)) (length (drop 2 xs)) l)
 
@@ -54,13 +54,13 @@ pub record There (at : ℕ) (xs : List ℕ) (o : Old) : Type 0 where
   pub long : 2 ≤ length xs
   pub is : o ≡ old_there at xs
 
-some_same : (x y : Old) → some x ≡ some y → x ≡ y
+some_same : (x y : Old) → Some x ≡ Some y → x ≡ y
 some_same x y e = cc
 
-none_some : (o : Old) → ◌≡◌ {A = Option Old} none (some o) → ⊥
+none_some : (o : Old) → ◌≡◌ {A = Option Old} None (Some o) → ⊥
 none_some o e = let z : ◌≡◌ {A = ℕ} 0 1 = cc in omega arith
 
-pub old_inv : (at : ℕ) (xs : List ℕ) (o : Old) → old_at at xs ≡ some o → There at xs o
+pub old_inv : (at : ℕ) (xs : List ℕ) (o : Old) → old_at at xs ≡ Some o → There at xs o
 old_inv at xs o e =
     elim (dec_lt (length xs) 2) [
       | yes h ↦ absurd (none_some o (sym (old_short at xs h) ∙ e))
@@ -91,11 +91,11 @@ olds_skip at (suc k) (x ∷ xs) =
     let e : suc at + k ≡ at + suc k = omega arith in
     olds_skip (suc at) k xs ∙ ap (λ (i : ℕ). olds i 0 (drop k xs)) e
 
-pub olds_nil : (at : ℕ) → olds at 0 [] ≡ record { records = []; cut = none }
+pub olds_nil : (at : ℕ) → olds at 0 [] ≡ record { records = []; cut = None }
 unfolding olds
 olds_nil at = refl
 
-pub olds_cut : (at : ℕ) (xs : List ℕ) → 1 ≤ length xs → old_at at xs ≡ none → olds at 0 xs ≡ record { records = []; cut = some at }
+pub olds_cut : (at : ℕ) (xs : List ℕ) → 1 ≤ length xs → old_at at xs ≡ None → olds at 0 xs ≡ record { records = []; cut = Some at }
 unfolding olds
 olds_cut at [] h q = absurd (omega arith)
 olds_cut at (x ∷ xs) h q = ap (λ (n : Option Old). following_old n at (λ o. olds (suc at) (pred o.size) xs)) q
@@ -104,7 +104,7 @@ olds_cut at (x ∷ xs) h q = ap (λ (n : Option Old). following_old n at (λ o. 
 abbrev pub before : Old → Olds → Olds
 before o p = record { records = o ∷ p.records; cut = p.cut }
 
-pub olds_more : (at : ℕ) (xs : List ℕ) (o : Old) → 1 ≤ length xs → 1 ≤ o.size → old_at at xs ≡ some o
+pub olds_more : (at : ℕ) (xs : List ℕ) (o : Old) → 1 ≤ length xs → 1 ≤ o.size → old_at at xs ≡ Some o
     → olds at 0 xs ≡ before o (olds (at + o.size) 0 (drop o.size xs))
 unfolding olds
 olds_more at [] o h hu q = absurd (omega arith)
@@ -121,10 +121,10 @@ olds_more at (x ∷ xs) o h hu q =
 abbrev pub rest : List ℕ → ℕ → Olds
 rest d at = olds at 0 (drop at d)
 
-pub rest_end : (d : List ℕ) (at : ℕ) → length d ≤ at → rest d at ≡ record { records = []; cut = none }
+pub rest_end : (d : List ℕ) (at : ℕ) → length d ≤ at → rest d at ≡ record { records = []; cut = None }
 rest_end d at h = ap (olds at 0) (drop_of_length-le d {i = at} h) ∙ olds_nil at
 
-pub rest_cut : (d : List ℕ) (at : ℕ) → at < length d → old_at at (drop at d) ≡ none → rest d at ≡ record { records = []; cut = some at }
+pub rest_cut : (d : List ℕ) (at : ℕ) → at < length d → old_at at (drop at d) ≡ None → rest d at ≡ record { records = []; cut = Some at }
 rest_cut d at h q = olds_cut at (drop at d) (omega (arith, length-drop at d)) q
 
 -- a record that was read, and those behind it
@@ -134,7 +134,7 @@ pub record Turn (d : List ℕ) (at : ℕ) (o : Old) : Type 0 where
   pub starts : o.offset ≡ at
   pub step : rest d at ≡ before o (rest d (at + o.size))
 
-pub rest_more : (d : List ℕ) (at : ℕ) (o : Old) → at < length d → old_at at (drop at d) ≡ some o → Turn d at o
+pub rest_more : (d : List ℕ) (at : ℕ) (o : Old) → at < length d → old_at at (drop at d) ≡ Some o → Turn d at o
 rest_more d at o h q =
     let t = old_inv at (drop at d) o q in
     let s : o.size ≡ 3 + high (drop 2 (drop at d)) = ap (λ (x : Old). x.size) t.is in

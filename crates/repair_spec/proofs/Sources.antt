@@ -4,7 +4,7 @@ use Prim.Native.Nat.{ℕ}
 use mathlib.Core.Path.{◌≡◌, refl}
 use mathlib.Core.Logic.{⊎_elim}
 use mathlib.Core.Bool.{Bool, true, false}
-use mathlib.Core.Option.{Option, none, some}
+use Rattle.std.specs.Prelude.{Option, None, Some}
 use mathlib.Core.List.Memᴰ
 use mathlib.Core.List.{List, [], ◌∷◌, Memᴰ}
 use Rattle.records_spec.specs.Tables.{At}
@@ -27,8 +27,8 @@ if_line false n c l m = absurd (Memᴰ.not-nil m)
 
 record_line_lem : (base : ℕ) (l : Line) (o : Old) (later : List Old) (x : Option Change) (moved : Bool) → dropped base (again base o.epoch later) o ≡ x
     → Memᴰ l (record_lines x moved o) → LineOf base l o later
-record_line_lem base l o later (some c) moved e m = was_dropped c e (Memᴰ.eq_of_singleton m)
-record_line_lem base l o later none moved e m =
+record_line_lem base l o later (Some c) moved e m = was_dropped c e (Memᴰ.eq_of_singleton m)
+record_line_lem base l o later None moved e m =
     ⊎_elim
     (λ a. let p = if_line (longer o) o.offset ReEncoded l a in was_longer e p.0 p.1)
     (λ a. was_moved e (if_line moved o.offset Moved l a).1)
@@ -52,8 +52,8 @@ kind_source k xs l [] e m = let p = if_line (multi k) 0 KindChanged l m in kind_
 kind_source k xs l (r ∷ rs) e m = absurd (Memᴰ.not-nil m)
 
 cut_source : (k : Kind) (xs : List ℕ) (l : Line) (c : Option ℕ) → (olds_in k xs).cut ≡ c → Memᴰ l (cut_line c) → Source k xs l
-cut_source k xs l none e m = absurd (Memᴰ.not-nil m)
-cut_source k xs l (some c) e m = tail_cut c e (Memᴰ.eq_of_singleton m)
+cut_source k xs l None e m = absurd (Memᴰ.not-nil m)
+cut_source k xs l (Some c) e m = tail_cut c e (Memᴰ.eq_of_singleton m)
 
 -- EVERY LINE IS OF A RECORD, OR IS THE CUT, OR SAYS THAT THE KIND HAS CHANGED, which is where nothing is left of kinds 1 and 3
 pub source : (k : Kind) (xs : List ℕ) (l : Line) → Memᴰ l (lines_of k xs) → Source k xs l

@@ -4,7 +4,7 @@ use Prim.Native.Nat.{ℕ, ◌+◌, ◌≤◌, ◌<◌}
 use native.Mathlib.Omega.{arith}
 use mathlib.Core.Path.{◌≡◌, refl, sym, ap, subst, ◌∙◌}
 use mathlib.Core.Bool.{Bool, true, false, cond, ◌&&◌}
-use mathlib.Core.Option.{Option, some}
+use Rattle.std.specs.Prelude.{Option, Some}
 use mathlib.Core.List.{List, [], ◌∷◌, ◌++◌}
 use lib.Dec.{ltb}
 use borrow.Author.Tests.{eq-eqb}
@@ -57,7 +57,7 @@ module _ (k : Kind) (d : List ℕ) (base : ℕ) (o : Old) (later : List Old) (c 
 -- ---- the cut
 
 -- it stands alone behind all records
-cut_after : (k : Kind) (d : List ℕ) (base : ℕ) (before : List ℕ) (at : ℕ) (os : List Old) (c : ℕ) → Chain k d at os (some c)
+cut_after : (k : Kind) (d : List ℕ) (base : ℕ) (before : List ℕ) (at : ℕ) (os : List Old) (c : ℕ) → Chain k d at os (Some c)
     → lines_at c (lines_after base before os ++ (line c TailCut ∷ [])) ≡ line c TailCut ∷ []
 cut_after k d base before at [] c p = rw (lines_none base before, eq-eqb c c refl)
 cut_after k d base before at (o ∷ os) c p =
@@ -88,10 +88,10 @@ module _ (k : Kind) (xs : List ℕ) where
   reading_ends = chain_ends k xs (head_size k) (olds_in k xs).records (olds_in k xs).cut (read_chain k xs)
 
   -- there the line tail cut stands alone, where bytes are left
-  pub cut_told : (c : ℕ) → (olds_in k xs).cut ≡ some c → lines_at c (lines_of k xs) ≡ line c TailCut ∷ []
+  pub cut_told : (c : ℕ) → (olds_in k xs).cut ≡ Some c → lines_at c (lines_of k xs) ≡ line c TailCut ∷ []
   cut_told c e =
       let os : List Old = (olds_in k xs).records in
-      let p : Chain k xs (head_size k) os (some c) = subst (λ (x : Option ℕ). Chain k xs (head_size k) os x) e (read_chain k xs) in
+      let p : Chain k xs (head_size k) os (Some c) = subst (λ (x : Option ℕ). Chain k xs (head_size k) os x) e (read_chain k xs) in
       past_kind c k (records_left k xs) _ (omega (arith, head_three k, chain_cut k xs (head_size k) os c p))
       ∙ ap (λ (x : Option ℕ). lines_at c (lines_after (base_in k xs) [] os ++ cut_line x)) e
       ∙ cut_after k xs (base_in k xs) [] (head_size k) os c p
@@ -112,7 +112,7 @@ module _ (k : Kind) (xs : List ℕ) where
         (chain_split k xs n between p rest c (subst (λ (l : List Old). Chain k xs n l c) e record_stands.behind)).from
 
     -- and so does the cut
-    pub record_before_cut : (c : ℕ) → (olds_in k xs).cut ≡ some c → o.offset + o.size ≤ c
+    pub record_before_cut : (c : ℕ) → (olds_in k xs).cut ≡ Some c → o.offset + o.size ≤ c
     record_before_cut c e =
         let n = o.offset + o.size in
         chain_cut k xs n later c (subst (λ (x : Option ℕ). Chain k xs n later x) e record_stands.behind)

@@ -1,6 +1,6 @@
 -- The list of changes: document 02 (iv), which lines each record has. Assumes nothing.
 use Rattle.std.specs.Prelude.{ℕ, Bool, true, false, cond, ◌&&◌, List, [], ◌∷◌, ◌++◌, leb, ltb, eqb, length}
-use Rattle.std.proofs.Math.Option.{Option, none, some}
+use Rattle.std.specs.Prelude.{Option, None, Some}
 use Rattle.fields_spec.specs.Varint.{largest}
 use Rattle.records_spec.specs.Tables.{◌⦂◌}
 use Rattle.codec_spec.specs.Bytes.{record_bytes}
@@ -48,7 +48,7 @@ some_above e (x ∷ xs) = cond (ltb e x) true (some_above e xs)
 -- why a record is dropped, the first that fits; none where it is kept
 abbrev pub dropped : ℕ → Bool → Old → Option Change
 dropped base replaced o =
-    cond (ltb largest o.count) (some TooLarge) (cond (leb o.epoch base) (some NotAboveBase) (cond replaced (some Replaced) none))
+    cond (ltb largest o.count) (Some TooLarge) (cond (leb o.epoch base) (Some NotAboveBase) (cond replaced (Some Replaced) None))
 
 -- a kept record may have two lines, re-encoded (it has more bytes than are written for it) before moved
 abbrev pub kept_lines : Bool → Old → List Line
@@ -57,13 +57,13 @@ kept_lines moved o =
 
 -- a dropped record has one line
 abbrev pub record_lines : Option Change → Bool → Old → List Line
-record_lines (some c) moved o = line o.offset c ∷ []
-record_lines none moved o = kept_lines moved o
+record_lines (Some c) moved o = line o.offset c ∷ []
+record_lines None moved o = kept_lines moved o
 
 -- the epochs of the kept ones, with a record's if it is kept
 abbrev pub keeping : Option Change → Old → List ℕ → List ℕ
-keeping (some c) o before = before
-keeping none o before = o.epoch ∷ before
+keeping (Some c) o before = before
+keeping None o before = o.epoch ∷ before
 
 -- ---- all
 
@@ -76,5 +76,5 @@ lines_after base before (o ∷ os) =
 
 -- where the reading ended before the bytes did
 abbrev pub cut_line : Option ℕ → List Line
-cut_line none = []
-cut_line (some offset) = line offset TailCut ∷ []
+cut_line None = []
+cut_line (Some offset) = line offset TailCut ∷ []

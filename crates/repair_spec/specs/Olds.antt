@@ -1,7 +1,7 @@
 -- Records as they stand in old bytes: document 02 (iv), what is read of kinds 1 and 3. Nothing is judged here: a count is a whole number
 -- of any size, and epochs come in any order. Assumes nothing.
 use Rattle.std.specs.Prelude.{ℕ, zero, suc, pred, ◌+◌, cond, ◌&&◌, List, [], ◌∷◌, leb, ltb, length, take, drop}
-use Rattle.std.proofs.Math.Option.{Option, none, some}
+use Rattle.std.specs.Prelude.{Option, None, Some}
 use Rattle.fields_spec.specs.Big.{said}
 use Rattle.fields_spec.specs.Varint.{high, value}
 
@@ -16,13 +16,13 @@ pub record Old : Type 0 where
 unfoldable pub old_at : ℕ → List ℕ → Option Old
 old_at offset xs =
     cond (leb 2 (length xs) && (ltb (high (drop 2 xs)) 10 && ltb (high (drop 2 xs)) (length (drop 2 xs))))
-    (some (record {
+    (Some (record {
       offset = offset;
       epoch = said (take 2 xs);
       count = value (take (suc (high (drop 2 xs))) (drop 2 xs));
       size = 3 + high (drop 2 xs);
     }))
-    none
+    None
 
 -- the records that are read, and where the reading ends before the bytes do
 pub record Olds : Type 0 where
@@ -31,11 +31,11 @@ pub record Olds : Type 0 where
 
 -- a record that is not there ends the reading; another stands before those that go finds behind it
 abbrev pub following_old : Option Old → ℕ → (Old → Olds) → Olds
-following_old none offset go = record { records = []; cut = some offset }
-following_old (some o) offset go = record { records = o ∷ (go o).records; cut = (go o).cut }
+following_old None offset go = record { records = []; cut = Some offset }
+following_old (Some o) offset go = record { records = o ∷ (go o).records; cut = (go o).cut }
 
 -- of the bytes from an offset on, of which the first k belong to the record before
 unfoldable pub olds : ℕ → ℕ → List ℕ → Olds
-olds offset k [] = record { records = []; cut = none }
+olds offset k [] = record { records = []; cut = None }
 olds offset (suc k) (x ∷ xs) = olds (suc offset) k xs
 olds offset zero (x ∷ xs) = following_old (old_at offset (x ∷ xs)) offset (λ o. olds (suc offset) (pred o.size) xs)

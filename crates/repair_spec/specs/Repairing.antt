@@ -1,6 +1,6 @@
 -- Repairing old flag bytes: document 02 (iv), the bytes that are written and the list of changes. Assumes nothing.
 use Rattle.std.specs.Prelude.{ℕ, cond, List, [], ◌∷◌, ◌++◌, leb, ltb, length, drop}
-use Rattle.std.proofs.Math.Option.{none, some}
+use Rattle.std.specs.Prelude.{None, Some}
 use Rattle.records_spec.specs.Tables.{At}
 use Rattle.records_spec.specs.Flags.{Flags, flags, multi, kind_of_byte}
 use Rattle.records_spec.specs.Outcomes.{refused, Answer, ok, ◌unless◌, ◌>>◌}
@@ -23,7 +23,7 @@ pub record Repaired : Type 0 where
 
 -- kinds 0 and 2: extra bytes are cut
 abbrev pub extra : Kind → List ℕ → Olds
-extra k xs = record { records = []; cut = cond (ltb (head_size k) (length xs)) (some (head_size k)) none }
+extra k xs = record { records = []; cut = cond (ltb (head_size k) (length xs)) (Some (head_size k)) None }
 
 -- what is read behind the head
 abbrev pub olds_in : Kind → List ℕ → Olds

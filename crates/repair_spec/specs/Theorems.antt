@@ -1,7 +1,7 @@
 -- What the theorems on a repair speak of besides: records one after another, the last that fits, lines and where they come from, the answer.
 -- Assumes nothing.
 use Rattle.std.specs.Prelude.{ℕ, ◌+◌, ◌≤◌, ◌<◌, ◌≡◌, Bool, true, false, cond, not, ◌&&◌, List, [], ◌∷◌, ◌++◌, ltb, eqb, length, get_or, drop}
-use Rattle.std.proofs.Math.Option.{Option, none, some}
+use Rattle.std.specs.Prelude.{Option, None, Some}
 use Rattle.fields_spec.specs.Varint.{largest}
 use Rattle.records_spec.specs.Tables.{◌⦂◌, has, held}
 use Rattle.records_spec.specs.Flags.{multi, kind_of_byte}
@@ -22,15 +22,15 @@ use Rattle.repair_spec.specs.declared.change.Change.TheVariants.{ReEncoded, Tail
 
 -- the record that stands at a place
 pub record Link (d : List ℕ) (at : ℕ) (o : Old) : Type 0 where
-  pub there : old_at at (drop at d) ≡ some o
+  pub there : old_at at (drop at d) ≡ Some o
   pub starts : o.offset ≡ at
   pub some_bytes : 3 ≤ o.size
   pub inside : at + o.size ≤ length d
 
 -- where the reading ends: with the bytes; or before them, where kinds 1 and 3 have no record (kinds 0 and 2 read none)
 pub data Ends (k : Kind) (d : List ℕ) (at : ℕ) : Option ℕ → Type 0 where
-  all_read : length d ≤ at → Ends k d at none
-  bytes_left : at < length d → (multi k ≡ true → old_at at (drop at d) ≡ none) → Ends k d at (some at)
+  all_read : length d ≤ at → Ends k d at None
+  bytes_left : at < length d → (multi k ≡ true → old_at at (drop at d) ≡ None) → Ends k d at (Some at)
 
 -- records one after another from the place at on, and where the reading ends
 abbrev pub Chain : Kind → List ℕ → ℕ → List Old → Option ℕ → Type 0
@@ -111,15 +111,15 @@ Climbs a (l ∷ ls) = (a ≤ l.offset) × Climbs l.offset ls
 
 -- a line of a record: why it was dropped, or where it is kept that it was re-encoded or moved
 pub data LineOf (base : ℕ) (l : Line) (o : Old) (later : List Old) : Type 0 where
-  was_dropped : (c : Change) → dropped base (again base o.epoch later) o ≡ some c → l ≡ line o.offset c → LineOf base l o later
-  was_longer : dropped base (again base o.epoch later) o ≡ none → longer o ≡ true → l ≡ line o.offset ReEncoded → LineOf base l o later
-  was_moved : dropped base (again base o.epoch later) o ≡ none → l ≡ line o.offset Moved → LineOf base l o later
+  was_dropped : (c : Change) → dropped base (again base o.epoch later) o ≡ Some c → l ≡ line o.offset c → LineOf base l o later
+  was_longer : dropped base (again base o.epoch later) o ≡ None → longer o ≡ true → l ≡ line o.offset ReEncoded → LineOf base l o later
+  was_moved : dropped base (again base o.epoch later) o ≡ None → l ≡ line o.offset Moved → LineOf base l o later
 
 -- where a line comes from
 pub data Source (k : Kind) (xs : List ℕ) (l : Line) : Type 0 where
   kind_changed : multi k ≡ true → records_left k xs ≡ [] → l ≡ line 0 KindChanged → Source k xs l
   of_record : Among (LineOf (base_in k xs) l) (olds_in k xs).records → Source k xs l
-  tail_cut : (c : ℕ) → (olds_in k xs).cut ≡ some c → l ≡ line c TailCut → Source k xs l
+  tail_cut : (c : ℕ) → (olds_in k xs).cut ≡ Some c → l ≡ line c TailCut → Source k xs l
 
 -- ---- the answer
 

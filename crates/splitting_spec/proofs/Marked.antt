@@ -3,7 +3,7 @@
 -- Assumes nothing.
 use Prim.Native.Nat.{ℕ}
 use mathlib.Core.Path.{◌≡◌, refl}
-use mathlib.Core.Option.{Option, none, some}
+use Rattle.std.specs.Prelude.{Option, None, Some}
 use mathlib.Core.List.{List, [], ◌∷◌, map}
 use lib.ListN.{length, replicate}
 use Rattle.records_spec.specs.Tables.{At, ◌⦂◌, records_of, epochs_of, counts_of, ascending}
@@ -51,46 +51,46 @@ sections_visited o ss v t = after (ok (record { removal = state ss; visited = v 
 
 -- an owner
 abbrev someone : Option (List ℕ)
-someone = some (replicate 32 7)
+someone = Some (replicate 32 7)
 
 pub key_examples : List (Example RemovalAfter)
 key_examples =
-    example none (7 ⦂ 10 ∷ 9 ⦂ 5 ∷ []) 8 (lent 2) (sections_told none (5 ⦂ 8 ∷ []))
-    ∷ example none (7 ⦂ 10 ∷ 9 ⦂ 5 ∷ []) 0 (lent 0) (sections_told none [])
+    example None (7 ⦂ 10 ∷ 9 ⦂ 5 ∷ []) 8 (lent 2) (sections_told None (5 ⦂ 8 ∷ []))
+    ∷ example None (7 ⦂ 10 ∷ 9 ⦂ 5 ∷ []) 0 (lent 0) (sections_told None [])
     ∷ example someone (7 ⦂ 10 ∷ []) 2 (lent 1) (sections_told someone (5 ⦂ 2 ∷ []))
     ∷ example someone [] 2 (lent 1) (sections_told someone (5 ⦂ 2 ∷ []))
-    ∷ example none [] 0 (lent 0) (sections_told none [])
-    ∷ example none (7 ⦂ 1 ∷ []) 4294967292 (lent 1) (sections_told none (5 ⦂ 4294967292 ∷ []))
-    ∷ example none (7 ⦂ 1 ∷ []) 4294967293 (lent 1) (sections_told none (5 ⦂ 4294967293 ∷ []))
+    ∷ example None [] 0 (lent 0) (sections_told None [])
+    ∷ example None (7 ⦂ 1 ∷ []) 4294967292 (lent 1) (sections_told None (5 ⦂ 4294967292 ∷ []))
+    ∷ example None (7 ⦂ 1 ∷ []) 4294967293 (lent 1) (sections_told None (5 ⦂ 4294967293 ∷ []))
     ∷ example someone (7 ⦂ 1 ∷ []) 4294967295 (lent 1) (sections_told someone (5 ⦂ 4294967295 ∷ []))
-    ∷ example none (7 ⦂ 10 ∷ 9 ⦂ 5 ∷ []) 8 (lent 0) (kept 10)
-    ∷ example none (9 ⦂ 5 ∷ 7 ⦂ 10 ∷ []) 8 (lent 1) (kept 11)
-    ∷ example none (9 ⦂ 5 ∷ 7 ⦂ 10 ∷ []) 0 (lent 0) (kept 11)
+    ∷ example None (7 ⦂ 10 ∷ 9 ⦂ 5 ∷ []) 8 (lent 0) (kept 10)
+    ∷ example None (9 ⦂ 5 ∷ 7 ⦂ 10 ∷ []) 8 (lent 1) (kept 11)
+    ∷ example None (9 ⦂ 5 ∷ 7 ⦂ 10 ∷ []) 0 (lent 0) (kept 11)
     ∷ []
 
 pub value_examples : List (Example SplitAfter)
 value_examples =
-    example none (7 ⦂ 10 ∷ 9 ⦂ 5 ∷ []) 6 (lent 2) (sections_visited none (7 ⦂ 4 ∷ 9 ⦂ 2 ∷ []) 2)
-    ∷ example none (7 ⦂ 10 ∷ 9 ⦂ 5 ∷ []) 20 (lent 4) (sections_visited none (5 ⦂ 11 ∷ 7 ⦂ 7 ∷ 9 ⦂ 2 ∷ []) 2)
-    ∷ example none (7 ⦂ 10 ∷ 9 ⦂ 3 ∷ []) 1 (lent 3) (sections_visited none (7 ⦂ 1 ∷ 9 ⦂ 0 ∷ []) 2)
-    ∷ example none (7 ⦂ 4 ∷ []) 1 (lent 1) (sections_visited none (7 ⦂ 1 ∷ []) 1)
-    ∷ example none (7 ⦂ 5 ∷ []) 1 (lent 1) (sections_visited none (7 ⦂ 1 ∷ []) 1)
-    ∷ example none (7 ⦂ 10 ∷ 9 ⦂ 5 ∷ []) 0 (lent 0) (sections_visited none [] 0)
-    ∷ example none [] 6 (lent 1) (sections_visited none (5 ⦂ 6 ∷ []) 0)
+    example None (7 ⦂ 10 ∷ 9 ⦂ 5 ∷ []) 6 (lent 2) (sections_visited None (7 ⦂ 4 ∷ 9 ⦂ 2 ∷ []) 2)
+    ∷ example None (7 ⦂ 10 ∷ 9 ⦂ 5 ∷ []) 20 (lent 4) (sections_visited None (5 ⦂ 11 ∷ 7 ⦂ 7 ∷ 9 ⦂ 2 ∷ []) 2)
+    ∷ example None (7 ⦂ 10 ∷ 9 ⦂ 3 ∷ []) 1 (lent 3) (sections_visited None (7 ⦂ 1 ∷ 9 ⦂ 0 ∷ []) 2)
+    ∷ example None (7 ⦂ 4 ∷ []) 1 (lent 1) (sections_visited None (7 ⦂ 1 ∷ []) 1)
+    ∷ example None (7 ⦂ 5 ∷ []) 1 (lent 1) (sections_visited None (7 ⦂ 1 ∷ []) 1)
+    ∷ example None (7 ⦂ 10 ∷ 9 ⦂ 5 ∷ []) 0 (lent 0) (sections_visited None [] 0)
+    ∷ example None [] 6 (lent 1) (sections_visited None (5 ⦂ 6 ∷ []) 0)
     ∷ example someone (7 ⦂ 10 ∷ []) 9 (lent 2) (sections_visited someone (5 ⦂ 2 ∷ 7 ⦂ 7 ∷ []) 1)
     ∷ example someone [] 9 (lent 1) (sections_visited someone (5 ⦂ 9 ∷ []) 0)
-    ∷ example none (7 ⦂ 4 ∷ []) 4294967292 (lent 2) (sections_visited none (5 ⦂ 4294967291 ∷ 7 ⦂ 1 ∷ []) 1)
-    ∷ example none (7 ⦂ 1 ∷ []) 4294967293 (lent 2) (sections_visited none (5 ⦂ 4294967293 ∷ 7 ⦂ 0 ∷ []) 1)
-    ∷ example none (7 ⦂ 1 ∷ []) 4294967294 (lent 2) (sections_visited none (5 ⦂ 4294967294 ∷ 7 ⦂ 0 ∷ []) 1)
-    ∷ example none (7 ⦂ 1 ∷ []) 4294967295 (lent 2) (sections_visited none (5 ⦂ 4294967295 ∷ 7 ⦂ 0 ∷ []) 1)
+    ∷ example None (7 ⦂ 4 ∷ []) 4294967292 (lent 2) (sections_visited None (5 ⦂ 4294967291 ∷ 7 ⦂ 1 ∷ []) 1)
+    ∷ example None (7 ⦂ 1 ∷ []) 4294967293 (lent 2) (sections_visited None (5 ⦂ 4294967293 ∷ 7 ⦂ 0 ∷ []) 1)
+    ∷ example None (7 ⦂ 1 ∷ []) 4294967294 (lent 2) (sections_visited None (5 ⦂ 4294967294 ∷ 7 ⦂ 0 ∷ []) 1)
+    ∷ example None (7 ⦂ 1 ∷ []) 4294967295 (lent 2) (sections_visited None (5 ⦂ 4294967295 ∷ 7 ⦂ 0 ∷ []) 1)
     ∷ example someone (7 ⦂ 4 ∷ []) 4294967293 (lent 2) (sections_visited someone (5 ⦂ 4294967292 ∷ 7 ⦂ 1 ∷ []) 1)
-    ∷ example none (7 ⦂ 10 ∷ 9 ⦂ 4294967295 ∷ []) 4294967294 (lent 2) (sections_visited none (7 ⦂ 2 ∷ 9 ⦂ 4294967292 ∷ []) 2)
-    ∷ example none (7 ⦂ 4294967295 ∷ []) 4294967295 (lent 2) (sections_visited none (5 ⦂ 3 ∷ 7 ⦂ 4294967292 ∷ []) 1)
-    ∷ example none [] 4294967293 (lent 1) (sections_visited none (5 ⦂ 4294967293 ∷ []) 0)
-    ∷ example none (7 ⦂ 1 ∷ []) 4294967295 (lent 1) (kept 10)
-    ∷ example none (7 ⦂ 10 ∷ 9 ⦂ 5 ∷ []) 20 (lent 2) (kept 10)
-    ∷ example none (9 ⦂ 5 ∷ 7 ⦂ 10 ∷ []) 20 (lent 3) (kept 11)
-    ∷ example none (9 ⦂ 5 ∷ 7 ⦂ 10 ∷ []) 0 (lent 0) (kept 11)
+    ∷ example None (7 ⦂ 10 ∷ 9 ⦂ 4294967295 ∷ []) 4294967294 (lent 2) (sections_visited None (7 ⦂ 2 ∷ 9 ⦂ 4294967292 ∷ []) 2)
+    ∷ example None (7 ⦂ 4294967295 ∷ []) 4294967295 (lent 2) (sections_visited None (5 ⦂ 3 ∷ 7 ⦂ 4294967292 ∷ []) 1)
+    ∷ example None [] 4294967293 (lent 1) (sections_visited None (5 ⦂ 4294967293 ∷ []) 0)
+    ∷ example None (7 ⦂ 1 ∷ []) 4294967295 (lent 1) (kept 10)
+    ∷ example None (7 ⦂ 10 ∷ 9 ⦂ 5 ∷ []) 20 (lent 2) (kept 10)
+    ∷ example None (9 ⦂ 5 ∷ 7 ⦂ 10 ∷ []) 20 (lent 3) (kept 11)
+    ∷ example None (9 ⦂ 5 ∷ 7 ⦂ 10 ∷ []) 0 (lent 0) (kept 11)
     ∷ []
 
 pub key_marked : map (made split_key) key_examples ≡ map (λ (e : Example RemovalAfter). e.left) key_examples

@@ -2,7 +2,7 @@
 -- demand would be false. By computation.
 -- Assumes nothing.
 use mathlib.Core.Path.{◌≡◌, refl}
-use mathlib.Core.Option.{none}
+use Rattle.std.specs.Prelude.{None}
 use mathlib.Core.List.{List, [], ◌∷◌, map}
 use Rattle.records_spec.specs.Tables.{At, ◌⦂◌, records_of, epochs_of, counts_of, ascending, has, held, put, union}
 use Rattle.records_spec.specs.Flags.{flags, zeros, same, proper}
@@ -36,11 +36,11 @@ narrow x =
 pub examples : List Example
 examples =
     -- a latest record of 3 bytes: 1 added and 1 removed drop it, a removal of 0 does not
-    (9 ⦂ 3 ∷ [], add (edit 9 1) ∷ remove (edit 9 1) ∷ [], some_flags (flags 5 none []))
-    ∷ (9 ⦂ 3 ∷ [], remove (edit 9 0) ∷ [], some_flags (flags 5 none (9 ⦂ 3 ∷ [])))
+    (9 ⦂ 3 ∷ [], add (edit 9 1) ∷ remove (edit 9 1) ∷ [], some_flags (flags 5 None []))
+    ∷ (9 ⦂ 3 ∷ [], remove (edit 9 0) ∷ [], some_flags (flags 5 None (9 ⦂ 3 ∷ [])))
     -- more removed than added so far: 1 removed drops the record of 4, and 1 added makes one of 1
-    ∷ (9 ⦂ 4 ∷ [], remove (edit 9 1) ∷ add (edit 9 1) ∷ [], some_flags (flags 5 none (9 ⦂ 1 ∷ [])))
-    ∷ (9 ⦂ 4 ∷ [], remove (edit 9 0) ∷ [], some_flags (flags 5 none (9 ⦂ 4 ∷ [])))
+    ∷ (9 ⦂ 4 ∷ [], remove (edit 9 1) ∷ add (edit 9 1) ∷ [], some_flags (flags 5 None (9 ⦂ 1 ∷ [])))
+    ∷ (9 ⦂ 4 ∷ [], remove (edit 9 0) ∷ [], some_flags (flags 5 None (9 ⦂ 4 ∷ [])))
     -- a count past the limit
     ∷ (9 ⦂ 4294967295 ∷ [], add (edit 9 1) ∷ [], refusal 6)
     -- rows for no more than the records

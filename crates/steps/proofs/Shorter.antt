@@ -1,7 +1,7 @@
 -- What remains of flags takes no more bytes, whatever the sections: a record is dropped or holds no more than it did, and a smaller count has no
 -- longer varint.
 -- Assumes nothing.
-use mathlib.Core.Option.{Option}
+use Rattle.std.specs.Prelude.{Option}
 use mathlib.Core.List.{List, [], ◌∷◌, ◌++◌}
 use Prim.Native.Nat.{ℕ, ◌≤◌}
 use native.Mathlib.Omega.{arith}

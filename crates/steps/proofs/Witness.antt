@@ -4,7 +4,7 @@
 -- Assumes nothing.
 use mathlib.Core.Path.{◌≡◌, refl}
 use mathlib.Core.Logic.{inl, inr}
-use mathlib.Core.Option.{Option, none, some}
+use Rattle.std.specs.Prelude.{Option, None, Some}
 use mathlib.Core.List.{List, [], ◌∷◌, ◌++◌, map}
 use Prim.Native.Nat.{ℕ, ◌≤◌, ◌<◌}
 use native.Mathlib.Omega.{arith}
@@ -30,7 +30,7 @@ use Rattle.steps.specs.Demand.{Single, Adds, Removes, Premises, Refunds}
 use Rattle.steps.proofs.SmallSteps.{small_steps}
 
 abbrev owner : Option (List ℕ)
-owner = some (replicate 32 1)
+owner = Some (replicate 32 1)
 
 -- flags in tables that just hold them
 abbrev exactly : Flags → Held
@@ -49,17 +49,17 @@ edit o e s n =
     record { incoming = exactly (flags e o []); strategy = s; amount = n; out = lending (replicate 2 0) (replicate 2 0); row_tables = room 3 }
 
 abbrev firsts : List Step
-firsts = add (edit none 9 UseTheirs 5) ∷ remove (edit owner 6 RaiseIssue 3) ∷ add (edit owner 9 RaiseIssue 3) ∷ remove
-    (edit none 65535 UseOurs 5) ∷ []
+firsts = add (edit None 9 UseTheirs 5) ∷ remove (edit owner 6 RaiseIssue 3) ∷ add (edit owner 9 RaiseIssue 3) ∷ remove
+    (edit None 65535 UseOurs 5) ∷ []
 
 abbrev laters : List Step
-laters = remove (edit none 9 RaiseIssue 1) ∷ remove (edit owner 7 UseOurs 6) ∷ []
+laters = remove (edit None 9 RaiseIssue 1) ∷ remove (edit owner 7 UseOurs 6) ∷ []
 
 abbrev one : Edit
-one = edit none 12 RaiseIssue 7
+one = edit None 12 RaiseIssue 7
 
 -- incoming flags without an owner, and with ours
-unowned : (e : ℕ) → Single start (exactly (flags e none []))
+unowned : (e : ℕ) → Single start (exactly (flags e None []))
 unfolding proper ascending epochs_of counts_of
 unowned e = record { are_proper = refl; kind_0_or_2 = refl; no_owner_or_ours = inl refl }
 
@@ -92,7 +92,7 @@ met =
       latest = refl;
       four_or_more = omega arith;
       first_steps = (
-        adds none UseTheirs 5 (unowned 9),
+        adds None UseTheirs 5 (unowned 9),
         omega arith,
         (
           removes owner 6 RaiseIssue 3 (ours 6) (omega arith) (omega arith),
@@ -100,17 +100,17 @@ met =
           (
             adds owner RaiseIssue 3 (ours 9),
             omega arith,
-            (removes none 65535 UseOurs 5 (unowned 65535) (omega arith) (omega arith), omega arith, tt),
+            (removes None 65535 UseOurs 5 (unowned 65535) (omega arith) (omega arith), omega arith, tt),
           ),
         ),
       );
       later_steps = (
-        removes none 9 RaiseIssue 1 (unowned 9) (omega arith) (omega arith),
+        removes None 9 RaiseIssue 1 (unowned 9) (omega arith) (omega arith),
         (removes owner 7 UseOurs 6 (ours 7) (omega arith) (omega arith), tt),
       );
       not_below_0 = omega arith;
       one_amount = refl;
-      one_removal = removes none 12 RaiseIssue 7 (unowned 12) (omega arith) (omega arith);
+      one_removal = removes None 12 RaiseIssue 7 (unowned 12) (omega arith) (omega arith);
       byte_room = omega arith;
     }
 
@@ -124,7 +124,7 @@ abbrev firsts_most : List Step
 firsts_most = add (edit owner 9 RaiseIssue 4294967290) ∷ []
 
 abbrev laters_most : List Step
-laters_most = remove (edit none 9 UseOurs 4294967295) ∷ remove (edit owner 6 RaiseIssue 4294967290) ∷ []
+laters_most = remove (edit None 9 UseOurs 4294967295) ∷ remove (edit owner 6 RaiseIssue 4294967290) ∷ []
 
 abbrev one_most : Edit
 one_most = edit owner 12 UseTheirs 4294967295
@@ -140,7 +140,7 @@ met_most =
       four_or_more = omega arith;
       first_steps = (adds owner RaiseIssue 4294967290 (ours 9), omega arith, tt);
       later_steps = (
-        removes none 9 UseOurs 4294967295 (unowned 9) (omega arith) (omega arith),
+        removes None 9 UseOurs 4294967295 (unowned 9) (omega arith) (omega arith),
         (removes owner 6 RaiseIssue 4294967290 (ours 6) (omega arith) (omega arith), tt),
       );
       not_below_0 = omega arith;
@@ -156,8 +156,8 @@ refunded_most = small_steps start 9 5 firsts_most laters_most one_most (replicat
 
 -- what a run ends in: the flags, and the refunds of the owner at the base, at 7 and at 9
 abbrev ended : Answer State → Option (Flags × ℕ × ℕ × ℕ)
-ended (refused n) = none
-ended (ok st) = some (
+ended (refused n) = None
+ended (ok st) = Some (
   flags_of st.flags,
   refund_at (replicate 32 1) 5 st.rows,
   refund_at (replicate 32 1) 7 st.rows,
@@ -166,14 +166,14 @@ ended (ok st) = some (
 
 -- BOTH LEAVE {7:5}; ALL STEPS TOGETHER REFUND 8 MORE AT 9
 pub ended_alike : map ended (run (state start []) (firsts ++ laters) ∷ run (state start []) (remove one ∷ []) ∷ [])
-    ≡ some (flags 5 owner (7 ⦂ 5 ∷ []), 0, 5, 10) ∷ some (flags 5 owner (7 ⦂ 5 ∷ []), 0, 5, 2) ∷ []
+    ≡ Some (flags 5 owner (7 ⦂ 5 ∷ []), 0, 5, 10) ∷ Some (flags 5 owner (7 ⦂ 5 ∷ []), 0, 5, 2) ∷ []
 unfolding run step all_added all_removed refund_at records_of epochs_of counts_of ascending has held put union same proper leaving added combined_added order
     ascends ids_of parts_of rows_under rows_of proper_rows spare section sections split split_value all_under all_fine minus removed combined_removed
 ended_alike = refl
 
 -- BOTH LEAVE NO RECORD; ALL STEPS TOGETHER REFUND 4,294,967,290 MORE AT 9
 pub ended_most : map ended (run (state start []) (firsts_most ++ laters_most) ∷ run (state start []) (remove one_most ∷ []) ∷ [])
-    ≡ some (flags 5 owner [], 4294967286, 7, 4294967292) ∷ some (flags 5 owner [], 4294967286, 7, 2) ∷ []
+    ≡ Some (flags 5 owner [], 4294967286, 7, 4294967292) ∷ Some (flags 5 owner [], 4294967286, 7, 2) ∷ []
 unfolding run step all_added all_removed refund_at records_of epochs_of counts_of ascending has held put union same proper leaving added combined_added order
     ascends ids_of parts_of rows_under rows_of proper_rows spare section sections split split_value all_under all_fine minus removed combined_removed
 ended_most = refl

@@ -1,7 +1,7 @@
 -- Demand 3 of document 00: its premises, and what it promises.
 -- Assumes nothing.
 use Rattle.std.specs.Prelude.{ℕ, ◌+◌, ◌-◌, ◌≤◌, ◌<◌, ◌≡◌, ◌⊎◌, true, false, List, [], ◌∷◌, ◌++◌, length}
-use Rattle.std.proofs.Math.Option.{none}
+use Rattle.std.specs.Prelude.{None}
 use Rattle.fields_spec.specs.Varint.{largest}
 use Rattle.records_spec.specs.Tables.{At, ◌⦂◌, over}
 use Rattle.records_spec.specs.Flags.{multi, id_of, owner_of, flags_of, Held, proper}
@@ -17,7 +17,7 @@ use Rattle.steps.specs.History.{Edit, Step, add, remove, State, state, run, all_
 pub record Single (f theirs : Held) : Type 0 where
   pub are_proper : proper theirs ≡ true
   pub kind_0_or_2 : multi theirs.head.kind ≡ false
-  pub no_owner_or_ours : (owner_of theirs.head ≡ none) ⊎ (owner_of theirs.head ≡ owner_of f.head)
+  pub no_owner_or_ours : (owner_of theirs.head ≡ None) ⊎ (owner_of theirs.head ≡ owner_of f.head)
 
 -- tables have room for the first records
 pub record RecordRoom (f : Held) (x : Edit) : Type 0 where

@@ -1,7 +1,7 @@
 -- The marked examples P1 to P14 of document 01 as one table: what is asked of the calls, and what they are to tell. Unowned, base 5.
 -- Assumes nothing.
 use Rattle.std.specs.Prelude.{ℕ, cond, Bool, List, [], ◌∷◌, replicate}
-use Rattle.std.proofs.Math.Option.{none}
+use Rattle.std.specs.Prelude.{None}
 use Rattle.records_spec.specs.Tables.{At, ◌⦂◌, epochs_of, counts_of}
 use Rattle.records_spec.specs.Flags.{Flags, flags, zeros, head_of, flags_of, Held, holding, lending}
 use Rattle.codec_spec.specs.Calls.{deserialized}
@@ -41,7 +41,7 @@ row_places = tables (replicate 3 zeros) places places
 
 -- unowned flags of a base and records
 abbrev pub unowned : ℕ → List At → Held
-unowned base rs = holding (head_of (flags base none rs)) (epochs_of rs) (counts_of rs)
+unowned base rs = holding (head_of (flags base None rs)) (epochs_of rs) (counts_of rs)
 
 -- incoming flags of kind 0 at an epoch, and an amount
 abbrev pub edit : ℕ → ℕ → Edit
@@ -98,26 +98,26 @@ unfoldable pub examples : List Example
 examples =
     -- P1 to P9
     (reads [], no_flags)
-    ∷ (reads (0x00 ∷ 0x00 ∷ 0x05 ∷ []), some_flags (flags 5 none []))
+    ∷ (reads (0x00 ∷ 0x00 ∷ 0x05 ∷ []), some_flags (flags 5 None []))
     ∷ (reads (0x00 ∷ 0x05 ∷ []), refusal 2)
     ∷ (reads (0x01 ∷ 0x00 ∷ 0x05 ∷ []), refusal 2)
-    ∷ (reads (0x01 ∷ 0x00 ∷ 0x05 ∷ 0x00 ∷ 0x07 ∷ 0xAC ∷ 0x02 ∷ []), some_flags (flags 5 none (7 ⦂ 300 ∷ [])))
+    ∷ (reads (0x01 ∷ 0x00 ∷ 0x05 ∷ 0x00 ∷ 0x07 ∷ 0xAC ∷ 0x02 ∷ []), some_flags (flags 5 None (7 ⦂ 300 ∷ [])))
     ∷ (reads (0x01 ∷ 0x00 ∷ 0x05 ∷ 0x00 ∷ 0x05 ∷ 0x01 ∷ []), refusal 3)
     ∷ (reads (0x01 ∷ 0x00 ∷ 0x05 ∷ 0x00 ∷ 0x07 ∷ 0x81 ∷ 0x00 ∷ []), refusal 3)
     ∷ (reads (0x01 ∷ 0x00 ∷ 0x05 ∷ 0x00 ∷ 0x07 ∷ 0x80 ∷ []), refusal 2)
     ∷ (reads (0x04 ∷ []), refusal 1)
     -- P10
     ∷ (splits (7 ⦂ 10 ∷ 9 ⦂ 5 ∷ []) 6, in_sections (7 ⦂ 4 ∷ 9 ⦂ 2 ∷ []) 2)
-    ∷ (merges (7 ⦂ 10 ∷ 9 ⦂ 5 ∷ []) 6, some_flags (flags 5 none (7 ⦂ 6 ∷ [])))
+    ∷ (merges (7 ⦂ 10 ∷ 9 ⦂ 5 ∷ []) 6, some_flags (flags 5 None (7 ⦂ 6 ∷ [])))
     -- P11
     ∷ (splits (7 ⦂ 10 ∷ 9 ⦂ 5 ∷ []) 20, in_sections (5 ⦂ 11 ∷ 7 ⦂ 7 ∷ 9 ⦂ 2 ∷ []) 2)
-    ∷ (merges (7 ⦂ 10 ∷ 9 ⦂ 5 ∷ []) 20, some_flags (flags 5 none []))
+    ∷ (merges (7 ⦂ 10 ∷ 9 ⦂ 5 ∷ []) 20, some_flags (flags 5 None []))
     -- P12
     ∷ (splits (7 ⦂ 10 ∷ 9 ⦂ 3 ∷ []) 1, in_sections (7 ⦂ 1 ∷ 9 ⦂ 0 ∷ []) 2)
-    ∷ (merges (7 ⦂ 10 ∷ 9 ⦂ 3 ∷ []) 1, some_flags (flags 5 none (7 ⦂ 9 ∷ [])))
+    ∷ (merges (7 ⦂ 10 ∷ 9 ⦂ 3 ∷ []) 1, some_flags (flags 5 None (7 ⦂ 9 ∷ [])))
     -- P13
-    ∷ (adds (7 ⦂ 300 ∷ []) 7 50, some_flags (flags 5 none (7 ⦂ 350 ∷ [])))
-    ∷ (adds (7 ⦂ 300 ∷ []) 8 0, some_flags (flags 5 none (7 ⦂ 300 ∷ 8 ⦂ 0 ∷ [])))
+    ∷ (adds (7 ⦂ 300 ∷ []) 7 50, some_flags (flags 5 None (7 ⦂ 350 ∷ [])))
+    ∷ (adds (7 ⦂ 300 ∷ []) 8 0, some_flags (flags 5 None (7 ⦂ 300 ∷ 8 ⦂ 0 ∷ [])))
     -- P14
     ∷ (sums 0 (basic 4) (sectioned (row zeros 3 10 ∷ [])), some_removal (sectioned []))
     ∷ (sums 1 (basic 4) (sectioned (row zeros 3 10 ∷ [])), some_removal (sectioned (row zeros 3 10 ∷ row zeros 65535 4 ∷ [])))

@@ -4,7 +4,7 @@
 use Prim.Native.Nat.{ℕ}
 use mathlib.Core.Path.{◌≡◌, refl}
 use mathlib.Core.Bool.{Bool, true, false}
-use mathlib.Core.Option.{Option, none, some}
+use Rattle.std.specs.Prelude.{Option, None, Some}
 use mathlib.Core.List.{List, [], ◌∷◌, map}
 use Rattle.records_spec.specs.Tables.{At, ◌⦂◌, records_of, counts_of, epochs_of}
 use Rattle.records_spec.specs.Flags.{Flags}
@@ -24,7 +24,7 @@ total o e n = record { owner = o ∷ []; epoch = e; total = n }
 
 -- flags with base 5 under an owner of one byte
 abbrev under : ℕ → List At → Option Flags
-under o rs = some (record { base = 5; owner = some (o ∷ []); records = rs })
+under o rs = Some (record { base = 5; owner = Some (o ∷ []); records = rs })
 
 -- a work area without a place, and one of two
 abbrev nothing : Tables
@@ -64,27 +64,27 @@ free = total 1 7 10 ∷ total 9 9 9 ∷ []
 abbrev examples : List Example
 examples =
     -- no rows, a table of one place, no work area, both flags absent
-    record { number = 0; table = one; work = nothing; good = true; old = none; new = none; left = giving 0 one nothing }
+    record { number = 0; table = one; work = nothing; good = true; old = None; new = None; left = giving 0 one nothing }
     -- more rows than places, a total of 0, and flags that are not proper, without a work area
-    ∷ keeping 11 2 one nothing true none none
-    ∷ keeping 11 1 (total 1 7 0 ∷ []) nothing true none none
-    ∷ keeping 11 1 one nothing false (under 1 (7 ⦂ 11 ∷ [])) none
+    ∷ keeping 11 2 one nothing true None None
+    ∷ keeping 11 1 (total 1 7 0 ∷ []) nothing true None None
+    ∷ keeping 11 1 one nothing false (under 1 (7 ⦂ 11 ∷ [])) None
     -- then 14, then 6, without a work area
-    ∷ keeping 14 1 one nothing true (under 1 (7 ⦂ 11 ∷ [])) none
-    ∷ keeping 14 1 one nothing true (under 1 (8 ⦂ 1 ∷ [])) none
-    ∷ keeping 6 1 (total 1 7 largest_total ∷ []) nothing true none (under 1 (7 ⦂ 1 ∷ []))
+    ∷ keeping 14 1 one nothing true (under 1 (7 ⦂ 11 ∷ [])) None
+    ∷ keeping 14 1 one nothing true (under 1 (8 ⦂ 1 ∷ [])) None
+    ∷ keeping 6 1 (total 1 7 largest_total ∷ []) nothing true None (under 1 (7 ⦂ 1 ∷ []))
     -- then 10: no work area, none for the rows after, and no place in the table
-    ∷ keeping 10 1 one nothing true none none
-    ∷ keeping 10 1 free (tables ((8 ∷ []) ∷ []) (8 ∷ []) (8 ∷ [])) true none (under 1 (8 ⦂ 1 ∷ []))
-    ∷ keeping 10 1 free (tables ((8 ∷ []) ∷ (9 ∷ []) ∷ []) (8 ∷ 9 ∷ []) (8 ∷ [])) true none (under 1 (8 ⦂ 1 ∷ []))
-    ∷ keeping 10 1 one two true none (under 1 (8 ⦂ 1 ∷ []))
+    ∷ keeping 10 1 one nothing true None None
+    ∷ keeping 10 1 free (tables ((8 ∷ []) ∷ []) (8 ∷ []) (8 ∷ [])) true None (under 1 (8 ⦂ 1 ∷ []))
+    ∷ keeping 10 1 free (tables ((8 ∷ []) ∷ (9 ∷ []) ∷ []) (8 ∷ 9 ∷ []) (8 ∷ [])) true None (under 1 (8 ⦂ 1 ∷ []))
+    ∷ keeping 10 1 one two true None (under 1 (8 ⦂ 1 ∷ []))
     -- a row made where the work area just has room, a total changed, and a row lost
     ∷ record {
       number = 1;
       table = free;
       work = two;
       good = true;
-      old = none;
+      old = None;
       new = under 1 (8 ⦂ 1 ∷ []);
       left = giving 2 (total 1 7 10 ∷ total 1 8 1 ∷ []) (tables ((1 ∷ []) ∷ (1 ∷ []) ∷ []) (7 ∷ 8 ∷ []) (10 ∷ 1 ∷ []));
     }
@@ -94,7 +94,7 @@ examples =
       work = two;
       good = true;
       old = under 1 (7 ⦂ 4 ∷ []);
-      new = none;
+      new = None;
       left = giving 1 (total 1 7 6 ∷ total 9 9 9 ∷ []) (tables ((1 ∷ []) ∷ (9 ∷ []) ∷ []) (7 ∷ 9 ∷ []) (6 ∷ 9 ∷ []));
     }
     ∷ record {
@@ -103,7 +103,7 @@ examples =
       work = two;
       good = true;
       old = under 1 (7 ⦂ 10 ∷ []);
-      new = none;
+      new = None;
       left = giving 0 free (tables ((1 ∷ []) ∷ (9 ∷ []) ∷ []) (7 ∷ 9 ∷ []) (10 ∷ 9 ∷ []));
     }
     ∷ []

@@ -1,7 +1,7 @@
 -- What `replace_structs` answers and leaves, over a table of structs and a work area of three lent slices.
 -- Assumes nothing.
 use Rattle.std.specs.Prelude.{ℕ, ◌≡◌, Bool, ◌&&◌, List, leb, length}
-use Rattle.std.proofs.Math.Option.{Option}
+use Rattle.std.specs.Prelude.{Option}
 use Rattle.records_spec.specs.Outcomes.{Answer, ◌unless◌, ◌>>◌, ◌>>=◌, After, after, leaving, placed}
 use Rattle.records_spec.specs.Flags.{Flags}
 use Rattle.records_spec.specs.Tables.{over}

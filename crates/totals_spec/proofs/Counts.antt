@@ -2,7 +2,7 @@
 -- Assumes nothing.
 use mathlib.Core.Path.{◌≡◌, refl, sym, ap, ◌∙◌}
 use mathlib.Core.Bool.{true, cond, and-eq-true_iff}
-use mathlib.Core.Option.{Option, none, some}
+use Rattle.std.specs.Prelude.{Option, None, Some}
 use mathlib.Core.List.{List, [], ◌∷◌}
 use Prim.Native.Nat.{ℕ, ◌+◌, ◌-◌, ◌≤◌}
 use native.Mathlib.Omega.{arith}
@@ -47,13 +47,13 @@ count_total k (r ∷ rs) s = count_cons k r rs (compared k r) refl ∙ go (compa
     go Greater e ih = omega arith
 
 -- the rows that flags name ascend where their epochs do
-pub named_ascends : (f : Flags) → rising (epochs_of f.records) ≡ true → ascends (named (some f)) ≡ true
+pub named_ascends : (f : Flags) → rising (epochs_of f.records) ≡ true → ascends (named (Some f)) ≡ true
 named_ascends f h = asc_under (id_of f.owner) f.records h
 
 -- the rows that flags with ascending epochs name
 pub given_ascends : (f : Option Flags) → rises f ≡ true → ascends (named f) ≡ true
-given_ascends none h = asc_none
-given_ascends (some f) h = named_ascends f h
+given_ascends None h = asc_none
+given_ascends (Some f) h = named_ascends f h
 
 -- ---- a table stays proper
 

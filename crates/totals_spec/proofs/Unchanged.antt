@@ -2,7 +2,7 @@
 -- Assumes nothing.
 use mathlib.Core.Path.{◌≡◌, refl}
 use mathlib.Core.Bool.{true}
-use mathlib.Core.Option.{Option, none}
+use Rattle.std.specs.Prelude.{Option, None}
 use mathlib.Core.List.{List, []}
 use native.Mathlib.Omega.{arith}
 use Rattle.records_spec.specs.Flags.{Flags}
@@ -39,5 +39,5 @@ pub nothing_changed : (t : List Row) → changed [] [] t ≡ ok t
 unfolding covered all_fit add_counts take_counts
 nothing_changed t = refl
 
-pub replaced_absent : (t : List Row) → replaced none none t ≡ ok t
+pub replaced_absent : (t : List Row) → replaced None None t ≡ ok t
 replaced_absent t = nothing_changed t

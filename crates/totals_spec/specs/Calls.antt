@@ -1,7 +1,7 @@
 -- What `replace` answers and leaves.
 -- Assumes nothing.
 use Rattle.std.specs.Prelude.{ℕ, Bool, true, false, ◌&&◌, List, length}
-use Rattle.std.proofs.Math.Option.{Option, none, some}
+use Rattle.std.specs.Prelude.{Option, None, Some}
 use Rattle.records_spec.specs.Outcomes.{Answer, ◌unless◌, After, leaving, placed, ◌>>=◌, ◌>>◌}
 use Rattle.records_spec.specs.Flags.{Flags, Held, proper, flags_of}
 use Rattle.records_spec.specs.declared.refusal.Refusal.TheVariants.{BadTable}
@@ -23,8 +23,8 @@ proper_table n t = proper_rows n t && all_positive (rows_in n t)
 
 -- flags that may be absent, as a call is given them: absent ones are not looked at
 abbrev pub given : Bool → Held → Option Flags
-given true f = some (flags_of f)
-given false f = none
+given true f = Some (flags_of f)
+given false f = None
 
 -- absent or proper
 abbrev pub proper_given : Bool → Held → Bool

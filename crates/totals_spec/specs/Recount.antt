@@ -1,7 +1,7 @@
 -- The recount of a list of elements' flags: for each owner and epoch the sum of the record counts, with a row exactly where it is above 0.
 -- Assumes nothing.
 use Rattle.std.specs.Prelude.{ℕ, ◌+◌, cond, List, [], ◌∷◌}
-use Rattle.std.proofs.Math.Option.{Option, none, some}
+use Rattle.std.specs.Prelude.{Option, None, Some}
 use Rattle.records_spec.specs.Flags.{Flags, id_of}
 use Rattle.rows_spec.specs.Rows.{Row, compared, rows_under}
 use Rattle.rows_spec.specs.Order.{is_equal}
@@ -9,8 +9,8 @@ use Rattle.totals_spec.specs.Table.{add_counts}
 
 -- the rows that flags name: their records under their owner, unowned under 32 zero bytes; none where flags are absent
 abbrev pub named : Option Flags → List Row
-named none = []
-named (some f) = rows_under (id_of f.owner) f.records
+named None = []
+named (Some f) = rows_under (id_of f.owner) f.records
 
 -- the table of a list of elements
 unfoldable pub recount : List (Option Flags) → List Row

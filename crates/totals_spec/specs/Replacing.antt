@@ -1,7 +1,7 @@
 -- What replacing one element's flags does to the table: the old counts are taken, then the new ones added.
 -- Assumes nothing.
 use Rattle.std.specs.Prelude.{ℕ, ◌+◌, ◌-◌, Bool, true, ◌&&◌, List, [], ◌∷◌, leb}
-use Rattle.std.proofs.Math.Option.{Option}
+use Rattle.std.specs.Prelude.{Option}
 use Rattle.records_spec.specs.Flags.{Flags}
 use Rattle.rows_spec.specs.Rows.{Row}
 use Rattle.records_spec.specs.Outcomes.{Answer, ok, ◌unless◌, ◌>>◌}

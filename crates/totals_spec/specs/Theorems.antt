@@ -1,7 +1,7 @@
 -- What the theorems on the table speak of besides: named rows, flags whose epochs ascend, totals of 64 bits, what an accepted call leaves.
 -- Assumes nothing.
 use Rattle.std.specs.Prelude.{ℕ, ◌≤◌, ◌≡◌, Bool, true, false, cond, List, [], ◌∷◌}
-use Rattle.std.proofs.Math.Option.{Option, none, some}
+use Rattle.std.specs.Prelude.{Option, None, Some}
 use Rattle.records_spec.specs.Tables.{epochs_of, rising}
 use Rattle.records_spec.specs.Flags.{Flags}
 use Rattle.records_spec.specs.Outcomes.{ok}
@@ -23,8 +23,8 @@ not_named rs (b ∷ t) = cond (names b rs) (not_named rs t) (b ∷ not_named rs 
 
 -- flags that may be absent, with ascending epochs, as all proper ones have
 abbrev pub rises : Option Flags → Bool
-rises none = true
-rises (some f) = rising (epochs_of f.records)
+rises None = true
+rises (Some f) = rising (epochs_of f.records)
 
 -- no total passes 64 bits
 abbrev pub In64Bits : List Row → Type 0

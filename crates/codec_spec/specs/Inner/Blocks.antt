@@ -1,7 +1,7 @@
 -- Reading records in blocks: what one record answers, what a block holds, and what all leave in the lent tables.
 -- Assumes nothing.
 use Rattle.std.specs.Prelude.{ℕ, ◌+◌, ◌≤◌, ◌<◌, ◌≡◌, cond, List, length, take, drop, eqb}
-use Rattle.std.proofs.Math.Option.{Option, none, some}
+use Rattle.std.specs.Prelude.{Option, None, Some}
 use Rattle.std.proofs.lemmas.List.Edits.{sets}
 use Rattle.records_spec.specs.Tables.{At, epochs_of, counts_of}
 use Rattle.records_spec.specs.Inner.Tables.{Placed}
@@ -36,7 +36,7 @@ pub record Taken (src : List ℕ) (at prev n next last : ℕ) (es cs es' cs' : L
 -- n records stand from the place at on, without a fault after one at the epoch before
 pub record Sound (src : List ℕ) (at n : ℕ) : Type 0 where
   pub before : ℕ
-  pub no_fault : (parse at 0 before (drop at src)).fault ≡ none
+  pub no_fault : (parse at 0 before (drop at src)).fault ≡ None
   pub all_there : length (parse at 0 before (drop at src)).records ≡ n
 
 -- the most records of a block
@@ -46,7 +46,7 @@ block_records = 64
 -- a block that was read: its first fault, or its records, not too many and not none where bytes are left behind them
 pub record Blocked (src : List ℕ) (at prev : ℕ) (b : Block) (es cs es' cs' : List ℕ) : Type 0 where
   pub at_fault : (r : Refusal) (place : ℕ) → b ≡ BadBlock r place
-      → (parse at 0 prev (drop at src)).fault ≡ some (record { refusal = r; place = place })
+      → (parse at 0 prev (drop at src)).fault ≡ Some (record { refusal = r; place = place })
   pub taken : (n next last : ℕ) → b ≡ Read n next last
       → Taken src at prev n next last es cs es' cs' × (next < length src → 1 ≤ n) × (n ≤ block_records)
 
@@ -62,19 +62,19 @@ filled s es cs = record { scan = s; epochs = es; counts = cs }
 
 -- records go to the tables from the place k on, where nothing is at fault and they have room there; the bytes end at end
 abbrev pub filled_from : ℕ → ℕ → Option Fault → List At → List ℕ → List ℕ → Filled
-filled_from end k (some f) rs es cs = filled (Faulty f.refusal f.place) es cs
-filled_from end k none rs es cs =
+filled_from end k (Some f) rs es cs = filled (Faulty f.refusal f.place) es cs
+filled_from end k None rs es cs =
     cond (room_for (k + length rs) (length es) (length cs))
     (filled (Records (k + length rs)) (sets es k (epochs_of rs)) (sets cs k (counts_of rs)))
     (filled (Faulty NoRoom end) es cs)
 
 -- the judgement of records whose bytes end at end
 abbrev pub scan_of : ℕ → Option Fault → ℕ → Scan
-scan_of end (some f) n = Faulty f.refusal f.place
-scan_of end none n = cond (eqb n 0) (Faulty WrongSize end) (Records n)
+scan_of end (Some f) n = Faulty f.refusal f.place
+scan_of end None n = cond (eqb n 0) (Faulty WrongSize end) (Records n)
 
 -- n records stand behind the head of flags of a kind, without a fault
 pub record Complete (k : Kind) (src : List ℕ) (n : ℕ) : Type 0 where
   pub head_inside : head_size k ≤ length src
-  pub no_fault : (records_in k src).fault ≡ none
+  pub no_fault : (records_in k src).fault ≡ None
   pub all_there : length (records_in k src).records ≡ n

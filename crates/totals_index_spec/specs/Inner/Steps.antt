@@ -1,7 +1,7 @@
 -- What the functions inside the crate promise.
 -- Assumes nothing.
 use Rattle.std.specs.Prelude.{ℕ, Bool, cond, length}
-use Rattle.std.proofs.Math.Option.{Option}
+use Rattle.std.specs.Prelude.{Option}
 use Rattle.records_spec.specs.Flags.{Flags}
 use Rattle.rows_spec.specs.Rows.{Tables}
 use Rattle.totals_spec.specs.Calls.{RowsAfter, replacing}
