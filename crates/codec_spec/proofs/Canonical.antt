@@ -1,6 +1,6 @@
 -- Reading accepts exactly what writing gives: flags that are written are read back, for all kinds, and what is read is written again,
 -- byte for byte. Assumes nothing.
-use Prim.Native.Nat.{ℕ, suc, ◌+◌, ◌≤◌, ◌<◌}
+use Prim.Native.Nat.{ℕ, suc, ◌≤◌, ◌<◌}
 use native.Mathlib.Decide.{ℕ_discrete}
 use native.Mathlib.Omega.{arith}
 use mathlib.Core.Path.{◌≡◌, refl, sym, ap, ap₂, ◌∙◌}
@@ -17,8 +17,6 @@ use Rattle.records_spec.specs.Tables.{At}
 use Rattle.records_spec.specs.Flags.{Flags, flags, owned, multi, type_byte, kind_of, kind_of_byte, owner_length}
 use Rattle.records_spec.specs.declared.head.Kind.{Kind}
 use Rattle.records_spec.specs.declared.head.Kind.TheVariants.{SingleEpoch, MultiEpoch, SingleEpochOwned, MultiEpochOwned}
-use Rattle.records_spec.specs.declared.head.KindByte.{KindByte}
-use Rattle.records_spec.specs.declared.head.KindByte.TheVariants.{Known, Unknown}
 use Rattle.records_spec.proofs.Proper.{kind_agrees}
 use Rattle.codec_spec.specs.Bytes.{records_bytes, head_bytes, behind_kind, behind_owner, unowned_head, owned_head, head_size, bytes_of}
 use Rattle.codec_spec.specs.Reading.{Parsed, parse, some_flags, with_records, base_in, owner_in, records_in, flags_in, read_as, read_byte, read}
@@ -53,7 +51,7 @@ multi_kind (Some o) n = rw (ne_eqb (suc n) 0 (λ e. omega arith))
 
 -- ---- what is written is read
 
-byte_kind : (k : Kind) → kind_of_byte (type_byte k) ≡ Known k
+byte_kind : (k : Kind) → kind_of_byte (type_byte k) ≡ Some k
 byte_kind SingleEpoch = refl
 byte_kind MultiEpoch = refl
 byte_kind SingleEpochOwned = refl
@@ -84,12 +82,12 @@ as_back base o (r ∷ rs) p =
 pub read_back : (f : Flags) → ProperFlags f → read (bytes_of f) ≡ some_flags f
 unfolding read bytes_of
 read_back f p =
-    ap (λ (b : KindByte). read_byte b (bytes_of f)) (byte_kind (kind_of f.owner (length f.records)))
+    ap (λ (b : Option Kind). read_byte b (bytes_of f)) (byte_kind (kind_of f.owner (length f.records)))
     ∙ as_back f.base f.owner f.records p
 
 -- ---- what is read is written
 
-kind_byte : (b : ℕ) (k : Kind) → kind_of_byte b ≡ Known k → b ≡ type_byte k
+kind_byte : (b : ℕ) (k : Kind) → kind_of_byte b ≡ Some k → b ≡ type_byte k
 kind_byte b k e =
     elim (ℕ_discrete b 0) [
       | yes h ↦ h ∙ ap type_byte (same SingleEpoch (rw (eq-eqb b 0 h)))
@@ -108,11 +106,11 @@ kind_byte b k e =
           ]
     ]
   where
-    same : (j : Kind) → kind_of_byte b ≡ Known j → j ≡ k
-    same j q = let z : Known j ≡ Known k = sym q ∙ e in cc
+    same : (j : Kind) → kind_of_byte b ≡ Some j → j ≡ k
+    same j q = let z : Some j ≡ Some k = sym q ∙ e in cc
 
-    other : kind_of_byte b ≡ Unknown → ⊥
-    other q = let y : Unknown ≡ Known k = sym q ∙ e in let z : ◌≡◌ {A = ℕ} 0 1 = cc in omega arith
+    other : kind_of_byte b ≡ None → ⊥
+    other q = let y : None ≡ Some k = sym q ∙ e in let z : ◌≡◌ {A = ℕ} 0 1 = cc in omega arith
 
 -- the head's bytes are those that would be written
 head_written : (k : Kind) (x : ℕ) (xs : List ℕ) (b : Bool) → owned k ≡ b → Bytes xs → head_size k ≤ suc (length xs) → x ≡ type_byte k
@@ -176,6 +174,6 @@ unfolding read
 read_canonical [] f bs e = absurd (no_flags_lem f e)
 read_canonical (x ∷ xs) f bs e = by (kind_of_byte x) refl
   where
-    by : (b : KindByte) → kind_of_byte x ≡ b → AcceptedBytes (x ∷ xs) f
-    by (Known k) q = as_written k x xs f bs (kind_byte x k q) (sym (ap (λ (b : KindByte). read_byte b (x ∷ xs)) q) ∙ e)
-    by Unknown q = absurd (no_refusal _ _ f (sym (ap (λ (b : KindByte). read_byte b (x ∷ xs)) q) ∙ e))
+    by : (b : Option Kind) → kind_of_byte x ≡ b → AcceptedBytes (x ∷ xs) f
+    by (Some k) q = as_written k x xs f bs (kind_byte x k q) (sym (ap (λ (b : Option Kind). read_byte b (x ∷ xs)) q) ∙ e)
+    by None q = absurd (no_refusal _ _ f (sym (ap (λ (b : Option Kind). read_byte b (x ∷ xs)) q) ∙ e))

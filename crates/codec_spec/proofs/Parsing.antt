@@ -16,6 +16,7 @@ use Rattle.fields_spec.proofs.RoundTrip.{found_inv}
 use Rattle.records_spec.specs.Tables.{At, ◌⦂◌}
 use Rattle.records_spec.specs.declared.refusal.Refusal.{Refusal}
 use Rattle.records_spec.specs.declared.refusal.Refusal.TheVariants.{WrongSize, NonCanonical}
+use Rattle.codec_spec.specs.Reading.{fault_at}
 use Rattle.codec_spec.specs.Reading.{Next, bad, good, with_count, next, Parsed, following, parse}
 
 -- ---- one record
@@ -106,7 +107,7 @@ unfolding parse
 parse_nil at prev = refl
 
 pub parse_bad : (at prev : ℕ) (xs : List ℕ) (r : Refusal) → 1 ≤ length xs → next prev xs ≡ bad r
-    → parse at 0 prev xs ≡ record { fault = Some (record { refusal = r; place = at }); records = [] }
+    → parse at 0 prev xs ≡ record { fault = Some (fault_at r at); records = [] }
 unfolding parse
 parse_bad at prev [] r h q = absurd (omega arith)
 parse_bad at prev (x ∷ xs) r h q = ap (λ (n : Next). following n at (λ r used. parse (suc at) (pred used) r.epoch xs)) q
@@ -135,7 +136,7 @@ pub rest_end : (d : List ℕ) (at prev : ℕ) → length d ≤ at → rest d at 
 rest_end d at prev h = ap (parse at 0 prev) (drop_of_length-le d {i = at} h) ∙ parse_nil at prev
 
 pub rest_bad : (d : List ℕ) (at prev : ℕ) (r : Refusal) → at < length d → next prev (drop at d) ≡ bad r
-    → rest d at prev ≡ record { fault = Some (record { refusal = r; place = at }); records = [] }
+    → rest d at prev ≡ record { fault = Some (fault_at r at); records = [] }
 rest_bad d at prev r h q = parse_bad at prev (drop at d) r (omega (arith, length-drop at d)) q
 
 -- a record that was read, and those behind it

@@ -1,5 +1,6 @@
 -- What a judgement says of the bytes, and what a reader leaves that has no flags or refuses them.
 -- Assumes nothing.
+use Rattle.std.specs.Prelude.{Result, Ok, Err}
 use Prim.Native.Nat.{ℕ, ◌≤◌}
 use native.Mathlib.Decide.{dec_lt, ℕ_discrete}
 use native.Mathlib.Omega.{arith}
@@ -10,40 +11,37 @@ use mathlib.Core.List.{List, [], ◌∷◌}
 use lib.ListN.{length, take, drop}
 use Rattle.records_spec.specs.Tables.{At}
 use Rattle.records_spec.specs.Refusals.{number}
-use Rattle.records_spec.specs.Flags.{Flags, flags, owned, multi, kind_of_byte, agrees, head_of, no_head, lending, owner_length}
+use Rattle.records_spec.specs.Flags.{Flags, flags, owned, multi, kind_of_byte, agrees, head_of, lending, owner_length}
 use Rattle.records_spec.specs.Answers.{shown, placing_if}
 use Rattle.records_spec.specs.declared.refusal.Refusal.{Refusal}
+use Rattle.records_spec.specs.declared.head.Head.{Head}
 use Rattle.records_spec.specs.declared.head.Kind.{Kind}
-use Rattle.records_spec.specs.declared.head.KindByte.{KindByte}
-use Rattle.records_spec.specs.declared.head.KindByte.TheVariants.{Known, Unknown}
-use Rattle.records_spec.specs.declared.answer.Answered.{Answered}
-use Rattle.records_spec.specs.declared.answer.Outcome.TheVariants.{Absent, Refused}
 use Rattle.records_spec.proofs.Answers.{placing_none, placing_if_refused}
 use Rattle.codec_spec.specs.Bytes.{head_size, behind_kind, owned_head}
-use Rattle.codec_spec.specs.Reading.{Fault, Parsed, Read, no_flags, some_flags, refused_at, with_records, base_in, owner_in, records_in, flags_in}
+use Rattle.codec_spec.specs.declared.judging.Fault.{Fault}
+use Rattle.codec_spec.specs.Reading.{Parsed, Read, no_flags, some_flags, refused_at, with_records, base_in, owner_in, records_in, flags_in, fault_at}
 use Rattle.codec_spec.specs.Reading.{read_as, read_byte, read}
 use Rattle.codec_spec.specs.Calls.{judgement, answer}
 use Rattle.codec_spec.specs.Inner.Blocks.{Complete}
-use Rattle.codec_spec.specs.declared.judging.Verdict.TheVariants.{Absent as IsAbsent, Present as IsPresent, Refused as IsRefused}
 use Rattle.codec_spec.proofs.Parsing.{rest_end}
 use Rattle.codec_spec.proofs.Readings.{owned_size, multi_short, multi_long, single_right, single_wrong, agrees_multi, agrees_single}
 
 -- ---- what a judgement says of the bytes
 
-pub judged_absent : (x : Read) → (judgement x).verdict ≡ IsAbsent → x ≡ no_flags
+pub judged_absent : (x : Read) → judgement x ≡ Ok None → x ≡ no_flags
 judged_absent no_flags e = refl
 judged_absent (some_flags f) e = cc
 judged_absent (refused_at r p) e = cc
 
-pub judged_refused : (x : Read) (r : Refusal) (place : ℕ) → (judgement x).verdict ≡ IsRefused r place → x ≡ refused_at r place
-judged_refused no_flags r place e = cc
-judged_refused (some_flags f) r place e = cc
-judged_refused (refused_at s p) r place e = cc
+pub judged_refused : (x : Read) (f : Fault) → judgement x ≡ Err f → x ≡ refused_at f.refusal f.place
+judged_refused no_flags f e = cc
+judged_refused (some_flags g) f e = cc
+judged_refused (refused_at s p) f e = let g : fault_at s p ≡ f = cc in ap (λ (y : Fault). refused_at y.refusal y.place) g
 
-pub judged_present : (x : Read) → (judgement x).verdict ≡ IsPresent → (f : Flags) × (x ≡ some_flags f) × ((judgement x).head ≡ head_of f)
-judged_present no_flags e = let z : ◌≡◌ {A = ℕ} 0 1 = cc in absurd (omega arith)
-judged_present (some_flags f) e = (f, refl, refl)
-judged_present (refused_at r p) e = let z : ◌≡◌ {A = ℕ} 0 1 = cc in absurd (omega arith)
+pub judged_present : (x : Read) (h : Head) → judgement x ≡ Ok (Some h) → (f : Flags) × (x ≡ some_flags f) × (h ≡ head_of f)
+judged_present no_flags h e = let z : ◌≡◌ {A = ℕ} 0 1 = cc in absurd (omega arith)
+judged_present (some_flags f) h e = (f, refl, cc)
+judged_present (refused_at r p) h e = let z : ◌≡◌ {A = ℕ} 0 1 = cc in absurd (omega arith)
 
 -- ---- flags that were read stand in the bytes, all their records without a fault
 
@@ -106,9 +104,9 @@ unfolding read
 flags_whole [] f e = absurd (no_flags_lem f e)
 flags_whole (b ∷ xs) f e = by (kind_of_byte b) e
   where
-    by : (k : KindByte) → read_byte k (b ∷ xs) ≡ some_flags f → (k : Kind) × Whole k (b ∷ xs) f
-    by (Known k) e = (k, read_whole k (b ∷ xs) f e)
-    by Unknown e = absurd (no_refusal _ _ f e)
+    by : (k : Option Kind) → read_byte k (b ∷ xs) ≡ some_flags f → (k : Kind) × Whole k (b ∷ xs) f
+    by (Some k) e = (k, read_whole k (b ∷ xs) f e)
+    by None e = absurd (no_refusal _ _ f e)
 
 no_some : (a : List ℕ) → ◌≡◌ {A = Option (List ℕ)} None (Some a) → ⊥
 no_some a e = let z : ◌≡◌ {A = ℕ} 0 1 = cc in omega arith
@@ -136,13 +134,13 @@ owner_behind xs f a e o = by (owned k) refl
 -- ---- what a reader leaves
 
 -- no flags, or a refusal
-module _ (x : Read) (es cs : List ℕ) (a : Answered) where
-  pub left_absent : a ≡ record { outcome = Absent; head = no_head } → x ≡ no_flags → shown a (lending es cs) ≡ placing_if (answer x) (lending es cs)
-  left_absent ea e = ap (λ (b : Answered). shown b (lending es cs)) ea
+module _ (x : Read) (es cs : List ℕ) (a : Result (Option Head) Refusal) where
+  pub left_absent : a ≡ Ok None → x ≡ no_flags → shown a (lending es cs) ≡ placing_if (answer x) (lending es cs)
+  left_absent ea e = ap (λ (b : Result (Option Head) Refusal). shown b (lending es cs)) ea
       ∙ sym (ap (λ (y : Read). placing_if (answer y) (lending es cs)) e ∙ placing_none (lending es cs))
 
-  pub left_refused : (r : Refusal) (place : ℕ) → a ≡ record { outcome = Refused r; head = no_head } → x ≡ refused_at r place
+  pub left_refused : (r : Refusal) (place : ℕ) → a ≡ Err r → x ≡ refused_at r place
       → shown a (lending es cs) ≡ placing_if (answer x) (lending es cs)
   left_refused r place ea e =
-      ap (λ (b : Answered). shown b (lending es cs)) ea
+      ap (λ (b : Result (Option Head) Refusal). shown b (lending es cs)) ea
       ∙ sym (ap (λ (y : Read). placing_if (answer y) (lending es cs)) e ∙ placing_if_refused (number r) (lending es cs))

@@ -1,5 +1,6 @@
 -- Blocks of records, each placed after those behind it: what the last block leaves, and what one leaves with the blocks behind it.
 -- Assumes nothing.
+use Rattle.std.specs.Prelude.{Result, Ok, Err}
 use Prim.Native.Nat.{ℕ, ◌+◌, ◌≤◌, ◌<◌}
 use native.Mathlib.Omega.{arith}
 use mathlib.Core.Path.{◌≡◌, refl, sym, ap, ap₂, ◌∙◌}
@@ -14,34 +15,32 @@ use Rattle.fields_spec.proofs.Parts.{sets_append, sets_before}
 use Rattle.records_spec.specs.Tables.{At, records_of, epochs_of, counts_of}
 use Rattle.records_spec.specs.Inner.Tables.{Placed}
 use Rattle.records_spec.specs.Answers.{room_for}
-use Rattle.records_spec.specs.declared.refusal.Refusal.{Refusal}
 use Rattle.records_spec.specs.declared.refusal.Refusal.TheVariants.{WrongSize, NoRoom}
 use Rattle.records_spec.proofs.Answers.{room_both_lem}
 use Rattle.records_spec.proofs.Tables.{length_epochs_of, length_counts_of, records_back, take_records, over_first, over_sets, epochs_append}
 use Rattle.records_spec.proofs.Tables.{counts_append}
-use Rattle.codec_spec.specs.Reading.{Next, bad, good, next, Fault, Parsed}
+use Rattle.codec_spec.specs.declared.judging.Fault.{Fault}
+use Rattle.codec_spec.specs.Reading.{Next, bad, good, next, Parsed, fault_at}
 use Rattle.codec_spec.specs.Inner.Blocks.{scan_of, Taken, Filled, filled, filled_from}
-use Rattle.codec_spec.specs.declared.judging.Scan.{Scan}
-use Rattle.codec_spec.specs.declared.judging.Scan.TheVariants.{Faulty, Records}
 use Rattle.codec_spec.proofs.Parsing.{rest, rest_end, rest_bad, rest_good}
 use Rattle.codec_spec.proofs.Turns.{scan_some}
 
 -- ---- what is left in each case
 
 module _ (end k : ℕ) (rs : List At) (es cs : List ℕ) where
-  pub filled_faulty : (f : Option Fault) (r : Refusal) (place : ℕ) → f ≡ Some (record { refusal = r; place = place })
-      → filled (Faulty r place) es cs ≡ filled_from end k f rs es cs
-  filled_faulty f r place e = sym (ap (λ (g : Option Fault). filled_from end k g rs es cs) e)
+  pub filled_faulty : (f : Option Fault) (x : Fault) → f ≡ Some x
+      → filled (Err x) es cs ≡ filled_from end k f rs es cs
+  filled_faulty f x e = sym (ap (λ (g : Option Fault). filled_from end k g rs es cs) e)
 
   pub filled_short : (f : Option Fault) → f ≡ None → room_for (k + length rs) (length es) (length cs) ≡ false
-      → filled (Faulty NoRoom end) es cs ≡ filled_from end k f rs es cs
+      → filled (Err (fault_at NoRoom end)) es cs ≡ filled_from end k f rs es cs
   filled_short f e h = sym (ap (λ (g : Option Fault). filled_from end k g rs es cs) e ∙ rw h)
 
   pub filled_all : (f : Option Fault) (n : ℕ) (es' cs' : List ℕ) → f ≡ None → room_for (k + length rs) (length es) (length cs) ≡ true
       → n ≡ k + length rs → es' ≡ sets es k (epochs_of rs) → cs' ≡ sets cs k (counts_of rs)
-      → filled (Records n) es' cs' ≡ filled_from end k f rs es cs
+      → filled (Ok n) es' cs' ≡ filled_from end k f rs es cs
   filled_all f n es' cs' e h en ee ec =
-      (λ i. filled (Records (en i)) (ee i) (ec i))
+      (λ i. filled (Ok (en i)) (ee i) (ec i))
       ∙ sym (ap (λ (g : Option Fault). filled_from end k g rs es cs) e ∙ rw h)
 
   -- records were placed
@@ -52,18 +51,18 @@ module _ (end k : ℕ) (rs : List At) (es cs : List ℕ) where
     pub epochs_set : es' ≡ sets es k (epochs_of rs)
     pub counts_set : cs' ≡ sets cs k (counts_of rs)
 
-  pub filled_whole : (f : Option Fault) (s : Scan) (n : ℕ) (es' cs' : List ℕ) → s ≡ Records n → filled s es' cs' ≡ filled_from end k f rs es cs
+  pub filled_whole : (f : Option Fault) (s : Result ℕ Fault) (n : ℕ) (es' cs' : List ℕ) → s ≡ Ok n → filled s es' cs' ≡ filled_from end k f rs es cs
       → Whole f n es' cs'
   filled_whole (Some f) s n es' cs' q e =
-      let g : s ≡ Faulty f.refusal f.place = ap (λ (x : Filled). x.scan) e in
+      let g : s ≡ Err f = ap (λ (x : Filled). x.scan) e in
       let z : ◌≡◌ {A = ℕ} 0 1 = cc in
       absurd (omega arith)
   filled_whole None s n es' cs' q e = by (room_for (k + length rs) (length es) (length cs)) refl
     where
       by : (b : Bool) → room_for (k + length rs) (length es) (length cs) ≡ b → Whole None n es' cs'
       by true h =
-          let g : filled s es' cs' ≡ filled (Records (k + length rs)) (sets es k (epochs_of rs)) (sets cs k (counts_of rs)) = rw h at e in
-          let x : s ≡ Records (k + length rs) = ap (λ (x : Filled). x.scan) g in
+          let g : filled s es' cs' ≡ filled (Ok (k + length rs)) (sets es k (epochs_of rs)) (sets cs k (counts_of rs)) = rw h at e in
+          let x : s ≡ Ok (k + length rs) = ap (λ (x : Filled). x.scan) g in
           record {
             no_fault = refl;
             has_room = h;
@@ -72,25 +71,25 @@ module _ (end k : ℕ) (rs : List At) (es cs : List ℕ) where
             counts_set = ap (λ (x : Filled). x.counts) g;
           }
       by false h =
-          let x : s ≡ Faulty NoRoom end = ap (λ (x : Filled). x.scan) (rw h at e) in
+          let x : s ≡ Err (fault_at NoRoom end) = ap (λ (x : Filled). x.scan) (rw h at e) in
           let z : ◌≡◌ {A = ℕ} 0 1 = cc in
           absurd (omega arith)
 
 -- a refusal is that of any records with the same fault that end at the same place
-pub filled_alike : (end k j : ℕ) (f g : Option Fault) (rs ss : List At) (es cs es' cs' : List ℕ) (s : Scan) (r : Refusal) (place : ℕ)
-    → g ≡ f → j + length ss ≡ k + length rs → s ≡ Faulty r place → filled s es' cs' ≡ filled_from end j g ss es cs
-    → filled (Faulty r place) es' cs' ≡ filled_from end k f rs es cs
-filled_alike end k j f (Some x) rs ss es cs es' cs' s r place p q v e =
-    ap (λ (t : Scan). filled t es' cs') (sym v) ∙ e ∙ ap (λ (h : Option Fault). filled_from end k h rs es cs) p
-filled_alike end k j f None rs ss es cs es' cs' s r place p q v e = by (room_for (j + length ss) (length es) (length cs)) refl
+pub filled_alike : (end k j : ℕ) (f g : Option Fault) (rs ss : List At) (es cs es' cs' : List ℕ) (s : Result ℕ Fault) (y : Fault)
+    → g ≡ f → j + length ss ≡ k + length rs → s ≡ Err y → filled s es' cs' ≡ filled_from end j g ss es cs
+    → filled (Err y) es' cs' ≡ filled_from end k f rs es cs
+filled_alike end k j f (Some x) rs ss es cs es' cs' s y p q v e =
+    ap (λ (t : Result ℕ Fault). filled t es' cs') (sym v) ∙ e ∙ ap (λ (h : Option Fault). filled_from end k h rs es cs) p
+filled_alike end k j f None rs ss es cs es' cs' s y p q v e = by (room_for (j + length ss) (length es) (length cs)) refl
   where
-    by : (b : Bool) → room_for (j + length ss) (length es) (length cs) ≡ b → filled (Faulty r place) es' cs' ≡ filled_from end k f rs es cs
+    by : (b : Bool) → room_for (j + length ss) (length es) (length cs) ≡ b → filled (Err y) es' cs' ≡ filled_from end k f rs es cs
     by true h =
-        let x : s ≡ Records (j + length ss) = ap (λ (x : Filled). x.scan) (rw h at e) in
+        let x : s ≡ Ok (j + length ss) = ap (λ (x : Filled). x.scan) (rw h at e) in
         let z : ◌≡◌ {A = ℕ} 0 1 = cc in
         absurd (omega arith)
     by false h =
-        ap (λ (t : Scan). filled t es' cs') (sym v)
+        ap (λ (t : Result ℕ Fault). filled t es' cs') (sym v)
         ∙ rw h at e
         ∙ filled_short end k rs es cs f (sym p) (ap (λ (n : ℕ). room_for n (length es) (length cs)) (sym q) ∙ h)
 
@@ -106,27 +105,27 @@ sound_some d at prev h e = by (next prev (drop at d)) refl
 
 module _ (end k : ℕ) (f : Option Fault) (rs : List At) (es cs : List ℕ) where
   -- all were judged: one is at fault
-  pub judged_faulty : (r : Refusal) (place : ℕ) → (f ≡ None → 1 ≤ length rs) → Faulty r place ≡ scan_of end f (length rs)
-      → filled (Faulty r place) es cs ≡ filled_from end k f rs es cs
-  judged_faulty r place here e = by f refl
+  pub judged_faulty : (y : Fault) → (f ≡ None → 1 ≤ length rs) → Err y ≡ scan_of end f (length rs)
+      → filled (Err y) es cs ≡ filled_from end k f rs es cs
+  judged_faulty y here e = by f refl
     where
-      by : (g : Option Fault) → f ≡ g → filled (Faulty r place) es cs ≡ filled_from end k f rs es cs
-      by (Some x) q = ap (λ (s : Scan). filled s es cs) (e ∙ ap (λ (g : Option Fault). scan_of end g (length rs)) q)
+      by : (g : Option Fault) → f ≡ g → filled (Err y) es cs ≡ filled_from end k f rs es cs
+      by (Some x) q = ap (λ (s : Result ℕ Fault). filled s es cs) (e ∙ ap (λ (g : Option Fault). scan_of end g (length rs)) q)
           ∙ sym (ap (λ (g : Option Fault). filled_from end k g rs es cs) q)
       by None q =
           let l = here q in
-          let s : Faulty r place ≡ Records (length rs) = e ∙ sym (scan_some end (length rs) (length rs) f q refl (λ z. omega arith)) in
+          let s : Err y ≡ Ok (length rs) = e ∙ sym (scan_some end (length rs) (length rs) f q refl (λ z. omega arith)) in
           let z : ◌≡◌ {A = ℕ} 0 1 = cc in
           absurd (omega arith)
 
 -- or none is, and so many there are
-pub judged_sound : (end : ℕ) (f : Option Fault) (m n : ℕ) → Records n ≡ scan_of end f m → (f ≡ None) × (n ≡ m)
+pub judged_sound : (end : ℕ) (f : Option Fault) (m n : ℕ) → Ok n ≡ scan_of end f m → (f ≡ None) × (n ≡ m)
 judged_sound end (Some x) m n e = let z : ◌≡◌ {A = ℕ} 0 1 = cc in absurd (omega arith)
 judged_sound end None m n e = by (eqb m 0) refl
   where
     by : (b : Bool) → eqb m 0 ≡ b → (◌≡◌ {A = Option Fault} None None) × (n ≡ m)
-    by true q = let s : Records n ≡ Faulty WrongSize end = rw q at e in let z : ◌≡◌ {A = ℕ} 0 1 = cc in absurd (omega arith)
-    by false q = let s : Records n ≡ Records m = rw q at e in (refl, cc)
+    by true q = let s : Ok n ≡ Err (fault_at WrongSize end) = rw q at e in let z : ◌≡◌ {A = ℕ} 0 1 = cc in absurd (omega arith)
+    by false q = let s : Ok n ≡ Ok m = rw q at e in (refl, cc)
 
 -- ---- one block
 
@@ -197,7 +196,7 @@ module _ {d : List ℕ} {at prev n j e : ℕ} {bes bcs bes' bcs' : List ℕ} (t 
         )
 
     pub stacked : n ≤ length bes → n ≤ length bcs → (i : ℕ) (es' cs' : List ℕ) → Placed (take n (records_of bes' bcs')) k i es₁ cs₁ es' cs'
-        → filled (Records m) es' cs' ≡ filled_from (length d) k (rest d at prev).fault (rest d at prev).records es cs
+        → filled (Ok m) es' cs' ≡ filled_from (length d) k (rest d at prev).fault (rest d at prev).records es cs
     stacked he hc i es' cs' q =
         let p : Placed (take n (rest d at prev).records) k i es₁ cs₁ es' cs' = rw (taken_block he hc) at q in
         let f : List At = take n (rest d at prev).records in

@@ -1,5 +1,6 @@
 -- Records read into a block, one after another: each is there whole, and goes to its place of the block's tables.
 -- Assumes nothing.
+use Rattle.std.specs.Prelude.{Ok, Err}
 use Prim.Native.Nat.{ℕ, ◌+◌, ◌≤◌, ◌<◌}
 use native.Mathlib.Omega.{arith}
 use mathlib.Core.Path.{◌≡◌, refl, sym, ap, ◌∙◌}
@@ -10,10 +11,12 @@ use lib.Seq.{drop-drop, take-add, length-sets}
 use Rattle.records_spec.specs.Tables.{At, ◌⦂◌, epochs_of, counts_of}
 use Rattle.records_spec.specs.declared.refusal.Refusal.{Refusal}
 use Rattle.records_spec.proofs.Tables.{filling_start, filling_done, placed_one, placed_then}
+use Rattle.codec_spec.specs.declared.blocks.Block.{Block}
+use Rattle.codec_spec.specs.declared.judging.Fault.{Fault}
+use Rattle.codec_spec.specs.declared.record.GotRecord.{GotRecord}
+use Rattle.codec_spec.specs.Reading.{fault_at}
 use Rattle.codec_spec.specs.Reading.{next, Parsed}
 use Rattle.codec_spec.specs.Inner.Blocks.{got_of, Taken, block_records, Blocked}
-use Rattle.codec_spec.specs.declared.record.GotRecord.TheVariants.{Bad, Good}
-use Rattle.codec_spec.specs.declared.blocks.Block.TheVariants.{Faulty, Read}
 use Rattle.codec_spec.proofs.Parsing.{rest, rest_bad, rest_good}
 use Rattle.codec_spec.proofs.Turns.{got_bad, got_good}
 
@@ -40,13 +43,17 @@ module _ {d : List ℕ} {at prev n j e : ℕ} {es₀ cs₀ es cs : List ℕ} (t 
 
   module _ (inside : j < length d) where
     -- the next record is at fault
-    pub taken_bad : (r : Refusal) → got_of j (next e (drop j d)) ≡ Bad r → (rest d at prev).fault ≡ Some (record { refusal = r; place = j })
+    pub taken_bad : (r : Refusal) → got_of j (next e (drop j d)) ≡ Err r → (rest d at prev).fault ≡ Some (fault_at r j)
     taken_bad r q = t.fault_on ∙ ap (λ (p : Parsed). p.fault) (rest_bad d j e r inside (got_bad j (next e (drop j d)) r q))
 
     -- the next record is read too
-    pub taken_more : (x k i : ℕ) → got_of j (next e (drop j d)) ≡ Good x k i → Taken d at prev (n + 1) i x es₀ cs₀ (set es n x) (set cs n k)
-    taken_more x k i q =
-        let g = got_good j (next e (drop j d)) x k i q in
+    pub taken_more : (y : GotRecord) → got_of j (next e (drop j d)) ≡ Ok y
+        → Taken d at prev (n + 1) y.next y.epoch es₀ cs₀ (set es n y.epoch) (set cs n y.count)
+    taken_more y q =
+        let x : ℕ = y.epoch in
+        let k : ℕ = y.count in
+        let i : ℕ = y.next in
+        let g = got_good j (next e (drop j d)) y q in
         let u = rest_good d j e (x ⦂ k) g.0 inside g.1 in
         let all : List At = (rest d at prev).records in
         let on : rest d (j + g.0) x ≡ rest d i x = ap (λ (m : ℕ). rest d m x) (sym g.2) in
@@ -64,26 +71,24 @@ module _ {d : List ℕ} {at prev n j e : ℕ} {es₀ cs₀ es cs : List ℕ} (t 
 
 -- ---- a block, as the code tells it
 
-pub blocked_faulty : (d : List ℕ) (at prev : ℕ) (es cs es' cs' : List ℕ) (r : Refusal) (place : ℕ)
-    → (rest d at prev).fault ≡ Some (record { refusal = r; place = place })
-    → Blocked d at prev (Faulty r place) es cs es' cs'
-blocked_faulty d at prev es cs es' cs' r place h =
+pub blocked_faulty : (d : List ℕ) (at prev : ℕ) (es cs es' cs' : List ℕ) (f : Fault)
+    → (rest d at prev).fault ≡ Some f
+    → Blocked d at prev (Err f) es cs es' cs'
+blocked_faulty d at prev es cs es' cs' f h =
     record {
-      at_fault = λ s p e.
-          let a : r ≡ s = cc in
-          let b : place ≡ p = cc in
-          h ∙ (λ i. Some (record { refusal = a i; place = b i }));
-      taken = λ n j e q. let z : ◌≡◌ {A = ℕ} 0 1 = cc in absurd (omega arith);
+      at_fault = λ g e. let a : f ≡ g = cc in h ∙ ap Some a;
+      taken = λ x q. let z : ◌≡◌ {A = ℕ} 0 1 = cc in absurd (omega arith);
     }
 
 pub blocked_taken : {d : List ℕ} {at prev n j e : ℕ} {es cs es' cs' : List ℕ} → Taken d at prev n j e es cs es' cs' → (j < length d → 1 ≤ n)
-    → n ≤ block_records → Blocked d at prev (Read n j e) es cs es' cs'
+    → n ≤ block_records → Blocked d at prev (Ok (record { n = n; next = j; last = e })) es cs es' cs'
 blocked_taken {d} {at} {prev} {n} {j} {e} {es} {cs} {es'} {cs'} t here few =
     record {
-      at_fault = λ r p q. let z : ◌≡◌ {A = ℕ} 0 1 = cc in absurd (omega arith);
-      taken = λ m i x q.
-          let a : n ≡ m = cc in
-          let b : j ≡ i = cc in
-          let f : e ≡ x = cc in
+      at_fault = λ g q. let z : ◌≡◌ {A = ℕ} 0 1 = cc in absurd (omega arith);
+      taken = λ x q.
+          let s : record { n = n; next = j; last = e } ≡ x = cc in
+          let a : n ≡ x.n = ap (λ (y : Block). y.n) s in
+          let b : j ≡ x.next = ap (λ (y : Block). y.next) s in
+          let f : e ≡ x.last = ap (λ (y : Block). y.last) s in
           (rw (a, b, f) at t, rw (a, b) at here, rw a at few);
     }

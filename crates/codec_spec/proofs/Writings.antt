@@ -12,13 +12,12 @@ use Rattle.fields_spec.specs.Writing.{Put}
 use Rattle.fields_spec.proofs.Parts.{Parts, parts_start, parts_byte}
 use Rattle.records_spec.specs.Tables.{At, records_of, over}
 use Rattle.records_spec.specs.Flags.{proper, flags_of, owner_of, type_byte, kind_of, holding, Held}
-use Rattle.records_spec.specs.Answers.{writing, counted}
+use Rattle.records_spec.specs.Answers.{writing}
 use Rattle.records_spec.specs.Outcomes.{refused, after, ok, leaving, refusing}
 use Rattle.records_spec.specs.Refusals.{number}
 use Rattle.records_spec.specs.declared.refusal.Refusal.TheVariants.{BadTable}
 use Rattle.records_spec.specs.declared.head.Kind.{Kind}
 use Rattle.records_spec.specs.declared.head.Head.{Head}
-use Rattle.records_spec.specs.declared.answer.Counted.TheVariants.{Count}
 use Rattle.records_spec.proofs.Tables.{length_records_of, counts_records, records_on, over_sets}
 use Rattle.records_spec.proofs.Proper.{IsProper, kind_agrees}
 use Rattle.records_spec.proofs.Answers.{writing_fits}
@@ -83,7 +82,7 @@ bytes_proper h es cs p =
     ap (λ (k : Kind). head_bytes k (owner_of h) h.base ++ records_bytes rs) (ap (kind_of (owner_of h)) n ∙ kind_agrees h p.agrees_kind)
 
 -- bytes that were put at the start of an output with room
-pub put_written : (xs old new : List ℕ) (n : ℕ) → Put xs 0 n old new → length xs ≤ length old → after (counted (Count n)) new ≡ writing xs old
+pub put_written : (xs old new : List ℕ) (n : ℕ) → Put xs 0 n old new → length xs ≤ length old → after (ok n) new ≡ writing xs old
 put_written xs old new n p h =
     let e : n ≡ length xs = omega (arith, p.behind) in
     let o : new ≡ over xs old = p.wrote ∙ over_sets xs old h in

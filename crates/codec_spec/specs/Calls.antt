@@ -1,23 +1,23 @@
 -- What the calls of this crate answer and leave.
 -- Assumes nothing.
-use Rattle.std.specs.Prelude.{ℕ, List, length}
+use Rattle.std.specs.Prelude.{ℕ, List, length, Result, Ok, Err}
 use Rattle.std.specs.Prelude.{Option, None, Some}
 use Rattle.records_spec.specs.Refusals.{number}
 use Rattle.records_spec.specs.Outcomes.{Answer, ok, refused, ◌unless◌, leaving, ◌>>◌}
-use Rattle.records_spec.specs.Flags.{Flags, Lent, Held, flags_of, head_of, no_head, proper}
+use Rattle.records_spec.specs.Flags.{Flags, Lent, Held, flags_of, head_of, proper}
 use Rattle.records_spec.specs.Answers.{FlagsAfter, placing_if, BytesAfter, placed_bytes}
 use Rattle.records_spec.specs.declared.head.Kind.{Kind}
 use Rattle.records_spec.specs.declared.refusal.Refusal.TheVariants.{BadTable}
 use Rattle.codec_spec.specs.Bytes.{bytes_of}
-use Rattle.codec_spec.specs.Reading.{Read, no_flags, some_flags, refused_at, read_as, read}
-use Rattle.codec_spec.specs.declared.judging.Verdict.TheVariants.{Absent, Present, Refused}
-use Rattle.codec_spec.specs.declared.judging.Judgement.{Judgement}
+use Rattle.codec_spec.specs.Reading.{Read, no_flags, some_flags, refused_at, fault_at, read_as, read}
+use Rattle.records_spec.specs.declared.head.Head.{Head}
+use Rattle.codec_spec.specs.declared.judging.Fault.{Fault}
 
 -- what judging answers: flags by their head, or the refusal and its place
-abbrev pub judgement : Read → Judgement
-judgement no_flags = record { verdict = Absent; head = no_head }
-judgement (some_flags f) = record { verdict = Present; head = head_of f }
-judgement (refused_at r place) = record { verdict = Refused r place; head = no_head }
+abbrev pub judgement : Read → Result (Option Head) Fault
+judgement no_flags = Ok None
+judgement (some_flags f) = Ok (Some (head_of f))
+judgement (refused_at r place) = Err (fault_at r place)
 
 -- what reading answers: the place of a fault is dropped
 abbrev pub answer : Read → Answer (Option Flags)

@@ -9,8 +9,7 @@ use Rattle.records_spec.specs.Flags.{Flags, flags, owned, multi, kind_of_byte, o
 use Rattle.records_spec.specs.declared.refusal.Refusal.{Refusal}
 use Rattle.records_spec.specs.declared.refusal.Refusal.TheVariants.{UnknownType, WrongSize, NonCanonical}
 use Rattle.records_spec.specs.declared.head.Kind.{Kind}
-use Rattle.records_spec.specs.declared.head.KindByte.{KindByte}
-use Rattle.records_spec.specs.declared.head.KindByte.TheVariants.{Known, Unknown}
+use Rattle.codec_spec.specs.declared.judging.Fault.{Fault}
 use Rattle.codec_spec.specs.Bytes.{behind_kind, base_place, head_size}
 
 -- ---- one record
@@ -33,9 +32,8 @@ next prev xs = cond (ltb (length xs) 2) (bad WrongSize) (with_count prev (said (
 -- ---- records one after another, the first fault decides
 
 -- why bytes are refused, and where
-pub record Fault : Type 0 where
-  pub refusal : Refusal
-  pub place : ℕ
+abbrev pub fault_at : Refusal → ℕ → Fault
+fault_at r place = record { refusal = r; place = place }
 
 -- the first fault, if there is one, and the records before it
 pub record Parsed : Type 0 where
@@ -44,7 +42,7 @@ pub record Parsed : Type 0 where
 
 -- a fault at the place at ends it; a record stands before those that go finds behind it
 abbrev pub following : Next → ℕ → (At → ℕ → Parsed) → Parsed
-following (bad r) at go = record { fault = Some (record { refusal = r; place = at }); records = [] }
+following (bad r) at go = record { fault = Some (fault_at r at); records = [] }
 following (good r used) at go = record { fault = (go r used).fault; records = r ∷ (go r used).records }
 
 -- of the bytes from the place at on, of which the first k belong to the record before, at the epoch prev
@@ -93,9 +91,9 @@ read_as k xs =
     (cond (eqb (length xs) (head_size k)) (some_flags (flags (base_in k xs) (owner_in k xs) [])) (refused_at WrongSize (length xs)))
 
 -- flags of the kind that a byte names, if it names one
-abbrev pub read_byte : KindByte → List ℕ → Read
-read_byte (Known k) xs = read_as k xs
-read_byte Unknown xs = refused_at UnknownType 0
+abbrev pub read_byte : Option Kind → List ℕ → Read
+read_byte (Some k) xs = read_as k xs
+read_byte None xs = refused_at UnknownType 0
 
 -- flags of the kind that byte 0 names; no bytes are no flags
 unfoldable pub read : List ℕ → Read

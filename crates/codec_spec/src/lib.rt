@@ -10,6 +10,6 @@ mod sizes;
 
 pub use blocks::{BLOCK_RECORDS, Block};
 pub use head::{BEHIND_KIND, BEHIND_OWNER, OWNED_HEAD, UNOWNED_HEAD};
-pub use judging::{Judgement, Scan, Verdict};
+pub use judging::Fault;
 pub use record::GotRecord;
 pub use sizes::{Changes, LONGEST_RECORD};

@@ -1,9 +1,9 @@
 // What reading one record finds.
-use records_spec::Refusal;
 
-// What reading a record finds: why it is refused, or its epoch, its count and the place behind it.
+// A record's epoch, its count and the place behind it.
 #[derive(Clone, Copy)]
-pub enum GotRecord {
-    Bad(Refusal),
-    Good { epoch: u16, count: u32, next: usize },
+pub struct GotRecord {
+    pub epoch: u16,
+    pub count: u32,
+    pub next: usize,
 }

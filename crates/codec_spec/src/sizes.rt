@@ -3,9 +3,9 @@
 // No record is longer: two bytes of epoch and five of count. It is `longest_record`, by way of the longest flags in `migrate::main`.
 pub const LONGEST_RECORD: usize = 7;
 
-// How many changes there are about, and the size of each, if given.
+// How many changes there are about, and the size of each.
 #[derive(Clone, Copy)]
-pub enum Changes {
-    NotGiven,
-    Given(u16, u8),
+pub struct Changes {
+    pub count: u16,
+    pub size: u8,
 }
