@@ -6,9 +6,11 @@ use mathlib.Core.Bool.{Bool, true, false, cond}
 use Rattle.records_spec.specs.Refusals.{number}
 use Rattle.records_spec.specs.Outcomes.{refused, After, after, refusing}
 use Rattle.records_spec.specs.Flags.{no_head, Lent, blank}
-use Rattle.records_spec.specs.Answers.{FlagsAfter, present_in, shown}
+use Rattle.records_spec.specs.Answers.{FlagsAfter, present_in, head_in, shown}
 use Rattle.records_spec.specs.declared.refusal.Refusal.TheVariants.{BadTable}
-use Rattle.records_spec.specs.declared.answer.Answered.{Answered}
+use Rattle.records_spec.specs.declared.head.Head.{Head}
+use Rattle.records_spec.specs.declared.refusal.Refusal.{Refusal}
+use Rattle.std.specs.Prelude.{Option, Result}
 use Rattle.capi_spec.specs.Told.{told_as, flags_answer, flags_told}
 use Rattle.capi_spec.specs.Calls.{where_named}
 use Rattle.capi_spec.specs.declared.types.CFlags.{CFlags}
@@ -27,7 +29,7 @@ module _ {A : Type 0} (b : Bool) (x y : A) {z : A} where
 pub told_as_lem : {A B M : Type 0} (f : A → B) (r : B) (a : A) (m : M) (x : After A M) → r ≡ f a → after a m ≡ x → after r m ≡ told_as f x
 told_as_lem f r a m x h k = ap (λ z. after z m) h ∙ ap (told_as f) k
 
-pub flags_told_lem : (r : CFlags) (a : Answered) (t : Lent) (x : FlagsAfter) → r ≡ flags_answer (present_in a.outcome) a.head → shown a t ≡ x
+pub flags_told_lem : (r : CFlags) (a : Result (Option Head) Refusal) (t : Lent) (x : FlagsAfter) → r ≡ flags_answer (present_in a) (head_in a) → shown a t ≡ x
     → after r t ≡ flags_told x
 flags_told_lem r a t x h k = ap (λ (z : CFlags). after z t) h ∙ ap flags_told k
 

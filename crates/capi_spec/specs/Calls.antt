@@ -1,16 +1,15 @@
 -- The calls that C makes, each the definition of its layer on what C gives, or a refusal where a byte names nothing.
 -- Assumes nothing.
-use Rattle.std.specs.Prelude.{ℕ, ◌≡◌, Bool, true, cond, ◌&&◌, List}
+use Rattle.std.specs.Prelude.{ℕ, ◌≡◌, Bool, true, cond, ◌&&◌, List, Option, Result, Err}
 use Rattle.records_spec.specs.Outcomes.{Answer, ok, ◌unless◌, ◌>>◌, After, after, refusing}
-use Rattle.records_spec.specs.Flags.{type_byte, owner_of, maybe_owner, with_owner, Lent, blank}
+use Rattle.records_spec.specs.Flags.{type_byte, owner_of, with_owner, Lent, blank}
 use Rattle.records_spec.specs.Answers.{FlagsAfter, BytesAfter}
 use Rattle.records_spec.specs.declared.head.Head.{Head}
-use Rattle.records_spec.specs.declared.head.MaybeOwner.{MaybeOwner}
+use Rattle.records_spec.specs.declared.refusal.Refusal.{Refusal}
 use Rattle.records_spec.specs.declared.refusal.Refusal.TheVariants.{BadTable}
 use Rattle.codec_spec.specs.Calls.{serialized, size_of}
 use Rattle.flags_spec.specs.Calls.{owner_choice, combined_added, optional_combined_added}
 use Rattle.flags_spec.specs.declared.owners.Choice.{Choice}
-use Rattle.flags_spec.specs.declared.owners.Choice.TheVariants.{Refused}
 use Rattle.rows_spec.specs.Rows.{Tables}
 use Rattle.rows_spec.specs.Calls.{has_removal, total_removed, RemovalAfter}
 use Rattle.sums_spec.specs.Calls.{summed}
@@ -43,8 +42,8 @@ size_c f = do
   size_of (held_given f)
 
 -- `petasunok_combine_owner_id`
-abbrev pub owner_c : ℕ → List ℕ → List ℕ → Choice
-owner_c s ours theirs = cond (is_strategy s) (owner_choice (strategy_given s) ours theirs) (Refused BadTable)
+abbrev pub owner_c : ℕ → List ℕ → List ℕ → Result Choice Refusal
+owner_c s ours theirs = cond (is_strategy s) (owner_choice (strategy_given s) ours theirs) (Err BadTable)
 
 -- ---- merging
 
@@ -135,10 +134,10 @@ base_c h = do
   ok (head_given h).base
 
 -- `petasunok_owner_id`
-abbrev pub owner_id_c : CHead → Answer MaybeOwner
+abbrev pub owner_id_c : CHead → Answer (Option (List ℕ))
 owner_id_c h = do
   BadTable unless is_kind h.kind
-  ok (maybe_owner (owner_of (head_given h)))
+  ok (owner_of (head_given h))
 
 -- `petasunok_type_byte`
 abbrev pub type_byte_c : CHead → Answer ℕ

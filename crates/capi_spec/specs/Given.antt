@@ -1,20 +1,17 @@
 -- What C gives, as the calls take it. A byte stands for each of a kind, a removal's kind, a strategy and a truth.
 -- Assumes nothing.
-use Rattle.std.specs.Prelude.{ℕ, Bool, true, false, cond, ◌&&◌, List, leb, ltb, eqb}
+use Rattle.std.specs.Prelude.{ℕ, Bool, true, false, cond, ◌&&◌, List, leb, ltb, eqb, is_some, Option, Some, None}
 use Rattle.records_spec.specs.Flags.{kind_of_byte, Held, holding}
 use Rattle.records_spec.specs.declared.head.Kind.{Kind}
 use Rattle.records_spec.specs.declared.head.Kind.TheVariants.{SingleEpoch}
-use Rattle.records_spec.specs.declared.head.KindByte.{KindByte}
-use Rattle.records_spec.specs.declared.head.KindByte.TheVariants.{Known, Unknown}
 use Rattle.records_spec.specs.declared.head.Head.{Head}
 use Rattle.codec_spec.specs.declared.sizes.Changes.{Changes}
-use Rattle.codec_spec.specs.declared.sizes.Changes.TheVariants.{NotGiven, Given}
 use Rattle.flags_spec.specs.declared.owners.MergingOwnersStrategy.{MergingOwnersStrategy}
 use Rattle.flags_spec.specs.declared.owners.MergingOwnersStrategy.TheVariants.{RaiseIssue, UseOurs, UseTheirs}
 use Rattle.rows_spec.specs.Rows.{Tables}
 use Rattle.rows_spec.specs.Removals.{HeldRemoval, holding_rows}
 use Rattle.rows_spec.specs.declared.removed.Removed.{Removed}
-use Rattle.rows_spec.specs.declared.removed.Removed.TheVariants.{None, Basic, Sectioned}
+use Rattle.rows_spec.specs.declared.removed.Removed.TheVariants.{None as NoRemoval, Basic, Sectioned}
 use Rattle.capi_spec.specs.declared.types.CHead.{CHead}
 use Rattle.capi_spec.specs.declared.types.CRemoval.{CRemoval}
 
@@ -24,19 +21,14 @@ is_true b = ltb 0 b
 
 -- ---- flags
 
--- whether what a byte says is a kind
-abbrev pub known : KindByte → Bool
-known (Known k) = true
-known Unknown = false
-
 -- the kind that was found; where there is none, the call is refused before this one is used
-abbrev pub kind_found : KindByte → Kind
-kind_found (Known k) = k
-kind_found Unknown = SingleEpoch
+abbrev pub kind_found : Option Kind → Kind
+kind_found (Some k) = k
+kind_found None = SingleEpoch
 
 -- whether a byte is that of a kind, 0 to 3
 abbrev pub is_kind : ℕ → Bool
-is_kind b = known (kind_of_byte b)
+is_kind b = is_some (kind_of_byte b)
 
 -- the head that C's head stands for
 abbrev pub head_given : CHead → Head
@@ -69,8 +61,8 @@ abbrev pub is_kind_if : Bool → CHead → Bool
 is_kind_if present h = cond present (is_kind h.kind) true
 
 -- the changes, if given
-abbrev pub changes_given : ℕ → ℕ → ℕ → Changes
-changes_given given count size = cond (is_true given) (Given count size) NotGiven
+abbrev pub changes_given : ℕ → ℕ → ℕ → Option Changes
+changes_given given count size = cond (is_true given) (Some (record { count = count; size = size })) None
 
 -- ---- merging
 
@@ -100,7 +92,7 @@ is_removal b = leb b 2
 
 -- 0 none, 1 basic, 2 sectioned
 abbrev pub removed_given : CRemoval → Removed
-removed_given r = cond (eqb r.kind 0) None (cond (eqb r.kind 1) (Basic r.bytes) (Sectioned r.rows))
+removed_given r = cond (eqb r.kind 0) NoRemoval (cond (eqb r.kind 1) (Basic r.bytes) (Sectioned r.rows))
 
 -- a removal as C gives it: its state, and the tables that hold its rows
 pub record CHeldRemoval : Type 0 where

@@ -1,18 +1,18 @@
 -- What the calls answer and leave, as C gets it: C's answer, and the lent memory. In a refused answer everything but the number is 0.
 -- Assumes nothing.
-use Rattle.std.specs.Prelude.{ℕ, Bool, true, false}
+use Rattle.std.specs.Prelude.{ℕ, Bool, true, false, List, Option, Some, None, Result, Ok, Err}
 use Rattle.records_spec.specs.Refusals.{number}
 use Rattle.records_spec.specs.Outcomes.{Answer, ok, refused, After, after}
 use Rattle.records_spec.specs.Flags.{type_byte, no_head, zeros, Lent, lending}
 use Rattle.records_spec.specs.Answers.{FlagsAfter}
 use Rattle.records_spec.specs.declared.head.Head.{Head}
-use Rattle.records_spec.specs.declared.head.MaybeOwner.{MaybeOwner}
+use Rattle.records_spec.specs.declared.refusal.Refusal.{Refusal}
 use Rattle.flags_spec.specs.declared.owners.Choice.{Choice}
-use Rattle.flags_spec.specs.declared.owners.Choice.TheVariants.{Ours, Theirs, Neither, Refused}
+use Rattle.flags_spec.specs.declared.owners.Choice.TheVariants.{Ours, Theirs, Neither}
 use Rattle.rows_spec.specs.declared.removed.Removed.{Removed}
-use Rattle.rows_spec.specs.declared.removed.Removed.TheVariants.{None, Basic, Sectioned}
+use Rattle.rows_spec.specs.declared.removed.Removed.TheVariants.{None as NoRemoval, Basic, Sectioned}
 use Rattle.splitting_spec.specs.Calls.{Told}
-use Rattle.repair_spec.specs.Calls.{Sizes}
+use Rattle.repair_spec.specs.declared.repairing.Sizes.{Sizes}
 use Rattle.capi_spec.specs.declared.types.CHead.{CHead}
 use Rattle.capi_spec.specs.declared.types.CFlags.{CFlags}
 use Rattle.capi_spec.specs.declared.types.CCount.{CCount}
@@ -67,34 +67,35 @@ truth_told (refused r) = record { refusal = r; count = 0 }
 -- ---- the owner rule
 
 -- 0 none, 1 ours, 2 theirs, or a refusal's number
-abbrev pub owner_told : Choice → COwner
-owner_told Neither = record { refusal = 0; which = 0 }
-owner_told Ours = record { refusal = 0; which = 1 }
-owner_told Theirs = record { refusal = 0; which = 2 }
-owner_told (Refused r) = record { refusal = number r; which = 0 }
+abbrev pub owner_told : Result Choice Refusal → COwner
+owner_told (Ok Neither) = record { refusal = 0; which = 0 }
+owner_told (Ok Ours) = record { refusal = 0; which = 1 }
+owner_told (Ok Theirs) = record { refusal = 0; which = 2 }
+owner_told (Err r) = record { refusal = number r; which = 0 }
 
 -- an owner or none, or a refusal's number
-abbrev pub owner_id_told : Answer MaybeOwner → CMaybeOwner
-owner_id_told (ok o) = record { refusal = 0; present = truth o.owned; id = record { bytes = o.id } }
+abbrev pub owner_id_told : Answer (Option (List ℕ)) → CMaybeOwner
+owner_id_told (ok None) = record { refusal = 0; present = 0; id = record { bytes = zeros } }
+owner_id_told (ok (Some o)) = record { refusal = 0; present = 1; id = record { bytes = o } }
 owner_id_told (refused r) = record { refusal = r; present = 0; id = record { bytes = zeros } }
 
 -- ---- removals
 
 -- 0 none, 1 basic, 2 sectioned; what a kind does not have is 0
 abbrev pub removal_told : Removed → CRemoval
-removal_told None = record { kind = 0; bytes = 0; rows = 0 }
+removal_told NoRemoval = record { kind = 0; bytes = 0; rows = 0 }
 removal_told (Basic n) = record { kind = 1; bytes = n; rows = 0 }
 removal_told (Sectioned n) = record { kind = 2; bytes = 0; rows = n }
 
 -- the removal's state, or a refusal's number
 abbrev pub sum_answer : Answer Removed → CSum
 sum_answer (ok x) = record { refusal = 0; removal = removal_told x }
-sum_answer (refused r) = record { refusal = r; removal = removal_told None }
+sum_answer (refused r) = record { refusal = r; removal = removal_told NoRemoval }
 
 -- the removal's state and the number of records visited, or a refusal's number
 abbrev pub split_answer : Answer Told → CValueSplit
 split_answer (ok u) = record { refusal = 0; removal = removal_told u.removal; visited = u.visited }
-split_answer (refused r) = record { refusal = r; removal = removal_told None; visited = 0 }
+split_answer (refused r) = record { refusal = r; removal = removal_told NoRemoval; visited = 0 }
 
 -- ---- repairs
 

@@ -10,11 +10,11 @@ use Rattle.records_spec.specs.Tables.{over}
 use Rattle.records_spec.specs.Answers.{room_for}
 use Rattle.records_spec.proofs.Tables.{over_first, over-holds}
 use Rattle.repair_spec.specs.Repairing.{Repaired, repaired}
-use Rattle.repair_spec.specs.Calls.{Sizes, offsets_of, changes_of, repaired_into, written, placing_repair, repair_lent, sizes_of, told_repair, RepairAfter}
+use Rattle.repair_spec.specs.Calls.{offsets_of, changes_of, repaired_into, written, placing_repair, repair_lent, sizes_of, RepairAfter}
 use Rattle.records_spec.specs.Outcomes.{refused, Answer, ok, after, leaving, kept, placed}
 use Rattle.records_spec.specs.Refusals.{number}
 use Rattle.records_spec.specs.declared.refusal.Refusal.TheVariants.{NoRoom}
-use Rattle.repair_spec.specs.declared.repairing.AnsweredRepair.TheVariants.{Done}
+use Rattle.repair_spec.specs.declared.repairing.Sizes.{Sizes}
 use Rattle.repair_spec.proofs.Columns.{length_offsets_of, length_changes_of}
 use Rattle.change_lines_spec.specs.Text.{lines_in}
 use Rattle.change_lines_spec.specs.Theorems.{RepairStands}
@@ -31,13 +31,13 @@ lines_of (ok s) = s.lines
 
 module _ (b n : ℕ) (out os cs out₀ os₀ cs₀ : List ℕ) where
   -- a call that was done has not been refused
-  not_kept : (k : ℕ) → after (told_repair (Done b n)) (repair_lent out os cs) ≡ kept k (repair_lent out₀ os₀ cs₀) → ⊥
+  not_kept : (k : ℕ) → after {A = Answer Sizes} (ok (record { bytes = b; lines = n })) (repair_lent out os cs) ≡ kept k (repair_lent out₀ os₀ cs₀) → ⊥
   not_kept k e =
       let a : ◌≡◌ {A = Answer Sizes} (ok (record { bytes = b; lines = n })) (refused k) = ap (λ (w : RepairAfter). w.answer) e in
       let z : ◌≡◌ {A = ℕ} 0 1 = cc in
       omega arith
 
-  left_placed : (r : Repaired) → after (told_repair (Done b n)) (repair_lent out os cs) ≡ after (ok (sizes_of r)) (written r (repair_lent out₀ os₀ cs₀))
+  left_placed : (r : Repaired) → after {A = Answer Sizes} (ok (record { bytes = b; lines = n })) (repair_lent out os cs) ≡ after (ok (sizes_of r)) (written r (repair_lent out₀ os₀ cs₀))
       → RepairStands (ok r) b n out os cs
   left_placed r e =
       let p : b ≡ length r.bytes = ap (λ (w : RepairAfter). bytes_of w.answer) e in
@@ -60,20 +60,20 @@ module _ (b n : ℕ) (out os cs out₀ os₀ cs₀ : List ℕ) where
       }
 
   left_room : (t : Bool) (r : Repaired)
-      → after (told_repair (Done b n)) (repair_lent out os cs)
+      → after {A = Answer Sizes} (ok (record { bytes = b; lines = n })) (repair_lent out os cs)
       ≡ leaving (repair_lent out₀ os₀ cs₀) (placed t (sizes_of r) (written r (repair_lent out₀ os₀ cs₀)))
       → RepairStands (ok r) b n out os cs
   unfolding leaving
   left_room true r e = left_placed r e
   left_room false r e = absurd (not_kept (number NoRoom) e)
 
-  pub left_after : (x : Answer Repaired) → after (told_repair (Done b n)) (repair_lent out os cs) ≡ placing_repair x (repair_lent out₀ os₀ cs₀)
+  pub left_after : (x : Answer Repaired) → after {A = Answer Sizes} (ok (record { bytes = b; lines = n })) (repair_lent out os cs) ≡ placing_repair x (repair_lent out₀ os₀ cs₀)
       → RepairStands x b n out os cs
   unfolding placing_repair leaving
   left_after (refused k) e = absurd (not_kept k e)
   left_after (ok r) e = left_room (leb (length r.bytes) (length out₀) && room_for (length r.lines) (length os₀) (length cs₀)) r e
 
   -- BYTES AND LIST ARE THE DEFINITION'S
-  pub left_repair : (src : List ℕ) → after (told_repair (Done b n)) (repair_lent out os cs) ≡ repaired_into src (repair_lent out₀ os₀ cs₀)
+  pub left_repair : (src : List ℕ) → after {A = Answer Sizes} (ok (record { bytes = b; lines = n })) (repair_lent out os cs) ≡ repaired_into src (repair_lent out₀ os₀ cs₀)
       → RepairStands (repaired src) b n out os cs
   left_repair src e = left_after (repaired src) e

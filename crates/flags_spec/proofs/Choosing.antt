@@ -1,10 +1,10 @@
 -- The owner rule as the code has it, of heads and of what was read; and the chosen owner as a part of the encoding that holds it.
 -- By cases on the owners and on what reading finds.
 -- Assumes nothing.
-use mathlib.Core.Path.{◌≡◌, refl, sym, ap, ◌∙◌}
+use mathlib.Core.Path.{◌≡◌, refl, sym, ap, ap₂, ◌∙◌}
 use mathlib.Core.Logic.{◌⊎◌, ⊎_elim}
 use mathlib.Core.Bool.{Bool, true, false, true≢false}
-use Rattle.std.specs.Prelude.{Option, None, Some}
+use Rattle.std.specs.Prelude.{Option, None, Some, Result, Ok, Err}
 use mathlib.Core.List.{List}
 use Prim.Native.Nat.{ℕ, ◌≤◌}
 use native.Mathlib.Omega.{arith}
@@ -15,51 +15,22 @@ use Rattle.records_spec.specs.Refusals.{number}
 use Rattle.records_spec.specs.declared.refusal.Refusal.TheVariants.{DifferentOwners}
 use Rattle.records_spec.specs.declared.refusal.Refusal.{Refusal}
 use Rattle.records_spec.proofs.Proper.{owner_head}
-use Rattle.records_spec.proofs.Owners.{owner_back, same_self}
+use Rattle.records_spec.proofs.Owners.{same_self}
 use Rattle.codec_spec.specs.Bytes.{behind_kind, owned_head}
 use Rattle.codec_spec.specs.Reading.{Read, no_flags, some_flags, refused_at, read}
 use Rattle.codec_spec.specs.Calls.{judgement}
-use Rattle.codec_spec.specs.declared.judging.Judgement.{Judgement}
-use Rattle.codec_spec.specs.declared.judging.Verdict.TheVariants.{Absent as IsAbsent, Present as IsPresent, Refused as IsRefused}
+use Rattle.codec_spec.specs.declared.judging.Fault.{Fault}
+use Rattle.records_spec.specs.declared.head.Head.{Head}
 use Rattle.codec_spec.proofs.Settling.{judged_absent, judged_refused, judged_present, owner_behind}
-use Rattle.flags_spec.specs.Owners.{choice, disputed, chosen, combined_owner, chosen_as, owner_read, unless_refused, choice_read, chosen_bytes}
+use Rattle.flags_spec.specs.Owners.{choice, chosen, combined_owner, owner_read, unless_refused, choice_read, chosen_bytes}
 use Rattle.flags_spec.specs.Parts.{Part, handed}
 use Rattle.flags_spec.specs.Calls.{owner_choice, owner_handed}
 use Rattle.flags_spec.specs.declared.owners.MergingOwnersStrategy.{MergingOwnersStrategy}
 use Rattle.flags_spec.specs.declared.owners.MergingOwnersStrategy.TheVariants.{RaiseIssue, UseOurs, UseTheirs}
 use Rattle.flags_spec.specs.declared.owners.Choice.{Choice}
-use Rattle.flags_spec.specs.declared.owners.Choice.TheVariants.{Ours, Theirs, Neither, Refused}
-use Rattle.flags_spec.specs.declared.owners.ChosenOwner.{ChosenOwner}
+use Rattle.flags_spec.specs.declared.owners.Choice.TheVariants.{Ours, Theirs, Neither}
 
 -- ---- the owner of a merge
-
-module _ (w : ChosenOwner) where
-  pub answered_owner : (x : Answer (Option (List ℕ))) → w ≡ chosen_as x → w.refused ≡ false → x ≡ ok (owner_if w.owner.owned w.owner.id)
-  answered_owner (ok o) e h = rw e (ap ok (owner_back o))
-  answered_owner (refused n) e h = absurd (true≢false (sym (ap (λ (v : ChosenOwner). v.refused) e) ∙ h))
-
-  -- what is refused is refused with 5
-  pub refused_owner : (s : MergingOwnersStrategy) (o t : Option (List ℕ)) → w ≡ chosen_as (combined_owner s o t) → w.refused ≡ true
-      → combined_owner s o t ≡ refused (number DifferentOwners)
-  refused_owner s o t e h = five s o t (sym (ap (λ (v : ChosenOwner). v.refused) e) ∙ h)
-    where
-      differ : (s : MergingOwnersStrategy) (o t : List ℕ) → (chosen_as (chosen (disputed s) (Some o) (Some t))).refused ≡ true
-          → chosen (disputed s) (Some o) (Some t) ≡ refused (number DifferentOwners)
-      differ RaiseIssue o t h = refl
-      differ UseOurs o t h = absurd (true≢false (sym h))
-      differ UseTheirs o t h = absurd (true≢false (sym h))
-
-      both : (b : Bool) (s : MergingOwnersStrategy) (o t : List ℕ) → same o t ≡ b → (chosen_as (combined_owner s (Some o) (Some t))).refused ≡ true
-          → combined_owner s (Some o) (Some t) ≡ refused (number DifferentOwners)
-      both true s o t e h = absurd (true≢false (sym (rw e at h)))
-      both false s o t e h = rw e (differ s o t (rw e at h))
-
-      five : (s : MergingOwnersStrategy) (o t : Option (List ℕ)) → (chosen_as (combined_owner s o t)).refused ≡ true
-          → combined_owner s o t ≡ refused (number DifferentOwners)
-      five s None None h = absurd (true≢false (sym h))
-      five s None (Some t) h = absurd (true≢false (sym h))
-      five s (Some o) None h = absurd (true≢false (sym h))
-      five s (Some o) (Some t) h = both (same o t) s o t refl h
 
 -- where theirs is none or the same as ours, ours stays, for every strategy
 pub owner_stays : (s : MergingOwnersStrategy) (o t : Option (List ℕ)) → (t ≡ None) ⊎ (t ≡ o) → combined_owner s o t ≡ ok o
@@ -75,26 +46,54 @@ owner_stays s o t = ⊎_elim (λ e. rw e (alone o)) (λ e. rw e (both o))
 
 -- ---- what was read
 
-judged_owner : (x : Read) → owner_of (judgement x).head ≡ owner_read x
-judged_owner no_flags = refl
-judged_owner (some_flags f) = owner_head f
-judged_owner (refused_at r p) = refl
+-- the owner of what judging found, or why it is refused
+abbrev pub owner_found : Read → Result (Option (List ℕ)) Refusal
+owner_found no_flags = Ok None
+owner_found (some_flags f) = Ok f.owner
+owner_found (refused_at r place) = Err r
 
-module _ (x : Read) (j : Judgement) (e : j ≡ judgement x) (go : Option (List ℕ) → Choice) where
-  pub judged_out : (r : Refusal) (p : ℕ) → j.verdict ≡ IsRefused r p → Refused r ≡ unless_refused x (go (owner_read x))
-  judged_out r p v = sym (ap (λ (y : Read). unless_refused y (go (owner_read x)))
-      (judged_refused x r p (sym (ap (λ (k : Judgement). k.verdict) e) ∙ v)))
+module _ (x : Read) where
+  pub judged_out : (f : Fault) → judgement x ≡ Err f → Err f.refusal ≡ owner_found x
+  judged_out f e = sym (ap owner_found (judged_refused x f e))
 
-  judged_in : unless_refused x (go (owner_read x)) ≡ go (owner_read x) → go (owner_of j.head) ≡ unless_refused x (go (owner_read x))
-  judged_in u = ap (λ (k : Judgement). go (owner_of k.head)) e ∙ ap go (judged_owner x) ∙ sym u
+  pub judged_none : judgement x ≡ Ok None → Ok None ≡ owner_found x
+  judged_none e = sym (ap owner_found (judged_absent x e))
 
-  pub judged_none : j.verdict ≡ IsAbsent → go (owner_of j.head) ≡ unless_refused x (go (owner_read x))
-  judged_none v = judged_in (ap (λ (y : Read). unless_refused y (go (owner_read x))) (judged_absent x (sym (ap (λ (k : Judgement). k.verdict) e) ∙ v)))
+  pub judged_some : (h : Head) → judgement x ≡ Ok (Some h) → Ok (owner_of h) ≡ owner_found x
+  judged_some h e =
+      let f = judged_present x h e in
+      ap (λ (k : Head). Ok (owner_of k)) f.2 ∙ ap Ok (owner_head f.0) ∙ sym (ap owner_found f.1)
 
-  pub judged_some : j.verdict ≡ IsPresent → go (owner_of j.head) ≡ unless_refused x (go (owner_read x))
-  judged_some v =
-      let f = judged_present x (sym (ap (λ (k : Judgement). k.verdict) e) ∙ v) in
-      judged_in (ap (λ (y : Read). unless_refused y (go (owner_read x))) f.1)
+-- ours is read first, then theirs, and then the rule decides
+module _ (s : MergingOwnersStrategy) where
+  pub first_refused : (x y : Read) (r : Refusal) → Err r ≡ owner_found x → Err r ≡ choice_read s x y
+  first_refused no_flags y r e = cc
+  first_refused (some_flags f) y r e = cc
+  first_refused (refused_at q p) y r e = cc
+
+  pub second_refused : (x y : Read) (o : Option (List ℕ)) (r : Refusal) → Ok o ≡ owner_found x → Err r ≡ owner_found y → Err r ≡ choice_read s x y
+  second_refused no_flags y o r d e = last y e
+    where
+      last : (y : Read) → Err r ≡ owner_found y → Err r ≡ choice_read s no_flags y
+      last no_flags e = cc
+      last (some_flags f) e = cc
+      last (refused_at q p) e = cc
+  second_refused (some_flags f) y o r d e = last y e
+    where
+      last : (y : Read) → Err r ≡ owner_found y → Err r ≡ choice_read s (some_flags f) y
+      last no_flags e = cc
+      last (some_flags g) e = cc
+      last (refused_at q p) e = cc
+  second_refused (refused_at q p) y o r d e = cc
+
+  pub both_read : (x y : Read) (o t : Option (List ℕ)) → Ok o ≡ owner_found x → Ok t ≡ owner_found y → choice s o t ≡ choice_read s x y
+  both_read no_flags no_flags o t d e = let a : o ≡ None = cc in let b : t ≡ None = cc in ap₂ (choice s) a b
+  both_read no_flags (some_flags g) o t d e = let a : o ≡ None = cc in let b : t ≡ g.owner = cc in ap₂ (choice s) a b
+  both_read (some_flags f) no_flags o t d e = let a : o ≡ f.owner = cc in let b : t ≡ None = cc in ap₂ (choice s) a b
+  both_read (some_flags f) (some_flags g) o t d e = let a : o ≡ f.owner = cc in let b : t ≡ g.owner = cc in ap₂ (choice s) a b
+  both_read (refused_at r p) y o t d e = let z : ◌≡◌ {A = ℕ} 0 1 = cc in absurd (omega arith)
+  both_read no_flags (refused_at r p) o t d e = let z : ◌≡◌ {A = ℕ} 0 1 = cc in absurd (omega arith)
+  both_read (some_flags f) (refused_at r p) o t d e = let z : ◌≡◌ {A = ℕ} 0 1 = cc in absurd (omega arith)
 
 -- ---- where the owner stands
 
@@ -118,47 +117,47 @@ owner_place xs a o = by (read xs) refl
 -- ---- whose owner was chosen
 
 -- an owner that is chosen exists
-pub choice_ours : (s : MergingOwnersStrategy) (o t : Option (List ℕ)) → choice s o t ≡ Ours → (a : List ℕ) × (o ≡ Some a)
+pub choice_ours : (s : MergingOwnersStrategy) (o t : Option (List ℕ)) → choice s o t ≡ Ok Ours → (a : List ℕ) × (o ≡ Some a)
 choice_ours s None None e = let z : ◌≡◌ {A = ℕ} 0 1 = cc in absurd (omega arith)
 choice_ours s None (Some t) e = let z : ◌≡◌ {A = ℕ} 0 1 = cc in absurd (omega arith)
 choice_ours s (Some o) t e = (o, refl)
 
-pub choice_theirs : (s : MergingOwnersStrategy) (o t : Option (List ℕ)) → choice s o t ≡ Theirs → (a : List ℕ) × (t ≡ Some a)
+pub choice_theirs : (s : MergingOwnersStrategy) (o t : Option (List ℕ)) → choice s o t ≡ Ok Theirs → (a : List ℕ) × (t ≡ Some a)
 choice_theirs s None None e = let z : ◌≡◌ {A = ℕ} 0 1 = cc in absurd (omega arith)
 choice_theirs s (Some o) None e = let z : ◌≡◌ {A = ℕ} 0 1 = cc in absurd (omega arith)
 choice_theirs s o (Some t) e = (t, refl)
 
 -- what is no refusal is the rest
-unless_rest : (x : Read) (rest c : Choice) → ((r : Refusal) → Refused r ≡ c → ⊥) → unless_refused x rest ≡ c → rest ≡ c
+unless_rest : (x : Read) (rest c : Result Choice Refusal) → ((r : Refusal) → Err r ≡ c → ⊥) → unless_refused x rest ≡ c → rest ≡ c
 unless_rest no_flags rest c d e = e
 unless_rest (some_flags f) rest c d e = e
 unless_rest (refused_at r p) rest c d e = absurd (d r e)
 
 module _ (s : MergingOwnersStrategy) (xs ys : List ℕ) where
-  choice_rest : (c : Choice) → ((r : Refusal) → Refused r ≡ c → ⊥) → choice_read s (read xs) (read ys) ≡ c
+  choice_rest : (c : Result Choice Refusal) → ((r : Refusal) → Err r ≡ c → ⊥) → choice_read s (read xs) (read ys) ≡ c
       → choice s (owner_read (read xs)) (owner_read (read ys)) ≡ c
   choice_rest c d e = unless_rest (read ys) _ c d (unless_rest (read xs) _ c d e)
 
-  pub ours_owned : choice_read s (read xs) (read ys) ≡ Ours → (a : List ℕ) × Owned xs a
+  pub ours_owned : choice_read s (read xs) (read ys) ≡ Ok Ours → (a : List ℕ) × Owned xs a
   ours_owned e =
-      let o = choice_ours s (owner_read (read xs)) (owner_read (read ys)) (choice_rest Ours (λ r f. let z : ◌≡◌ {A = ℕ} 0 1 = cc in omega arith) e) in
+      let o = choice_ours s (owner_read (read xs)) (owner_read (read ys)) (choice_rest (Ok Ours) (λ r f. let z : ◌≡◌ {A = ℕ} 0 1 = cc in omega arith) e) in
       (o.0, owner_place xs o.0 o.1)
 
-  pub theirs_owned : choice_read s (read xs) (read ys) ≡ Theirs → (a : List ℕ) × Owned ys a
+  pub theirs_owned : choice_read s (read xs) (read ys) ≡ Ok Theirs → (a : List ℕ) × Owned ys a
   theirs_owned e =
       let o = choice_theirs s (owner_read (read xs)) (owner_read (read ys))
-      (choice_rest Theirs (λ r f. let z : ◌≡◌ {A = ℕ} 0 1 = cc in omega arith) e) in
+      (choice_rest (Ok Theirs) (λ r f. let z : ◌≡◌ {A = ℕ} 0 1 = cc in omega arith) e) in
       (o.0, owner_place ys o.0 o.1)
 
 -- ---- the part that is handed back
 
 module _ (s : MergingOwnersStrategy) (ours theirs : Part) where
-  handed_as : (c : Choice) → owner_choice s ours.bytes theirs.bytes ≡ c
+  handed_as : (c : Result Choice Refusal) → owner_choice s ours.bytes theirs.bytes ≡ c
       → (handed c ours theirs).bytes ≡ chosen_bytes (chosen c (owner_read (read ours.bytes)) (owner_read (read theirs.bytes)))
-  handed_as Ours e = let o = ours_owned s ours.bytes theirs.bytes e in rw o.1.was_read (sym o.1.is_there)
-  handed_as Theirs e = let o = theirs_owned s ours.bytes theirs.bytes e in rw o.1.was_read (sym o.1.is_there)
-  handed_as Neither e = refl
-  handed_as (Refused r) e = refl
+  handed_as (Ok Ours) e = let o = ours_owned s ours.bytes theirs.bytes e in rw o.1.was_read (sym o.1.is_there)
+  handed_as (Ok Theirs) e = let o = theirs_owned s ours.bytes theirs.bytes e in rw o.1.was_read (sym o.1.is_there)
+  handed_as (Ok Neither) e = refl
+  handed_as (Err r) e = refl
 
   -- THE PART HOLDS THE OWNER THAT THE RULE CHOSE
   pub handed_owner : (owner_handed s ours theirs).bytes

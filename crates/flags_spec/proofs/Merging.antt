@@ -12,7 +12,7 @@ use Rattle.records_spec.specs.Flags.{Flags, flags, flags_of, proper, blank, Lent
 use Rattle.records_spec.specs.Answers.{placing}
 use Rattle.records_spec.specs.Outcomes.{refused, ok, refusing, leaving}
 use Rattle.records_spec.specs.Refusals.{number}
-use Rattle.records_spec.specs.declared.refusal.Refusal.TheVariants.{DifferentOwners, Overflow, BadTable, DifferentBaseEpoch}
+use Rattle.records_spec.specs.declared.refusal.Refusal.TheVariants.{Overflow, BadTable, DifferentBaseEpoch}
 use Rattle.records_spec.proofs.Unions.{union_put}
 use Rattle.records_spec.proofs.Held.{held_beside}
 use Rattle.flags_spec.specs.Owners.{combined_owner}
@@ -28,10 +28,9 @@ module _ (s : MergingOwnersStrategy) (amount : ℕ) (ours theirs : Flags) where
   added_lower p = rw (lt-ltb theirs.base ours.base p)
 
   module _ (p : ours.base ≤ theirs.base) where
-    pub added_disputed : combined_owner s ours.owner theirs.owner ≡ refused (number DifferentOwners)
-        → added s amount ours theirs ≡ refused (number DifferentOwners)
+    pub added_disputed : (n : ℕ) → combined_owner s ours.owner theirs.owner ≡ refused n → added s amount ours theirs ≡ refused n
     unfolding added
-    added_disputed e = simp (le-ltb theirs.base ours.base p, e)
+    added_disputed n e = simp (le-ltb theirs.base ours.base p, e)
 
     pub added_owned : (owner : Option (List ℕ)) → combined_owner s ours.owner theirs.owner ≡ ok owner
         → added s amount ours theirs ≡ raised_above ours.base theirs.base amount (union_under ours theirs owner)

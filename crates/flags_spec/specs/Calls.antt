@@ -1,9 +1,10 @@
 -- What the calls of this crate answer and leave.
 -- Assumes nothing.
-use Rattle.std.specs.Prelude.{ℕ, Bool, cond, ◌&&◌, List}
+use Rattle.std.specs.Prelude.{ℕ, Bool, cond, ◌&&◌, List, Result}
 use Rattle.records_spec.specs.Outcomes.{◌unless◌, ◌>>◌, ◌>>=◌, leaving}
 use Rattle.records_spec.specs.Flags.{Lent, Held, blank, flags_of, proper}
 use Rattle.records_spec.specs.Answers.{FlagsAfter, placed_flags}
+use Rattle.records_spec.specs.declared.refusal.Refusal.{Refusal}
 use Rattle.records_spec.specs.declared.refusal.Refusal.TheVariants.{BadTable}
 use Rattle.codec_spec.specs.Reading.{read}
 use Rattle.flags_spec.specs.Owners.{choice_read}
@@ -13,7 +14,7 @@ use Rattle.flags_spec.specs.declared.owners.MergingOwnersStrategy.{MergingOwners
 use Rattle.flags_spec.specs.declared.owners.Choice.{Choice}
 
 -- the companion of `combine_owner_id`
-abbrev pub owner_choice : MergingOwnersStrategy → List ℕ → List ℕ → Choice
+abbrev pub owner_choice : MergingOwnersStrategy → List ℕ → List ℕ → Result Choice Refusal
 owner_choice s ours theirs = choice_read s (read ours) (read theirs)
 
 -- `combine_owner_id`

@@ -1,11 +1,12 @@
 -- Parts of lent bytes: which bytes they hold, and where these stand. So a statement can say of which encoding an answer is a part.
 -- Assumes nothing.
-use Rattle.std.specs.Prelude.{ℕ, ◌+◌, List, [], take, drop}
+use Rattle.std.specs.Prelude.{ℕ, ◌+◌, List, [], take, drop, Result, Ok, Err}
 use Rattle.std.specs.Borrow.{Bor}
 use Rattle.records_spec.specs.Flags.{owner_length}
+use Rattle.records_spec.specs.declared.refusal.Refusal.{Refusal}
 use Rattle.codec_spec.specs.Bytes.{behind_kind}
 use Rattle.flags_spec.specs.declared.owners.Choice.{Choice}
-use Rattle.flags_spec.specs.declared.owners.Choice.TheVariants.{Ours, Theirs, Neither, Refused}
+use Rattle.flags_spec.specs.declared.owners.Choice.TheVariants.{Ours, Theirs, Neither}
 
 -- a part of memory: its block, the offset there, and the bytes
 pub record Part : Type 0 where
@@ -26,8 +27,8 @@ abbrev pub empty_part : Part → Part
 empty_part p = record { block = p.block; offset = p.offset; bytes = [] }
 
 -- the chosen owner as a part of the encoding that holds it; else an empty part
-abbrev pub handed : Choice → Part → Part → Part
-handed Ours ours theirs = owner_part ours
-handed Theirs ours theirs = owner_part theirs
-handed Neither ours theirs = empty_part ours
-handed (Refused r) ours theirs = empty_part ours
+abbrev pub handed : Result Choice Refusal → Part → Part → Part
+handed (Ok Ours) ours theirs = owner_part ours
+handed (Ok Theirs) ours theirs = owner_part theirs
+handed (Ok Neither) ours theirs = empty_part ours
+handed (Err r) ours theirs = empty_part ours

@@ -4,4 +4,4 @@
 
 mod owners;
 
-pub use owners::{Choice, ChosenOwner, MergingOwnersStrategy};
+pub use owners::{Choice, MergingOwnersStrategy};

@@ -8,9 +8,10 @@ use lib.ListN.{length}
 use Rattle.records_spec.specs.Refusals.{number}
 use Rattle.records_spec.specs.Tables.{epochs_of, counts_of, over}
 use Rattle.records_spec.specs.Flags.{Flags, head_of, no_head, lending, Lent}
-use Rattle.records_spec.specs.Answers.{shown, placing_if}
-use Rattle.records_spec.specs.declared.answer.Answered.{Answered}
-use Rattle.records_spec.specs.declared.answer.Outcome.TheVariants.{Absent, Present, Refused}
+use Rattle.records_spec.specs.Answers.{head_in, shown, placing_if}
+use Rattle.records_spec.specs.declared.head.Head.{Head}
+use Rattle.records_spec.specs.declared.refusal.Refusal.{Refusal}
+use Rattle.std.specs.Prelude.{Option, None, Some, Result, Ok, Err}
 use Rattle.records_spec.proofs.Tables.{length_epochs_of, length_counts_of, records_back, over_first, over-holds}
 use Rattle.records_spec.proofs.Proper.{owner_head}
 use Rattle.records_spec.proofs.Answers.{placing_none, placing_some, placing_if_refused, placing_fits}
@@ -28,7 +29,7 @@ head_flags f = rw (owner_head f, records_back f.records, length_epochs_of f.reco
 
 -- flags that stand at the start of two tables
 placed_text : (f : Flags) (es cs : List ℕ)
-    → outcome_text Present (head_of f) (over (epochs_of f.records) es) (over (counts_of f.records) cs) ≡ flags_text f
+    → outcome_text (Ok (Some (head_of f))) (over (epochs_of f.records) es) (over (counts_of f.records) cs) ≡ flags_text f
 placed_text f es cs =
     let rs = f.records in
     ap₂ (head_text (head_of f)) (over_first (epochs_of rs) es (length rs) (length_epochs_of rs))
@@ -46,11 +47,11 @@ placed_held f es cs h =
     }
 
 -- an answer with its tables, as the functions below ask for it
-pub record Telling (x : Read) (a : Answered) (es cs : List ℕ) : Type 0 where
-  pub text : outcome_text a.outcome a.head es cs ≡ listing (answer x)
-  pub held : Listable a.head es cs
+pub record Telling (x : Read) (a : Result (Option Head) Refusal) (es cs : List ℕ) : Type 0 where
+  pub text : outcome_text a es cs ≡ listing (answer x)
+  pub held : Listable (head_in a) es cs
 
-telling_same : {x : Read} {a b : Answered} {es cs es' cs' : List ℕ} → (a ≡ b) × (lending es cs ≡ lending es' cs') → Telling x b es' cs'
+telling_same : {x : Read} {a b : Result (Option Head) Refusal} {es cs es' cs' : List ℕ} → (a ≡ b) × (lending es cs ≡ lending es' cs') → Telling x b es' cs'
     → Telling x a es cs
 telling_same {x} {a} {b} {es} {cs} {es'} {cs'} (p, q) t =
     let u : Telling x a es' cs' = rw p t in
@@ -59,21 +60,21 @@ telling_same {x} {a} {b} {es} {cs} {es'} {cs'} (p, q) t =
 no_records : (es cs : List ℕ) → Listable no_head es cs
 no_records es cs = record { few = omega arith; epochs_long = omega arith; counts_long = omega arith }
 
-module _ (src es cs es₀ cs₀ : List ℕ) (a : Answered) (short : length src ≤ most_listed)
+module _ (src es cs es₀ cs₀ : List ℕ) (a : Result (Option Head) Refusal) (short : length src ≤ most_listed)
     (room : (length es₀ ≡ record_places) × (length cs₀ ≡ record_places)) where
   telling_read : (x : Read) → read src ≡ x → shown a (lending es cs) ≡ placing_if (answer x) (lending es₀ cs₀) → Telling x a es cs
   telling_read no_flags q e =
-      telling_same (shown_only a (record { outcome = Absent; head = no_head }) (lending es cs) (lending es₀ cs₀) _
+      telling_same (shown_only a (Ok None) (lending es cs) (lending es₀ cs₀) _
       (e ∙ placing_none (lending es₀ cs₀)) refl)
       (record { text = refl; held = no_records es₀ cs₀ })
   telling_read (refused_at r place) q e =
-      telling_same (shown_only a (record { outcome = Refused r; head = no_head }) (lending es cs) (lending es₀ cs₀) _
+      telling_same (shown_only a (Err r) (lending es cs) (lending es₀ cs₀) _
       (e ∙ placing_if_refused (number r) (lending es₀ cs₀)) refl)
       (record { text = refl; held = no_records es₀ cs₀ })
   telling_read (some_flags f) q e =
       let n = flags_few src f short q in
       telling_same
-      (shown_only a (record { outcome = Present; head = head_of f }) (lending es cs)
+      (shown_only a (Ok (Some (head_of f))) (lending es cs)
       (lending (over (epochs_of f.records) es₀) (over (counts_of f.records) cs₀)) _
       (e ∙ placing_some f (lending es₀ cs₀) ∙ placing_fits f (lending es₀ cs₀) (omega (arith, room.0)) (omega (arith, room.1)))
       refl)

@@ -63,5 +63,5 @@ flags_text f =
 -- what reading answers, as text
 abbrev pub listing : Answer (Option Flags) → List ℕ
 listing (refused n) = word_line "refused " n
-listing (ok None) = ascii "None\n"
+listing (ok None) = ascii "none\n"
 listing (ok (Some f)) = flags_text f

@@ -1,4 +1,5 @@
 -- What repairing answers: canonical bytes of the flags that are left, which reading accepts, or no bytes of no bytes. Assumes nothing.
+use Rattle.std.specs.Prelude.{None, Some}
 use Prim.Native.Nat.{ℕ, ◌+◌, ◌≤◌}
 use mathlib.Core.Path.{◌≡◌, refl, sym, ap, ◌∙◌}
 use mathlib.Core.Bool.{Bool, true, false, cond}
@@ -14,8 +15,6 @@ use Rattle.records_spec.specs.Outcomes.{refused, ok}
 use Rattle.records_spec.specs.Refusals.{number}
 use Rattle.records_spec.specs.declared.refusal.Refusal.TheVariants.{UnknownType, WrongSize}
 use Rattle.records_spec.specs.declared.head.Kind.{Kind}
-use Rattle.records_spec.specs.declared.head.KindByte.{KindByte}
-use Rattle.records_spec.specs.declared.head.KindByte.TheVariants.{Known, Unknown}
 use Rattle.codec_spec.specs.Bytes.{head_size, bytes_of}
 use Rattle.codec_spec.specs.Reading.{base_in}
 use Rattle.codec_spec.specs.Theorems.{Canonical, ProperFlags}
@@ -57,7 +56,7 @@ left_proper k xs bs h =
 
 -- bytes of a kind were repaired
 pub record Answers (xs : List ℕ) (r : Repaired) (k : Kind) : Type 0 where
-  pub kind_is : kind_of_byte (get_or xs 0 0) ≡ Known k
+  pub kind_is : kind_of_byte (get_or xs 0 0) ≡ Some k
   pub head_inside : head_size k ≤ length xs
   pub bytes_are : r.bytes ≡ bytes_of (flags_left k xs)
   pub lines_are : r.lines ≡ lines_of k xs
@@ -67,7 +66,7 @@ pub data Answered (xs : List ℕ) (r : Repaired) : Type 0 where
   no_bytes : xs ≡ [] → r ≡ record { bytes = []; lines = [] } → Answered xs r
   some_bytes : (k : Kind) → Answers xs r k → Answered xs r
 
-as_answered : (k : Kind) (xs : List ℕ) (r : Repaired) → kind_of_byte (get_or xs 0 0) ≡ Known k → repaired_as k xs ≡ ok r → Answers xs r k
+as_answered : (k : Kind) (xs : List ℕ) (r : Repaired) → kind_of_byte (get_or xs 0 0) ≡ Some k → repaired_as k xs ≡ ok r → Answers xs r k
 unfolding repaired_as
 as_answered k xs r q = by (leb (head_size k) (length xs)) refl
   where
@@ -89,9 +88,9 @@ unfolding repaired
 answered [] r e = no_bytes refl (cc)
 answered (b ∷ xs) r e = by (kind_of_byte b) refl
   where
-    by : (x : KindByte) → kind_of_byte b ≡ x → Answered (b ∷ xs) r
-    by Unknown q = absurd (refused_not_ok (number UnknownType) r (sym (ap (λ (x : KindByte). repaired_byte x (b ∷ xs)) q) ∙ e))
-    by (Known k) q = some_bytes k (as_answered k (b ∷ xs) r q (sym (ap (λ (x : KindByte). repaired_byte x (b ∷ xs)) q) ∙ e))
+    by : (x : Option Kind) → kind_of_byte b ≡ x → Answered (b ∷ xs) r
+    by None q = absurd (refused_not_ok (number UnknownType) r (sym (ap (λ (x : Option Kind). repaired_byte x (b ∷ xs)) q) ∙ e))
+    by (Some k) q = some_bytes k (as_answered k (b ∷ xs) r q (sym (ap (λ (x : Option Kind). repaired_byte x (b ∷ xs)) q) ∙ e))
 
 -- THE ANSWER IS ALWAYS BYTES THAT READING ACCEPTS, OR NO BYTES, and what reading finds is the map that is left
 pub answer_read : (xs : List ℕ) (r : Repaired) → Bytes xs → repaired xs ≡ ok r → ReadBack xs r

@@ -16,16 +16,17 @@ use Rattle.records_spec.specs.Tables.{At, over}
 use Rattle.records_spec.specs.Outcomes.{Answer, ok, after}
 use Rattle.records_spec.specs.Refusals.{number}
 use Rattle.records_spec.specs.declared.head.Kind.{Kind}
-use Rattle.records_spec.specs.declared.head.KindByte.{KindByte}
-use Rattle.records_spec.specs.declared.head.KindByte.TheVariants.{Known, Unknown}
 use Rattle.records_spec.specs.declared.refusal.Refusal.{Refusal}
 use Rattle.records_spec.specs.declared.refusal.Refusal.TheVariants.{UnknownType, WrongSize, NoRoom}
 use Rattle.records_spec.proofs.Tables.{over_sets}
 use Rattle.codec_spec.specs.Bytes.{head_size}
-use Rattle.codec_spec.specs.Reading.{Fault, no_flags, some_flags, refused_at, with_records, base_in, owner_in, records_in, read_as, read_byte, read}
+use Rattle.codec_spec.specs.declared.judging.Fault.{Fault}
+use Rattle.codec_spec.specs.Reading.{no_flags, some_flags, refused_at, with_records, base_in, owner_in, records_in, read_as, read_byte, read}
 use Rattle.repair_spec.specs.Repairing.{Repaired, repaired, repaired_as, repaired_byte}
-use Rattle.repair_spec.specs.Calls.{offsets_of, changes_of, repaired_into, placing_repair, repair_lent, told_repair}
-use Rattle.repair_spec.specs.declared.repairing.AnsweredRepair.TheVariants.{Done, Refused}
+use Rattle.repair_spec.specs.Calls.{offsets_of, changes_of, repaired_into, placing_repair, repair_lent}
+use Rattle.std.specs.Prelude.{Result, Ok, Err}
+use Rattle.repair_spec.specs.declared.repairing.Sizes.{Sizes}
+use Rattle.records_spec.specs.Outcomes.{answered}
 use Rattle.repair_spec.proofs.CanonicalBack.{canonical_back, nothing_back}
 use Rattle.repair_spec.proofs.Finishing.{after_placed, after_long, after_refused}
 
@@ -59,12 +60,12 @@ unfolding read
 nothing_read [] e = nothing_back
 nothing_read (x ∷ xs) e = absurd (by (kind_of_byte x) e)
   where
-    by : (b : KindByte) → read_byte b (x ∷ xs) ≡ no_flags → ⊥
-    by (Known k) q = as_flags k (x ∷ xs) q
-    by Unknown q = let z : ◌≡◌ {A = ℕ} 0 1 = cc in omega arith
+    by : (b : Option Kind) → read_byte b (x ∷ xs) ≡ no_flags → ⊥
+    by (Some k) q = as_flags k (x ∷ xs) q
+    by None q = let z : ◌≡◌ {A = ℕ} 0 1 = cc in omega arith
 
 module _ (xs out os cs : List ℕ) where
-  pub call_nothing : read xs ≡ no_flags → after (told_repair (Done 0 0)) (repair_lent out os cs) ≡ repaired_into xs (repair_lent out os cs)
+  pub call_nothing : read xs ≡ no_flags → after (answered (Ok (record { bytes = 0; lines = 0 }))) (repair_lent out os cs) ≡ repaired_into xs (repair_lent out os cs)
   unfolding offsets_of changes_of
   call_nothing e =
       sym (ap (λ (a : Answer Repaired). placing_repair a (repair_lent out os cs)) (nothing_read xs e)
@@ -84,35 +85,35 @@ module _ (xs out os cs : List ℕ) where
       by (x ∷ xs) h = refl
 
   module _ (h : 0 < length xs) where
-    pub call_known : (k : Kind) → kind_of_byte (get_or xs 0 0) ≡ Known k
+    pub call_known : (k : Kind) → kind_of_byte (get_or xs 0 0) ≡ Some k
         → placing_repair (repaired_as k xs) (repair_lent out os cs) ≡ repaired_into xs (repair_lent out os cs)
     call_known k e = sym (ap (λ (a : Answer Repaired). placing_repair a (repair_lent out os cs))
-        (by_byte h ∙ ap (λ (b : KindByte). repaired_byte b xs) e))
+        (by_byte h ∙ ap (λ (b : Option Kind). repaired_byte b xs) e))
 
-    pub call_unknown : kind_of_byte (get_or xs 0 0) ≡ Unknown
-        → after (told_repair (Refused UnknownType)) (repair_lent out os cs) ≡ repaired_into xs (repair_lent out os cs)
+    pub call_unknown : kind_of_byte (get_or xs 0 0) ≡ None
+        → after (answered {A = Sizes} (Err UnknownType)) (repair_lent out os cs) ≡ repaired_into xs (repair_lent out os cs)
     call_unknown e =
-        sym (ap (λ (a : Answer Repaired). placing_repair a (repair_lent out os cs)) (by_byte h ∙ ap (λ (b : KindByte). repaired_byte b xs) e)
+        sym (ap (λ (a : Answer Repaired). placing_repair a (repair_lent out os cs)) (by_byte h ∙ ap (λ (b : Option Kind). repaired_byte b xs) e)
         ∙ after_refused (number UnknownType) out os cs)
 
   pub call_short : (k : Kind) → length xs < head_size k
-      → after (told_repair (Refused WrongSize)) (repair_lent out os cs) ≡ placing_repair (repaired_as k xs) (repair_lent out os cs)
+      → after (answered {A = Sizes} (Err WrongSize)) (repair_lent out os cs) ≡ placing_repair (repaired_as k xs) (repair_lent out os cs)
   unfolding repaired_as
   call_short k h = rw (lt-leb (head_size k) (length xs) h) (sym (after_refused (number WrongSize) out os cs))
 
 -- ---- canonical bytes
 
 module _ (xs out os cs : List ℕ) where
-  pub kept_long : length out < length xs → after (told_repair (Refused NoRoom)) (repair_lent out os cs)
+  pub kept_long : length out < length xs → after (answered {A = Sizes} (Err NoRoom)) (repair_lent out os cs)
       ≡ placing_repair (ok (record { bytes = xs; lines = [] })) (repair_lent out os cs)
   kept_long h = sym (after_long (record { bytes = xs; lines = [] }) out os cs h)
 
   pub kept_whole : (n : ℕ) (out' : List ℕ) → length xs ≤ length out → Put xs 0 n out out'
-      → after (told_repair (Done n 0)) (repair_lent out' os cs) ≡ placing_repair (ok (record { bytes = xs; lines = [] })) (repair_lent out os cs)
+      → after (answered (Ok (record { bytes = n; lines = 0 }))) (repair_lent out' os cs) ≡ placing_repair (ok (record { bytes = xs; lines = [] })) (repair_lent out os cs)
   unfolding offsets_of changes_of
   kept_whole n out' h p =
       let e : n ≡ length xs = omega (arith, p.behind) in
       let o : out' ≡ over xs out = p.wrote ∙ over_sets xs out h in
-      (λ z. after (told_repair (Done (e z) 0)) (repair_lent (o z) os cs))
+      (λ z. after (answered (Ok (record { bytes = (e z); lines = 0 }))) (repair_lent (o z) os cs))
       ∙ sym (after_placed (record { bytes = xs; lines = [] }) out os cs h
       (simp (le-leb 0 (length os) (omega arith), le-leb 0 (length cs) (omega arith))))

@@ -18,8 +18,6 @@ use Rattle.records_spec.specs.Tables.{At, ◌⦂◌, put}
 use Rattle.records_spec.specs.Flags.{Flags, flags, multi, kind_of_byte}
 use Rattle.records_spec.specs.Outcomes.{ok}
 use Rattle.records_spec.specs.declared.head.Kind.{Kind}
-use Rattle.records_spec.specs.declared.head.KindByte.{KindByte}
-use Rattle.records_spec.specs.declared.head.KindByte.TheVariants.{Known, Unknown}
 use Rattle.records_spec.proofs.Unions.{put_past}
 use Rattle.codec_spec.specs.Bytes.{record_bytes, head_size, bytes_of}
 use Rattle.codec_spec.specs.Reading.{Next, bad, good, next, Parsed, some_flags, base_in, owner_in, records_in, read_as, read_byte, read}
@@ -221,9 +219,9 @@ unfolding read repaired
 unchanged [] f e = absurd (no_flags_lem f e)
 unchanged (b ∷ xs) f e = by (kind_of_byte b) e
   where
-    by : (x : KindByte) → read_byte x (b ∷ xs) ≡ some_flags f → repaired_byte x (b ∷ xs) ≡ ok (record { bytes = bytes_of f; lines = [] })
-    by (Known k) e = as_unchanged k (b ∷ xs) f e
-    by Unknown e = absurd (no_refusal _ _ f e)
+    by : (x : Option Kind) → read_byte x (b ∷ xs) ≡ some_flags f → repaired_byte x (b ∷ xs) ≡ ok (record { bytes = bytes_of f; lines = [] })
+    by (Some k) e = as_unchanged k (b ∷ xs) f e
+    by None e = absurd (no_refusal _ _ f e)
 
 -- the bytes of proper flags come back
 pub proper_back : (f : Flags) → ProperFlags f → repaired (bytes_of f) ≡ ok (record { bytes = bytes_of f; lines = [] })

@@ -1,4 +1,5 @@
 -- A refusal of `repair` is 1, 2 or 10, and changes nothing lent. Assumes nothing.
+use Rattle.std.specs.Prelude.{Option, None, Some}
 use Prim.Native.Nat.{ℕ}
 use mathlib.Core.Path.{◌≡◌, sym, ap}
 use mathlib.Core.Logic.{◌⊎◌, inl, inr}
@@ -9,10 +10,9 @@ use lib.ListN.{length}
 use Rattle.records_spec.specs.Flags.{kind_of_byte}
 use Rattle.records_spec.specs.Answers.{room_for}
 use Rattle.records_spec.specs.Outcomes.{refused, Answer, ok, leaving, placed}
+use Rattle.records_spec.specs.declared.head.Kind.{Kind}
 use Rattle.records_spec.specs.Refusals.{number}
 use Rattle.records_spec.specs.declared.refusal.Refusal.TheVariants.{NoRoom, WrongSize, UnknownType}
-use Rattle.records_spec.specs.declared.head.KindByte.{KindByte}
-use Rattle.records_spec.specs.declared.head.KindByte.TheVariants.{Known, Unknown}
 use Rattle.records_spec.proofs.Answers.{refused_not_ok}
 use Rattle.records_spec.proofs.Only.{refused_keeps}
 use Rattle.codec_spec.specs.Bytes.{head_size, bytes_of}
@@ -29,9 +29,9 @@ by_bytes (x ∷ xs) n e = by (kind_of_byte x) e
     told : (m : ℕ) → RepairRefusal m → ◌≡◌ {A = Answer Repaired} (refused m) (refused n) → RepairRefusal n
     told m r q = let z : m ≡ n = cc in rw (sym z) r
 
-    by : (b : KindByte) → repaired_byte b (x ∷ xs) ≡ refused n → RepairRefusal n
-    by Unknown q = told (number UnknownType) unknown_type q
-    by (Known k) q = as_kind (leb (head_size k) (length (x ∷ xs))) q
+    by : (b : Option Kind) → repaired_byte b (x ∷ xs) ≡ refused n → RepairRefusal n
+    by None q = told (number UnknownType) unknown_type q
+    by (Some k) q = as_kind (leb (head_size k) (length (x ∷ xs))) q
       where
         as_kind : (t : Bool) → cond {A = Answer Repaired} t (ok (record { bytes = bytes_of (flags_left k (x ∷ xs)); lines = lines_of k (x ∷ xs) }))
             (refused (number WrongSize)) ≡ refused n → RepairRefusal n

@@ -29,5 +29,4 @@ pub mod Finishing
 pub mod Readying
 pub mod Calling
 pub mod Bounds
-pub mod Only
 pub mod Keeping

@@ -1,23 +1,11 @@
 -- What the call of this crate answers and leaves. Assumes nothing.
 use Rattle.std.specs.Prelude.{ℕ, ◌&&◌, List, [], ◌∷◌, leb, length}
-use Rattle.records_spec.specs.Refusals.{number}
 use Rattle.records_spec.specs.Tables.{over}
-use Rattle.records_spec.specs.Outcomes.{Answer, ok, refused, ◌>>=◌, After, leaving, placed}
+use Rattle.records_spec.specs.Outcomes.{Answer, ok, ◌>>=◌, After, leaving, placed}
 use Rattle.records_spec.specs.Answers.{room_for}
 use Rattle.repair_spec.specs.Changes.{Line, change_number}
 use Rattle.repair_spec.specs.Repairing.{Repaired, repaired}
-use Rattle.repair_spec.specs.declared.repairing.AnsweredRepair.{AnsweredRepair}
-use Rattle.repair_spec.specs.declared.repairing.AnsweredRepair.TheVariants.{Done, Refused}
-
--- how many bytes were written, and how many lines
-pub record Sizes : Type 0 where
-  pub bytes : ℕ
-  pub lines : ℕ
-
--- these or a refusal, as the code told it
-abbrev pub told_repair : AnsweredRepair → Answer Sizes
-told_repair (Done bytes lines) = ok (record { bytes = bytes; lines = lines })
-told_repair (Refused r) = refused (number r)
+use Rattle.repair_spec.specs.declared.repairing.Sizes.{Sizes}
 
 -- what is lent: the output, and the list's offsets and changes
 pub record RepairLent : Type 0 where

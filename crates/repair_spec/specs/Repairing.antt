@@ -1,4 +1,5 @@
 -- Repairing old flag bytes: document 02 (iv), the bytes that are written and the list of changes. Assumes nothing.
+use Rattle.std.specs.Prelude.{Option}
 use Rattle.std.specs.Prelude.{ℕ, cond, List, [], ◌∷◌, ◌++◌, leb, ltb, length, drop}
 use Rattle.std.specs.Prelude.{None, Some}
 use Rattle.records_spec.specs.Tables.{At}
@@ -7,8 +8,6 @@ use Rattle.records_spec.specs.Outcomes.{refused, Answer, ok, ◌unless◌, ◌>>
 use Rattle.records_spec.specs.Refusals.{number}
 use Rattle.records_spec.specs.declared.refusal.Refusal.TheVariants.{UnknownType, WrongSize}
 use Rattle.records_spec.specs.declared.head.Kind.{Kind}
-use Rattle.records_spec.specs.declared.head.KindByte.{KindByte}
-use Rattle.records_spec.specs.declared.head.KindByte.TheVariants.{Known, Unknown}
 use Rattle.codec_spec.specs.Bytes.{head_size, bytes_of}
 use Rattle.codec_spec.specs.Reading.{base_in, owner_in}
 use Rattle.repair_spec.specs.Olds.{Olds, olds}
@@ -53,9 +52,9 @@ repaired_as k xs = do
   ok (record { bytes = bytes_of (flags_left k xs); lines = lines_of k xs })
 
 -- bytes of the kind that a byte names, if it names one
-abbrev pub repaired_byte : KindByte → List ℕ → Answer Repaired
-repaired_byte (Known k) xs = repaired_as k xs
-repaired_byte Unknown xs = refused (number UnknownType)
+abbrev pub repaired_byte : Option Kind → List ℕ → Answer Repaired
+repaired_byte (Some k) xs = repaired_as k xs
+repaired_byte None xs = refused (number UnknownType)
 
 -- old bytes repaired; no bytes give no bytes and an empty list
 unfoldable pub repaired : List ℕ → Answer Repaired

@@ -8,7 +8,6 @@ use Rattle.records_spec.specs.Flags.{multi, kind_of_byte}
 use Rattle.records_spec.specs.Refusals.{number}
 use Rattle.records_spec.specs.declared.refusal.Refusal.TheVariants.{UnknownType, WrongSize, NoRoom}
 use Rattle.records_spec.specs.declared.head.Kind.{Kind}
-use Rattle.records_spec.specs.declared.head.KindByte.TheVariants.{Known}
 use Rattle.codec_spec.specs.Bytes.{record_bytes}
 use Rattle.codec_spec.specs.Reading.{some_flags, base_in, read}
 use Rattle.repair_spec.specs.Olds.{Old, old_at}
@@ -126,7 +125,7 @@ pub data Source (k : Kind) (xs : List ℕ) (l : Line) : Type 0 where
 -- what reading finds in the answer: no bytes, or the flags that are left
 pub data ReadBack (xs : List ℕ) (r : Repaired) : Type 0 where
   none_read : xs ≡ [] → r.bytes ≡ [] → ReadBack xs r
-  flags_read : (k : Kind) → kind_of_byte (get_or xs 0 0) ≡ Known k → read r.bytes ≡ some_flags (flags_left k xs) → ReadBack xs r
+  flags_read : (k : Kind) → kind_of_byte (get_or xs 0 0) ≡ Some k → read r.bytes ≡ some_flags (flags_left k xs) → ReadBack xs r
 
 -- the numbers that a repair is refused with: 1, 2 (owner or base not complete) or 10 (no room)
 pub data RepairRefusal : ℕ → Type 0 where

@@ -1,7 +1,7 @@
 // What repairing changes.
 
 // The changes, in the order of their numbers.
-#[derive(Clone, Copy)]
+#[derive(Clone, Copy, Debug, PartialEq, Eq)]
 pub enum Change {
     ReEncoded,
     TooLarge,

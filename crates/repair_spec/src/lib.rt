@@ -12,4 +12,4 @@ pub use change::Change;
 pub use limits::{ALL_EPOCHS, LAST_EPOCH, LONGEST_FLAGS};
 pub use listing::Behind;
 pub use old::GotOld;
-pub use repairing::AnsweredRepair;
+pub use repairing::Sizes;

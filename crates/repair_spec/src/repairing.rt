@@ -1,9 +1,8 @@
 // What a repair answers.
-use records_spec::Refusal;
 
-// How many bytes were written and how many lines listed, or a refusal.
-#[derive(Clone, Copy)]
-pub enum AnsweredRepair {
-    Done { bytes: usize, lines: usize },
-    Refused(Refusal),
+// How many bytes were written, and how many lines listed.
+#[derive(Clone, Copy, Debug, PartialEq, Eq)]
+pub struct Sizes {
+    pub bytes: usize,
+    pub lines: usize,
 }

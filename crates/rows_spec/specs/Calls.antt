@@ -1,6 +1,6 @@
 -- What the calls of this crate answer, and what a call leaves that gives a removal.
 -- Assumes nothing.
-use Rattle.std.specs.Prelude.{ℕ, Bool, true, false, leb, length}
+use Rattle.std.specs.Prelude.{ℕ, Bool, leb, length, Result, Ok, Err}
 use Rattle.fields_spec.specs.Varint.{largest}
 use Rattle.records_spec.specs.Refusals.{number}
 use Rattle.records_spec.specs.Outcomes.{Answer, ok, refused, ◌unless◌, ◌>>◌, After, leaving, placed}
@@ -8,25 +8,10 @@ use Rattle.records_spec.specs.declared.refusal.Refusal.TheVariants.{TotalTooLarg
 use Rattle.rows_spec.specs.Rows.{Tables, room_in, over_rows}
 use Rattle.rows_spec.specs.Removals.{Removal, rows_of_removal, state_of, HeldRemoval, removal_of, proper_removal, total, has_bytes}
 use Rattle.rows_spec.specs.declared.removed.Removed.{Removed}
-use Rattle.rows_spec.specs.declared.removed.AnsweredRemoval.{AnsweredRemoval}
-use Rattle.rows_spec.specs.declared.removed.AnsweredRemoval.TheVariants.{Done, Refused as NotRemoved}
-use Rattle.rows_spec.specs.declared.removed.TotalBytes.{TotalBytes}
-use Rattle.rows_spec.specs.declared.removed.TotalBytes.TheVariants.{Bytes, Refused}
-use Rattle.rows_spec.specs.declared.removed.HasRemoval.{HasRemoval}
-use Rattle.rows_spec.specs.declared.removed.HasRemoval.TheVariants.{Yes, No, Refused as NotTold}
+use Rattle.rows_spec.specs.declared.removed.StorageRemovedBytes.{StorageRemovedBytes}
+use Rattle.records_spec.specs.declared.refusal.Refusal.{Refusal}
 
 -- ---- has_removal and total_removed_bytes
-
--- yes or no, or a refusal, as the code told it
-abbrev pub decided : HasRemoval → Answer Bool
-decided Yes = ok true
-decided No = ok false
-decided (NotTold r) = refused (number r)
-
--- a number, or a refusal, as the code told it
-abbrev pub totalled : TotalBytes → Answer ℕ
-totalled (Bytes n) = ok n
-totalled (Refused r) = refused (number r)
 
 -- `has_removal`
 abbrev pub has_removal : HeldRemoval → Answer Bool
@@ -53,9 +38,9 @@ abbrev pub RemovalAfter : Type 0
 RemovalAfter = After (Answer Removed) Tables
 
 -- a state or a refusal, as the code told it
-abbrev pub told_removal : AnsweredRemoval → Answer Removed
-told_removal (Done s) = ok s.removed
-told_removal (NotRemoved r) = refused (number r)
+abbrev pub told_removal : Result StorageRemovedBytes Refusal → Answer Removed
+told_removal (Ok s) = ok s.removed
+told_removal (Err r) = refused (number r)
 
 -- a removal with its rows at the start of the tables, where these have room
 abbrev pub placed_removal : Removal → Tables → Answer (Removed × Tables)

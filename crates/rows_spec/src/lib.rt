@@ -6,4 +6,4 @@ mod order;
 mod removed;
 
 pub use order::Order;
-pub use removed::{AnsweredRemoval, HasRemoval, Removed, StorageRemovedBytes, TotalBytes};
+pub use removed::{Removed, StorageRemovedBytes};

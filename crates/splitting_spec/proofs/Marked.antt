@@ -12,7 +12,7 @@ use Rattle.rows_spec.specs.Calls.{RemovalAfter}
 use Rattle.records_spec.specs.Outcomes.{kept, ok, leaving, after}
 use Rattle.rows_spec.specs.Rows.{Tables, tables, ids_of, parts_of, rows_under, over_rows}
 use Rattle.rows_spec.specs.declared.removed.Removed.{Removed}
-use Rattle.rows_spec.specs.declared.removed.Removed.TheVariants.{None, Sectioned}
+use Rattle.rows_spec.specs.declared.removed.Removed.TheVariants.{None as NoneRemoved, Sectioned}
 use Rattle.splitting_spec.specs.Sections.{spare, section, sections, split, from_latest}
 use Rattle.splitting_spec.specs.Calls.{SplitAfter, split_key, split_value}
 
@@ -38,7 +38,7 @@ lent n = tables (replicate n (1 ∷ 2 ∷ [])) (replicate n 3) (replicate n 4)
 
 -- no removal for no sections, else their rows
 abbrev state : List At → Removed
-state [] = None
+state [] = NoneRemoved
 state (s ∷ ss) = Sectioned (length (s ∷ ss))
 
 -- the answer of the key's call: sections

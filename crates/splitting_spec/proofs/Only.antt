@@ -5,14 +5,15 @@ use Rattle.records_spec.specs.Refusals.{refusal_of}
 use Rattle.records_spec.proofs.Only.{named_back}
 use Rattle.records_spec.specs.Outcomes.{refused, Answer, ok}
 use Rattle.splitting_spec.specs.Calls.{Told, told_split}
-use Rattle.splitting_spec.specs.declared.split.Splitting.{Splitting}
-use Rattle.splitting_spec.specs.declared.split.Splitting.TheVariants.{Done, Refused}
+use Rattle.splitting_spec.specs.declared.split.ValueSplit.{ValueSplit}
+use Rattle.records_spec.specs.declared.refusal.Refusal.{Refusal}
+use Rattle.std.specs.Prelude.{Result, Ok, Err}
 
 -- the answer that a state and a number, or a refusal's number, tell
-abbrev pub split_as : Answer Told → Splitting
-split_as (ok t) = Done (record { removal = record { removed = t.removal }; visited = t.visited })
-split_as (refused n) = Refused (refusal_of n)
+abbrev pub split_as : Answer Told → Result ValueSplit Refusal
+split_as (ok t) = Ok (record { removal = record { removed = t.removal }; visited = t.visited })
+split_as (refused n) = Err (refusal_of n)
 
-pub split_back : (s : Splitting) → split_as (told_split s) ≡ s
-split_back (Done s) = refl
-split_back (Refused r) = ap Refused (named_back r)
+pub split_back : (s : Result ValueSplit Refusal) → split_as (told_split s) ≡ s
+split_back (Ok s) = refl
+split_back (Err r) = ap Err (named_back r)

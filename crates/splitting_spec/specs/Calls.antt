@@ -1,6 +1,6 @@
 -- What `split_key_removed_bytes` and `split_value_removed_bytes` answer and leave.
 -- Assumes nothing.
-use Rattle.std.specs.Prelude.{ℕ, zero, suc, ◌≡◌, List, [], ◌∷◌, length}
+use Rattle.std.specs.Prelude.{ℕ, zero, suc, ◌≡◌, List, [], ◌∷◌, length, Result, Ok, Err}
 use Rattle.records_spec.specs.Refusals.{number}
 use Rattle.records_spec.specs.Tables.{At, ◌⦂◌}
 use Rattle.records_spec.specs.Flags.{Flags, id_of, Held, flags_of, proper}
@@ -11,8 +11,8 @@ use Rattle.rows_spec.specs.Removals.{Removal, nothing, sectioned, rows_of_remova
 use Rattle.rows_spec.specs.Calls.{RemovalAfter, placed_removal}
 use Rattle.rows_spec.specs.declared.removed.Removed.{Removed}
 use Rattle.splitting_spec.specs.Sections.{sections, split}
-use Rattle.splitting_spec.specs.declared.split.Splitting.{Splitting}
-use Rattle.splitting_spec.specs.declared.split.Splitting.TheVariants.{Done, Refused}
+use Rattle.splitting_spec.specs.declared.split.ValueSplit.{ValueSplit}
+use Rattle.records_spec.specs.declared.refusal.Refusal.{Refusal}
 
 -- ---- the two removals
 
@@ -54,9 +54,9 @@ pub record Told : Type 0 where
   pub visited : ℕ
 
 -- these or a refusal, as the code told it
-abbrev pub told_split : Splitting → Answer Told
-told_split (Done s) = ok (record { removal = s.removal.removed; visited = s.visited })
-told_split (Refused r) = refused (number r)
+abbrev pub told_split : Result ValueSplit Refusal → Answer Told
+told_split (Ok s) = ok (record { removal = s.removal.removed; visited = s.visited })
+told_split (Err r) = refused (number r)
 
 -- all that it leaves: these or a refusal, and the tables lent for the rows
 abbrev pub SplitAfter : Type 0

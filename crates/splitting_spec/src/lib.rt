@@ -6,4 +6,4 @@ mod giving;
 mod split;
 
 pub use giving::Visited;
-pub use split::{Splitting, ValueSplit};
+pub use split::ValueSplit;

@@ -10,7 +10,6 @@ use Rattle.rows_spec.specs.Rows.{Row, ascends, Tables, tables, rows_in, over_row
 use Rattle.rows_spec.specs.Inner.Rows.{Proper}
 use Rattle.rows_spec.proofs.Rows.{length_rows, room_less, rows_one, proper_one}
 use Rattle.rows_spec.proofs.Columns.{over_room, rows_back, over_over}
-use Rattle.records_spec.specs.Answers.{counted}
 use Rattle.sums_spec.specs.Joins.{add_row, joined}
 use Rattle.sums_spec.specs.Sums.{unknown_epoch, unknown}
 use Rattle.sums_spec.proofs.Joining.{joined_nothing, joined_one, more_left}

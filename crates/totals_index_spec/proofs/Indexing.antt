@@ -19,11 +19,11 @@ use Rattle.rows_spec.proofs.Rows.{length_rows, room_in_lem}
 use Rattle.totals_spec.specs.Calls.{RowsAfter, proper_table, replacing}
 use Rattle.totals_spec.specs.Replacing.{replaced}
 use Rattle.totals_spec.specs.Inner.Steps.{counted_rows}
-use Rattle.records_spec.specs.Outcomes.{refused, Answer, ok, refusing, leaving, kept, after}
+use Rattle.records_spec.specs.Outcomes.{refused, Answer, ok, refusing, leaving, kept, after, answered}
 use Rattle.records_spec.specs.Refusals.{number}
-use Rattle.records_spec.specs.Answers.{counted}
 use Rattle.records_spec.specs.declared.refusal.Refusal.TheVariants.{BadTable, NoRoom, Overflow, IndexMismatch}
-use Rattle.records_spec.specs.declared.answer.Counted.{Counted}
+use Rattle.std.specs.Prelude.{Result}
+use Rattle.records_spec.specs.declared.refusal.Refusal.{Refusal}
 use Rattle.totals_index_spec.specs.Structs.{columns, structs}
 use Rattle.totals_index_spec.specs.Calls.{beside, verdict, placing_structs, replacing_structs}
 use Rattle.totals_index_spec.specs.Inner.Judging.{verdict_of, refusal_for}
@@ -209,24 +209,24 @@ module _ (j : Judging) (ts : List Total) (work : Tables) (good : Bool) (old new 
   pub can_take : (taken ≤ length ts) × Room taken work
   can_take = taking (fitted_in j (length ts) work) refl
 
-  module _ (r : Counted) (then : Tables) where
+  module _ (r : Result ℕ Refusal) (then : Tables) where
     -- what `put_together` asks, and what is left behind it
     pub record Put : Type 0 where
-      pub count_fits : rows_told (counted r) ≤ length ts
-      pub rows_there : Room (rows_told (counted r)) then
-      pub all_left : after (counted r) (beside (over (structs (rows_in (rows_told (counted r)) then)) ts) then)
+      pub count_fits : rows_told (answered r) ≤ length ts
+      pub rows_there : Room (rows_told (answered r)) then
+      pub all_left : after (answered r) (beside (over (structs (rows_in (rows_told (answered r)) then)) ts) then)
           ≡ replacing_structs n ts work good old new
 
-    put_by : (b : Bool) → fitted_in j (length ts) work ≡ b → after (counted r) then ≡ replacing_in (length ts) j apart good old new → Put
+    put_by : (b : Bool) → fitted_in j (length ts) work ≡ b → after (answered r) then ≡ replacing_in (length ts) j apart good old new → Put
     put_by true h e =
         let all : apart ≡ stood h = ap (λ (b : Bool). over_rows (rows_in (cond b n 0) (columns ts)) work) h in
         let fits : fitted_in j (length ts) (stood h) ≡ true = rw (same_room h n, same_room h k) h in
-        let end : after (counted r) then ≡ after (ok (length (rs h))) (over_rows (rs h) (stood h)) =
+        let end : after (answered r) then ≡ after (ok (length (rs h))) (over_rows (rs h) (stood h)) =
         e ∙ ap (λ (w : Tables). replacing_in (length ts) j w good old new) all ∙ rw fits (done h) in
-        let p : counted r ≡ ok (length (rs h)) = ap (λ (a : RowsAfter). a.answer) end in
+        let p : answered r ≡ ok (length (rs h)) = ap (λ (a : RowsAfter). a.answer) end in
         let q : then ≡ over_rows (rs h) (stood h) = ap (λ (a : RowsAfter). a.lent) end in
-        let z : rows_told (counted r) ≡ length (rs h) = ap rows_told p in
-        let back : rows_in (rows_told (counted r)) then ≡ rs h = ap (λ (m : ℕ). rows_in m then) z ∙ ap (rows_in (length (rs h))) q
+        let z : rows_told (answered r) ≡ length (rs h) = ap rows_told p in
+        let back : rows_in (rows_told (answered r)) then ≡ rs h = ap (λ (m : ℕ). rows_in m then) z ∙ ap (rows_in (length (rs h))) q
         ∙ rows_back (rs h) (stood h) in
         record {
           count_fits = omega (arith, z, (rows_after h).counted, leb-true k (length ts) (accepted h).in_table);
@@ -235,17 +235,17 @@ module _ (j : Judging) (ts : List Total) (work : Tables) (good : Bool) (old new 
         }
     put_by false h e =
         let none : apart ≡ work = ap (λ (b : Bool). over_rows (rows_in (cond b n 0) (columns ts)) work) h ∙ over_nothing work in
-        let end : after (counted r) then ≡ refusing (refusal_for j) work = e ∙ ap (λ (w : Tables). replacing_in (length ts) j w good old new) none
+        let end : after (answered r) then ≡ refusing (refusal_for j) work = e ∙ ap (λ (w : Tables). replacing_in (length ts) j w good old new) none
         ∙ rw h refl in
-        let p : counted r ≡ refused (number (refusal_for j)) = ap (λ (a : RowsAfter). a.answer) end in
+        let p : answered r ≡ refused (number (refusal_for j)) = ap (λ (a : RowsAfter). a.answer) end in
         let q : then ≡ work = ap (λ (a : RowsAfter). a.lent) end in
-        let z : rows_told (counted r) ≡ 0 = ap rows_told p in
+        let z : rows_told (answered r) ≡ 0 = ap rows_told p in
         record {
           count_fits = omega (arith, z);
           rows_there = record { ids_long = omega (arith, z); epochs_long = omega (arith, z); bytes_long = omega (arith, z) };
-          all_left = (λ i. after (p i) (beside (nothing_over ts (rows_told (counted r)) then z i) (q i))) ∙ sym (stated_not h);
+          all_left = (λ i. after (p i) (beside (nothing_over ts (rows_told (answered r)) then z i) (q i))) ∙ sym (stated_not h);
         }
 
     -- WHAT WAS TAKEN APART AND CHANGED CAN BE PUT TOGETHER, AND IS WHAT THE STATEMENT SAYS
-    pub can_put : after (counted r) then ≡ replacing_in (length ts) j apart good old new → Put
+    pub can_put : after (answered r) then ≡ replacing_in (length ts) j apart good old new → Put
     can_put = put_by (fitted_in j (length ts) work) refl

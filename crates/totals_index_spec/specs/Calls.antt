@@ -1,13 +1,11 @@
 -- What `replace_structs` answers and leaves, over a table of structs and a work area of three lent slices.
 -- Assumes nothing.
-use Rattle.std.specs.Prelude.{ℕ, ◌≡◌, Bool, ◌&&◌, List, leb, length}
-use Rattle.std.specs.Prelude.{Option}
-use Rattle.records_spec.specs.Outcomes.{Answer, ◌unless◌, ◌>>◌, ◌>>=◌, After, after, leaving, placed}
+use Rattle.std.specs.Prelude.{ℕ, ◌≡◌, Bool, ◌&&◌, List, leb, length, Option, Result}
+use Rattle.records_spec.specs.Outcomes.{Answer, answered, ◌unless◌, ◌>>◌, ◌>>=◌, After, after, leaving, placed}
 use Rattle.records_spec.specs.Flags.{Flags}
 use Rattle.records_spec.specs.Tables.{over}
-use Rattle.records_spec.specs.Answers.{counted}
 use Rattle.records_spec.specs.declared.refusal.Refusal.TheVariants.{BadTable}
-use Rattle.records_spec.specs.declared.answer.Counted.{Counted}
+use Rattle.records_spec.specs.declared.refusal.Refusal.{Refusal}
 use Rattle.rows_spec.specs.Rows.{Row, Tables, rows_in, room_in, over_rows}
 use Rattle.totals_spec.specs.Calls.{proper_table}
 use Rattle.totals_spec.specs.Replacing.{replaced}
@@ -53,5 +51,5 @@ unfoldable pub replacing_structs : ℕ → List Total → Tables → Bool → Op
 replacing_structs n ts work good old new = placing_structs n (verdict n ts good old new) ts work
 
 -- what the contract of `replace_structs` says of its answer and what it leaves
-abbrev pub SaysStructs : ℕ → List Total → Tables → Bool → Option Flags → Option Flags → Counted → TableAndWork → Type 0
-SaysStructs n ts work good old new r m = after (counted r) m ≡ replacing_structs n ts work good old new
+abbrev pub SaysStructs : ℕ → List Total → Tables → Bool → Option Flags → Option Flags → Result ℕ Refusal → TableAndWork → Type 0
+SaysStructs n ts work good old new r m = after (answered r) m ≡ replacing_structs n ts work good old new

@@ -1,13 +1,12 @@
 -- The text of flags by their head and tables, and of what a call answered.
 -- Assumes nothing.
-use Rattle.std.specs.Prelude.{ℕ, ◌≤◌, List, ◌++◌, length, take}
+use Rattle.std.specs.Prelude.{ℕ, ◌≤◌, List, ◌++◌, length, take, Option, None, Some, Result, Ok, Err}
 use Rattle.records_spec.specs.Refusals.{number}
 use Rattle.records_spec.specs.Tables.{records_of}
 use Rattle.records_spec.specs.Flags.{type_byte, owner_of}
 use Rattle.records_spec.specs.Outcomes.{refused}
 use Rattle.records_spec.specs.declared.head.Head.{Head}
-use Rattle.records_spec.specs.declared.answer.Outcome.{Outcome}
-use Rattle.records_spec.specs.declared.answer.Outcome.TheVariants.{Absent, Present, Refused}
+use Rattle.records_spec.specs.declared.refusal.Refusal.{Refusal}
 use Rattle.listing_spec.specs.Text.{ascii, word_line, owner_line, record_texts}
 use Rattle.listing_spec.specs.Listed.{record_places}
 
@@ -17,11 +16,11 @@ head_text h es cs =
     word_line "kind " (type_byte h.kind)
     ++ (owner_line (owner_of h) ++ (word_line "base " h.base ++ (record_texts (records_of es cs) ++ word_line "records " (length es))))
 
--- an outcome, with the head and the lent tables of flags
-abbrev pub outcome_text : Outcome → Head → List ℕ → List ℕ → List ℕ
-outcome_text Absent h es cs = ascii "none\n"
-outcome_text (Refused r) h es cs = word_line "refused " (number r)
-outcome_text Present h es cs = head_text h (take h.records es) (take h.records cs)
+-- what a reader answered, with the lent tables of flags
+abbrev pub outcome_text : Result (Option Head) Refusal → List ℕ → List ℕ → List ℕ
+outcome_text (Ok None) es cs = ascii "none\n"
+outcome_text (Ok (Some h)) es cs = head_text h (take h.records es) (take h.records cs)
+outcome_text (Err r) es cs = word_line "refused " (number r)
 
 -- the tables hold the records of a head, and these are no more than have room
 pub record Listable (h : Head) (es cs : List ℕ) : Type 0 where
