@@ -1,5 +1,5 @@
 // Flags: heads, refusals, and the two tables that hold records.
-// No function: types, definitions, examples and laws, which the contracts of `records` cite. See specs/ and proofs/.
+// Types with their conversions, definitions, examples and laws, which the contracts of `records` cite; no other function. See specs/ and proofs/.
 #![tactic(auto)]
 
 mod head;
