@@ -13,7 +13,7 @@ pub fn no_head() -> Head
     Head {
         kind: Kind::SingleEpoch,
         base: 0,
-        owner: [0u8; OWNER_LENGTH],
+        owner: [0; OWNER_LENGTH],
         records: 0,
     }
 }
@@ -22,10 +22,9 @@ pub fn no_head() -> Head
 pub fn absent() -> Answered
     ensures { result ≡ record { outcome = Outcome.Absent; head = no_head } }
 {
-    let head = no_head();
     Answered {
         outcome: Outcome::Absent,
-        head,
+        head: no_head(),
     }
 }
 
@@ -33,10 +32,9 @@ pub fn absent() -> Answered
 pub fn refused(refusal: Refusal) -> Answered
     ensures { result ≡ record { outcome = Outcome.Refused refusal; head = no_head } }
 {
-    let head = no_head();
     Answered {
         outcome: Outcome::Refused(refusal),
-        head,
+        head: no_head(),
     }
 }
 
@@ -54,8 +52,5 @@ pub fn present(head: Head) -> Answered
 pub fn fit(n: usize, epochs_len: usize, counts_len: usize) -> bool
     ensures { result ≡ room_for n epochs_len counts_len }
 {
-    if epochs_len < n {
-        return false;
-    }
-    n <= counts_len
+    n <= epochs_len && n <= counts_len
 }

@@ -9,24 +9,14 @@ use records_spec::{Head, Kind, KindByte, MaybeOwner, OWNER_LENGTH, OwnerId};
 pub fn is_owned(kind: Kind) -> bool
     ensures { result ≡ owned kind }
 {
-    match kind {
-        Kind::SingleEpoch => false,
-        Kind::MultiEpoch => false,
-        Kind::SingleEpochOwned => true,
-        Kind::MultiEpochOwned => true,
-    }
+    matches!(kind, Kind::SingleEpochOwned | Kind::MultiEpochOwned)
 }
 
 // Whether flags of this kind have records.
 pub fn is_multi(kind: Kind) -> bool
     ensures { result ≡ multi kind }
 {
-    match kind {
-        Kind::SingleEpoch => false,
-        Kind::MultiEpoch => true,
-        Kind::SingleEpochOwned => false,
-        Kind::MultiEpochOwned => true,
-    }
+    matches!(kind, Kind::MultiEpoch | Kind::MultiEpochOwned)
 }
 
 // The kind's byte, 0 to 3.
@@ -45,19 +35,13 @@ pub fn kind_byte(kind: Kind) -> u8
 pub fn kind_of_byte(byte: u8) -> KindByte
     ensures { result ≡ kind_of_byte byte }
 {
-    if byte == 0 {
-        return KindByte::Known(Kind::SingleEpoch);
+    match byte {
+        0 => KindByte::Known(Kind::SingleEpoch),
+        1 => KindByte::Known(Kind::MultiEpoch),
+        2 => KindByte::Known(Kind::SingleEpochOwned),
+        3 => KindByte::Known(Kind::MultiEpochOwned),
+        _ => KindByte::Unknown,
     }
-    if byte == 1 {
-        return KindByte::Known(Kind::MultiEpoch);
-    }
-    if byte == 2 {
-        return KindByte::Known(Kind::SingleEpochOwned);
-    }
-    if byte == 3 {
-        return KindByte::Known(Kind::MultiEpochOwned);
-    }
-    KindByte::Unknown
 }
 
 // No owner.
@@ -66,55 +50,34 @@ pub fn no_owner() -> MaybeOwner
 {
     MaybeOwner {
         owned: false,
-        id: [0u8; OWNER_LENGTH],
+        id: [0; OWNER_LENGTH],
     }
 }
 
-// Whether two owners are the same. No early exit: a loop of this shape can become vector code.
+// Whether two owners are the same.
 pub fn same_owner(ours: OwnerId, theirs: OwnerId) -> bool
     ensures { result ≡ same ours theirs }
 {
-    let mut good = true;
-    let mut i: usize = 0;
-    while i < OWNER_LENGTH {
-        good = good & (ours[i] == theirs[i]);
-        i += 1;
-    }
-    good
+    ours == theirs
 }
 
 // The head of flags with a number of records: the kind follows from having an owner and from having records.
 pub fn new_head(base: u16, maybe_owner_id: MaybeOwner, records: usize) -> Head
     ensures { result ≡ head_for base (owner_if maybe_owner_id.owned maybe_owner_id.id) records }
 {
-    if maybe_owner_id.owned {
-        let owner = maybe_owner_id.id;
-        if records == 0 {
-            return Head {
-                kind: Kind::SingleEpochOwned,
-                base,
-                owner,
-                records,
-            };
-        }
-        return Head {
-            kind: Kind::MultiEpochOwned,
-            base,
-            owner,
-            records,
-        };
-    }
-    let owner = [0u8; OWNER_LENGTH];
-    if records == 0 {
-        return Head {
-            kind: Kind::SingleEpoch,
-            base,
-            owner,
-            records,
-        };
-    }
+    let kind = match (maybe_owner_id.owned, records) {
+        (false, 0) => Kind::SingleEpoch,
+        (false, _) => Kind::MultiEpoch,
+        (true, 0) => Kind::SingleEpochOwned,
+        (true, _) => Kind::MultiEpochOwned,
+    };
+    let owner = if maybe_owner_id.owned {
+        maybe_owner_id.id
+    } else {
+        [0; OWNER_LENGTH]
+    };
     Head {
-        kind: Kind::MultiEpoch,
+        kind,
         base,
         owner,
         records,
@@ -132,10 +95,8 @@ pub fn new_single_epoch(epoch: u16, maybe_owner_id: MaybeOwner) -> Head
 pub fn set_owner_id(mut head: Head, owner_id: OwnerId) -> Head
     ensures { result ≡ with_owner head owner_id }
 {
-    let kind = head.kind;
-    if is_owned(kind) {
+    if is_owned(head.kind) {
         head.owner = owner_id;
-        return head;
     }
     head
 }
@@ -151,18 +112,17 @@ pub fn base_epoch(head: Head) -> u16
 pub fn owner_id(head: Head) -> MaybeOwner
     ensures { result ≡ maybe_owner (owner_of head) }
 {
-    let kind = head.kind;
-    if is_owned(kind) {
-        let id = head.owner;
-        return MaybeOwner { owned: true, id };
+    let id = head.owner;
+    if is_owned(head.kind) {
+        MaybeOwner { owned: true, id }
+    } else {
+        no_owner()
     }
-    no_owner()
 }
 
 // Byte 0 of the flags.
 pub fn type_byte(head: Head) -> u8
     ensures { result ≡ type_byte head.kind }
 {
-    let kind = head.kind;
-    kind_byte(kind)
+    kind_byte(head.kind)
 }

@@ -8,40 +8,28 @@ ghost use Rattle.records_spec.specs.Inner.Runs.{stretch, lead, RoomFrom};
 
 use crate::table::find;
 
-// The lesser of two epochs. Which one it is cannot be foreseen, so no branch shall depend on it: an early return in a function as
-// small as this one, or one of the next two, becomes a conditional move.
-pub fn lesser(x: u16, y: u16) -> u16
-    ensures { Selected x y x y result }
-{
-    if x < y {
-        return x;
-    }
-    y
-}
-
-// The count that stands at the lesser of two epochs: ours where our epoch is below theirs, and else theirs.
+// The count that stands at the lesser of two epochs: ours where our epoch is below theirs, and else theirs. Which one it is cannot be
+// foreseen, so no branch shall depend on it: in a function as small as this one, or the next, an `if` becomes a conditional move.
 pub fn standing(ours: u16, theirs: u16, our_count: u32, their_count: u32) -> u32
     ensures { Selected ours theirs our_count their_count result }
 {
     if ours < theirs {
-        return our_count;
+        our_count
+    } else {
+        their_count
     }
-    their_count
 }
 
 // The place after i where the epoch x of the record at i is at most y, so that the record is passed; else i.
 pub fn upto(x: u16, y: u16, i: usize) -> usize
-    requires { i < 18446744073709551615 }
+    requires { i < usize.MAX }
     ensures { Selected y x i (i + 1) result }
 {
-    if x <= y {
-        return i + 1;
-    }
-    i
+    if x <= y { i + 1 } else { i }
 }
 
 // Copies the records from the place i up to the place `end` into the two tables lent for them, from the place `at` on; answers
-// the place behind them. A loop of this shape can become vector code.
+// the place behind them.
 pub fn copy_run(
     from_epochs: &[u16],
     from_counts: &[u32],
@@ -55,15 +43,13 @@ pub fn copy_run(
     requires room_from { RoomFrom (stretch i end (records_of from_epochs.now from_counts.now)) at epochs.old counts.old }
     ensures { Placed (stretch i end (records_were from_epochs.now from_counts.now)) at result epochs.old counts.old epochs.new counts.new }
 {
-    let mut a = i;
-    let mut k = at;
-    while a < end {
-        epochs[k] = from_epochs[a];
-        counts[k] = from_counts[a];
-        a += 1;
-        k += 1;
+    if end <= i {
+        return at;
     }
-    k
+    let behind = at + (end - i);
+    epochs[at..behind].copy_from_slice(&from_epochs[i..end]);
+    counts[at..behind].copy_from_slice(&from_counts[i..end]);
+    behind
 }
 
 // The place behind those of ours from i on that are below theirs from j on: they come first in the union, as one run.
@@ -72,8 +58,8 @@ pub fn lead_end(our_epochs: &[u16], i: usize, their_epochs: &[u16], j: usize) ->
     requires i_in_bounds { i ≤ length our_epochs.now }
     ensures { result ≡ i + lead (drop i our_epochs.now) (drop j their_epochs.now) }
 {
-    if j < their_epochs.len() {
-        return i + find(&our_epochs[i..], their_epochs[j]);
+    match their_epochs.get(j) {
+        Some(first) => i + find(&our_epochs[i..], *first),
+        None => our_epochs.len(),
     }
-    our_epochs.len()
 }

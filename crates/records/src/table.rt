@@ -7,7 +7,7 @@ ghost use Rattle.records_spec.specs.Inner.Unions.{InBoth, Stepped, spot_of};
 ghost use Rattle.records_spec.specs.Flags.{agrees, proper};
 
 use crate::head::is_multi;
-use crate::joining::{copy_run, lead_end, lesser, standing, upto};
+use crate::joining::{copy_run, lead_end, standing, upto};
 use records_spec::{Head, Kind, NextRecord, Spot};
 
 // Whether the epochs ascend strictly and are all above the base. No early exit: a loop of this shape can become vector code.
@@ -16,12 +16,9 @@ pub fn ascend(base: u16, epochs: &[u16]) -> bool
 {
     let mut good = true;
     let mut prev = base;
-    let mut i: usize = 0;
-    while i < epochs.len() {
-        let epoch = epochs[i];
-        good = good & (prev < epoch);
-        prev = epoch;
-        i += 1;
+    for epoch in epochs {
+        good &= prev < *epoch;
+        prev = *epoch;
     }
     good
 }
@@ -30,51 +27,24 @@ pub fn ascend(base: u16, epochs: &[u16]) -> bool
 fn agree(kind: Kind, records: usize) -> bool
     ensures { result ≡ agrees kind records }
 {
-    if is_multi(kind) {
-        return 1 <= records;
-    }
-    records == 0
+    is_multi(kind) == (1 <= records)
 }
 
 // Whether a head and its tables are proper flags.
+#[tactic(auto, unfolding(records_spec::specs::Flags::proper))]
 pub fn is_proper(head: Head, epochs: &[u16], counts: &[u32]) -> bool
     ensures { result ≡ proper (flags_were head epochs.now counts.now) }
 {
-    let kind = head.kind;
     let n = head.records;
-    if agree(kind, n) {
-        if epochs.len() < n {
-            return false;
-        }
-        if counts.len() < n {
-            return false;
-        }
-        return ascend(head.base, &epochs[..n]);
-    }
-    false
+    agree(head.kind, n) && n <= epochs.len() && n <= counts.len() && ascend(head.base, &epochs[..n])
 }
 
-// The place of an epoch: where its record stands, or where it would stand. It is one of the `left` places from `at` on, or the one
-// behind them, and each look at the middle leaves half of them.
+// The place of an epoch: where its record stands, or where it would stand.
 pub fn find(epochs: &[u16], epoch: u16) -> usize
     requires { rising epochs.now ≡ true }
     ensures { result ≡ place_of epoch epochs.now }
 {
-    let mut at: usize = 0;
-    let mut left = epochs.len();
-    while 1 < left {
-        let half = left / 2;
-        left -= half;
-        if epochs[at + half] < epoch {
-            at += half;
-        }
-    }
-    if at < epochs.len() {
-        if epochs[at] < epoch {
-            return at + 1;
-        }
-    }
-    at
+    epochs.partition_point(|x| *x < epoch)
 }
 
 // Looks up an epoch.
@@ -83,19 +53,18 @@ pub fn look_up(epochs: &[u16], counts: &[u32], epoch: u16) -> Spot
     ensures { result ≡ spot_of epoch epochs.now counts.now }
 {
     let below = find(epochs, epoch);
-    if below < epochs.len() {
-        if epochs[below] == epoch {
-            return Spot {
-                below,
-                upto: below + 1,
-                count: counts[below],
-            };
+    if below < epochs.len() && epochs[below] == epoch {
+        Spot {
+            below,
+            upto: below + 1,
+            count: counts[below],
         }
-    }
-    Spot {
-        below,
-        upto: below,
-        count: 0,
+    } else {
+        Spot {
+            below,
+            upto: below,
+            count: 0,
+        }
     }
 }
 
@@ -116,6 +85,7 @@ pub fn copy_records(
 
 // The next record of the union of what stands from i on in ours and from j on in theirs. Where both have one it is found without
 // a branch.
+#[tactic(auto, using(records_spec::proofs::Tables::length_records_of))]
 pub fn next_record(
     our_epochs: &[u16],
     our_counts: &[u32],
@@ -130,28 +100,28 @@ pub fn next_record(
     ensures { Stepped (records_were our_epochs.now our_counts.now) (records_were their_epochs.now their_counts.now) i j result }
 {
     if their_epochs.len() <= j {
-        return NextRecord {
+        NextRecord {
             epoch: our_epochs[i],
             count: our_counts[i],
             i: i + 1,
             j,
-        };
-    }
-    let theirs = their_epochs[j];
-    if our_epochs.len() <= i {
-        return NextRecord {
-            epoch: theirs,
+        }
+    } else if our_epochs.len() <= i {
+        NextRecord {
+            epoch: their_epochs[j],
             count: their_counts[j],
             i,
             j: j + 1,
-        };
-    }
-    let ours = our_epochs[i];
-    NextRecord {
-        epoch: lesser(ours, theirs),
-        count: standing(ours, theirs, our_counts[i], their_counts[j]),
-        i: upto(ours, theirs, i),
-        j: upto(theirs, ours, j),
+        }
+    } else {
+        let ours = our_epochs[i];
+        let theirs = their_epochs[j];
+        NextRecord {
+            epoch: ours.min(theirs),
+            count: standing(ours, theirs, our_counts[i], their_counts[j]),
+            i: upto(ours, theirs, i),
+            j: upto(theirs, ours, j),
+        }
     }
 }
 
@@ -172,7 +142,8 @@ pub fn union_len(
     let end = our_epochs.len() + their_epochs.len();
     let mut a = i;
     let mut b = j;
-    let mut n: usize = 0;
+    let mut n = 0;
+    // Two places move, by what the next record passes, so no range gives them.
     while a + b < end {
         let next = next_record(our_epochs, our_counts, a, their_epochs, their_counts, b);
         a = next.i;
@@ -213,10 +184,8 @@ pub fn union_into(
     let mut a = lead_end(our_epochs, i, their_epochs, j);
     let mut b = j;
     let mut k = copy_run(our_epochs, our_counts, i, a, epochs, counts, at);
-    while a < our_end {
-        if their_end <= b {
-            return copy_run(our_epochs, our_counts, a, our_end, epochs, counts, k);
-        }
+    // Two places move, by what the next record passes, so no range gives them.
+    while a < our_end && b < their_end {
         let next = next_record(our_epochs, our_counts, a, their_epochs, their_counts, b);
         epochs[k] = next.epoch;
         counts[k] = next.count;
@@ -224,6 +193,7 @@ pub fn union_into(
         b = next.j;
         k += 1;
     }
+    k = copy_run(our_epochs, our_counts, a, our_end, epochs, counts, k);
     copy_run(their_epochs, their_counts, b, their_end, epochs, counts, k)
 }
 
@@ -233,10 +203,6 @@ pub fn drop_record(epochs: &mut [u16], counts: &mut [u32], n: usize, at: usize)
     ensures { (epochs.new ≡ over (without at (take n epochs.old)) epochs.old)
         × (counts.new ≡ over (without at (take n counts.old)) counts.old) }
 {
-    let mut i = at + 1;
-    while i < n {
-        epochs[i - 1] = epochs[i];
-        counts[i - 1] = counts[i];
-        i += 1;
-    }
+    epochs.copy_within(at + 1..n, at);
+    counts.copy_within(at + 1..n, at);
 }

@@ -1,45 +1,33 @@
--- `records::table::find` meets its contract: the place stays between the bounds, whichever way a look goes, and the last look tells it.
--- Assumes nothing.
-use native.Mathlib.Omega.{arith}
+-- In a rising table the epochs below a given one come first, and `place_of` counts them.
+use Rattle.std.proofs.Common.{◌≡◌, ℕ, ◌-◌, ◌<◌, ◌≤◌, ltb, true, false, List, length, get_or, arith, rules}
+use Rattle.std.proofs.lemmas.List.{get_or_default}
+use Rattle.std.proofs.lemmas.List.Sorted.{IsPartitionPoint-from_clause}
+use Rattle.std.specs.List.Sorted.{IsPartitionedBy, IsPartitionPoint}
+use borrow.Author.Tests.{ltb-true, ltb-false, lt-ltb}
+use Rattle.records_spec.specs.Tables.{rising, place_of}
 use Rattle.records_spec.proofs.Rising.{place_within, place_upto, place_past}
-use Rattle.records_spec.proofs.Halving.{between_start, halved, middle_in, fewer_left}
-use Rattle.records_spec.proofs.Halving.{between_up, between_down, done_behind, done_here, done_end}
 use Rattle.records.proofs.table.find.Goals as goal
 
-pub loop-left-init : goal.loop-left-init
-loop-left-init c = let a = c.args in between_start 0 _ (omega arith) (omega arith) (place_within a.epoch a.epochs.now)
+module _ (e : ℕ) (es : List ℕ) (h : rising es ≡ true) where
+  lower_first : IsPartitionedBy (λ x. ltb x e) es
+  lower_first i j d p q r =
+      let at-i = get_or_default es i 0 d (omega arith) in
+      let at-j = get_or_default es j 0 d q in
+      let past = place_past e es j h q (omega (arith, ltb-true _ _ r)) in
+      let upto : e ≤ get_or es i 0 → place_of e es ≤ i = place_upto e es i (omega arith) in
+      lt-ltb (get_or es i d) e (grind arith)
 
-pub overflow_sub-left : goal.overflow_sub-left
-overflow_sub-left c = omega (arith, (halved c.loop-left.left).most)
+  place_here : (k : ℕ) → k ≤ length es → IsPartitionPoint (λ x. ltb x e ≡ true) (λ x. ltb x e ≡ false) es k → k ≡ place_of e es
+  place_here k p q =
+      let past : 0 < k → k - 1 < place_of e es = λ w.
+      place_past e es (k - 1) h (omega arith) (ltb-true _ _ (q.0 (k - 1) 0 (omega arith) (omega arith))) in
+      let upto : k < length es → place_of e es ≤ k = λ w. place_upto e es k w (ltb-false _ _ (q.1 k 0 (omega arith) w)) in
+      grind (arith, place_within e es)
 
-pub bounds-epochs-at : goal.bounds-epochs-at
-bounds-epochs-at c = middle_in c.loop-left.invariant c.loop-left-test.true
-
-pub loop-left-smaller-then-epochs-at : goal.loop-left-smaller-then-epochs-at
-loop-left-smaller-then-epochs-at c = fewer_left c.loop-left.invariant c.loop-left-test.true
-
-pub loop-left-preserved-then-epochs-at : goal.loop-left-preserved-then-epochs-at
-loop-left-preserved-then-epochs-at c =
-    let m = c.loop-left-test.true in
-    between_up c.loop-left.invariant m (place_past _ _ _ c.requires (middle_in c.loop-left.invariant m) c.if-epochs-at.true)
-
-pub loop-left-smaller : goal.loop-left-smaller
-loop-left-smaller c = fewer_left c.loop-left.invariant c.loop-left-test.true
-
-pub loop-left-preserved : goal.loop-left-preserved
-loop-left-preserved c =
-    let l = c.loop-left in
-    let m = c.loop-left-test.true in
-    between_down l.invariant m (place_upto _ _ _ (middle_in l.invariant m) c.if-epochs-at.false)
-
-pub returns-then-epochs-at-2 : goal.returns-then-epochs-at-2
-returns-then-epochs-at-2 c =
-    done_behind c.loop-left.invariant c.loop-left-test.false
-    (place_past _ _ _ c.requires c.if-at-epochs.true c.if-epochs-at-2.true)
-
-pub returns-else-epochs-at-2 : goal.returns-else-epochs-at-2
-returns-else-epochs-at-2 c =
-    done_here c.loop-left.invariant c.loop-left-test.false (place_upto _ _ _ c.if-at-epochs.true c.if-epochs-at-2.false)
-
-pub returns-else-at-epochs : goal.returns-else-at-epochs
-returns-else-at-epochs c = done_end c.loop-left.invariant c.loop-left-test.false c.if-at-epochs.false
+pub returns : goal.returns
+returns c =
+    let e = c.args.epoch in
+    let es = c.args.epochs.now in
+    let here = c.partition_point.ensures in
+    place_here e es c.requires _ here.bound
+    (IsPartitionPoint-from_clause (λ x. ltb x e) es _ here.partitioned (lower_first e es c.requires) (λ a r g q. search rules))

@@ -1,5 +1,0 @@
--- `records::answer::absent` meets its contract: its head is `no_head`'s. Assumes nothing.
-use Rattle.records.proofs.answer.absent.Goals as goal
-
-pub returns : goal.returns
-returns c = rw c.no_head-head.ensures
