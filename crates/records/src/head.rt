@@ -1,9 +1,8 @@
 // The calls on the head of flags alone.
 ghost use Rattle.std.specs.Prelude.{◌≡◌};
-ghost use Rattle.std.proofs.Math.Option.{none};
-ghost use Rattle.records_spec.specs.Flags.{owned, multi, type_byte, kind_of_byte, owner_if, same, owner_of, maybe_owner, head_for, with_owner};
+ghost use Rattle.records_spec.specs.Flags.{owned, multi, type_byte, same, owner_of, head_for, no_head, with_owner};
 
-use records_spec::{Head, Kind, KindByte, MaybeOwner, OWNER_LENGTH, OwnerId};
+use records_spec::{Head, Kind, OWNER_LENGTH, OwnerId};
 
 // Whether flags of this kind have an owner.
 pub fn is_owned(kind: Kind) -> bool
@@ -19,41 +18,6 @@ pub fn is_multi(kind: Kind) -> bool
     matches!(kind, Kind::MultiEpoch | Kind::MultiEpochOwned)
 }
 
-// The kind's byte, 0 to 3.
-pub fn kind_byte(kind: Kind) -> u8
-    ensures { result ≡ type_byte kind }
-{
-    match kind {
-        Kind::SingleEpoch => 0,
-        Kind::MultiEpoch => 1,
-        Kind::SingleEpochOwned => 2,
-        Kind::MultiEpochOwned => 3,
-    }
-}
-
-// The kind that a byte names.
-pub fn kind_of_byte(byte: u8) -> KindByte
-    ensures { result ≡ kind_of_byte byte }
-{
-    match byte {
-        0 => KindByte::Known(Kind::SingleEpoch),
-        1 => KindByte::Known(Kind::MultiEpoch),
-        2 => KindByte::Known(Kind::SingleEpochOwned),
-        3 => KindByte::Known(Kind::MultiEpochOwned),
-        _ => KindByte::Unknown,
-    }
-}
-
-// No owner.
-pub fn no_owner() -> MaybeOwner
-    ensures { result ≡ maybe_owner none }
-{
-    MaybeOwner {
-        owned: false,
-        id: [0; OWNER_LENGTH],
-    }
-}
-
 // Whether two owners are the same.
 pub fn same_owner(ours: OwnerId, theirs: OwnerId) -> bool
     ensures { result ≡ same ours theirs }
@@ -62,31 +26,33 @@ pub fn same_owner(ours: OwnerId, theirs: OwnerId) -> bool
 }
 
 // The head of flags with a number of records: the kind follows from having an owner and from having records.
-pub fn new_head(base: u16, maybe_owner_id: MaybeOwner, records: usize) -> Head
-    ensures { result ≡ head_for base (owner_if maybe_owner_id.owned maybe_owner_id.id) records }
+pub fn new_head(base: u16, maybe_owner_id: Option<OwnerId>, records: usize) -> Head
+    ensures { result ≡ head_for base maybe_owner_id records }
 {
-    let kind = match (maybe_owner_id.owned, records) {
-        (false, 0) => Kind::SingleEpoch,
-        (false, _) => Kind::MultiEpoch,
-        (true, 0) => Kind::SingleEpochOwned,
-        (true, _) => Kind::MultiEpochOwned,
-    };
-    let owner = if maybe_owner_id.owned {
-        maybe_owner_id.id
-    } else {
-        [0; OWNER_LENGTH]
+    let kind = match (maybe_owner_id, records) {
+        (None, 0) => Kind::SingleEpoch,
+        (None, _) => Kind::MultiEpoch,
+        (Some(_), 0) => Kind::SingleEpochOwned,
+        (Some(_), _) => Kind::MultiEpochOwned,
     };
     Head {
         kind,
         base,
-        owner,
+        owner: maybe_owner_id.unwrap_or([0; OWNER_LENGTH]),
         records,
     }
 }
 
+// The head where there are no flags.
+pub fn no_head() -> Head
+    ensures { result ≡ no_head }
+{
+    new_head(0, None, 0)
+}
+
 // Flags whose bytes were all paid in one epoch.
-pub fn new_single_epoch(epoch: u16, maybe_owner_id: MaybeOwner) -> Head
-    ensures { result ≡ head_for epoch (owner_if maybe_owner_id.owned maybe_owner_id.id) 0 }
+pub fn new_single_epoch(epoch: u16, maybe_owner_id: Option<OwnerId>) -> Head
+    ensures { result ≡ head_for epoch maybe_owner_id 0 }
 {
     new_head(epoch, maybe_owner_id, 0)
 }
@@ -109,14 +75,13 @@ pub fn base_epoch(head: Head) -> u16
 }
 
 // The owner or none.
-pub fn owner_id(head: Head) -> MaybeOwner
-    ensures { result ≡ maybe_owner (owner_of head) }
+pub fn owner_id(head: Head) -> Option<OwnerId>
+    ensures { result ≡ owner_of head }
 {
-    let id = head.owner;
     if is_owned(head.kind) {
-        MaybeOwner { owned: true, id }
+        Some(head.owner)
     } else {
-        no_owner()
+        None
     }
 }
 
@@ -124,5 +89,5 @@ pub fn owner_id(head: Head) -> MaybeOwner
 pub fn type_byte(head: Head) -> u8
     ensures { result ≡ type_byte head.kind }
 {
-    kind_byte(head.kind)
+    u8::from(head.kind)
 }
