@@ -1,43 +1,26 @@
 -- The order of lists is total: turned round, transitive, and equal only of equal lists. So is that of rows by their keys.
 -- Assumes nothing.
-use mathlib.Core.Path.{◌≡◌, refl, ap, ◌∙◌}
+use mathlib.Core.Path.{◌≡◌, refl, sym, ap, ◌∙◌}
 use mathlib.Core.Logic.{◌⊎◌, inl, inr, ⊎_elim}
-use Prim.Native.Nat.{ℕ, zero, suc, ◌+◌, ◌≤◌, ◌<◌}
+use Prim.Native.Nat.{ℕ, zero, suc, ◌≤◌, ◌<◌}
 use native.Mathlib.Nat.{le_antisymm}
-use native.Mathlib.Numerals.{add-one}
 use native.Mathlib.Omega.{arith}
 use mathlib.Core.Bool.{Bool, true, false}
 use mathlib.Core.List.{List, [], ◌∷◌, ◌++◌}
-use lib.ListN.{length, drop, get_or, replicate, drop_of_length-le}
-use lib.Seq.{drop-cons}
+use lib.ListN.{length, replicate}
 use lib.Dec.{ltb}
 use borrow.Author.Tests.{ltb-true, ltb-false, lt-ltb, le-ltb}
 use Rattle.rows_spec.specs.Order.{by, order, flip}
 use Rattle.rows_spec.specs.Rows.{Row, row, key, compared}
-use Rattle.rows_spec.specs.declared.order.Order.{Order}
-use Rattle.rows_spec.specs.declared.order.Order.TheVariants.{Less, Equal, Greater}
-
--- the first answer that is not Equal
-abbrev pub and_then : Order → Order → Order
-and_then Less next = Less
-and_then Equal next = next
-and_then Greater next = Greater
-
-pub equal_less : Equal ≡ Less → ⊥
-equal_less e = let z : ◌≡◌ {A = ℕ} 0 1 = cc in omega arith
-
-pub greater_less : Greater ≡ Less → ⊥
-greater_less e = let z : ◌≡◌ {A = ℕ} 0 1 = cc in omega arith
-
-pub less_equal : Less ≡ Equal → ⊥
-less_equal e = let z : ◌≡◌ {A = ℕ} 0 1 = cc in omega arith
-
-pub greater_equal : Greater ≡ Equal → ⊥
-greater_equal e = let z : ◌≡◌ {A = ℕ} 0 1 = cc in omega arith
+use Rattle.std.specs.Cmp.{nat_cmp_is}
+use Rattle.std.specs.Cmp.Lexicographic.{slice_cmp}
+use Rattle.std.specs.Ordering.{ordering_then, nat_cmp}
+use Rattle.std.specs.declared.cmp.Ordering.{Ordering}
+use Rattle.std.specs.declared.cmp.Ordering.TheVariants.{Less, Equal, Greater}
 
 -- ---- one number, and then what comes next
 
-module _ (x y : ℕ) (n : Order) where
+module _ (x y : ℕ) (n : Ordering) where
   pub by_less : x < y → by x y n ≡ Less
   by_less h = rw (lt-ltb x y h)
 
@@ -48,7 +31,7 @@ module _ (x y : ℕ) (n : Order) where
   by_next h k = rw (le-ltb x y k, le-ltb y x h)
 
   -- by the two tests
-  by_cases : (P : Order → Type 0) → (x < y → P Less) → (y < x → P Greater) → (x ≡ y → P n) → P (by x y n)
+  by_cases : (P : Ordering → Type 0) → (x < y → P Less) → (y < x → P Greater) → (x ≡ y → P n) → P (by x y n)
   by_cases P less greater next = go (ltb x y) refl (ltb y x) refl
     where
       go : (p : Bool) → ltb x y ≡ p → (q : Bool) → ltb y x ≡ q → P (by x y n)
@@ -62,14 +45,14 @@ module _ (x y : ℕ) (n : Order) where
       (λ p. let q : x ≤ y = omega arith in let r : y ≤ x = omega arith in rw (le-ltb y x q, le-ltb x y r))
 
   pub by_less_inv : by x y n ≡ Less → (x < y) ⊎ ((x ≡ y) × (n ≡ Less))
-  by_less_inv = by_cases (λ o. o ≡ Less → (x < y) ⊎ ((x ≡ y) × (n ≡ Less))) (λ p e. inl p) (λ p e. absurd (greater_less e)) (λ p e. inr (p, e))
+  by_less_inv = by_cases (λ o. o ≡ Less → (x < y) ⊎ ((x ≡ y) × (n ≡ Less))) (λ p e. inl p) (λ p e. cc) (λ p e. inr (p, e))
 
   by_equal_inv : by x y n ≡ Equal → (x ≡ y) × (n ≡ Equal)
-  by_equal_inv = by_cases (λ o. o ≡ Equal → (x ≡ y) × (n ≡ Equal)) (λ p e. absurd (less_equal e)) (λ p e. absurd (greater_equal e)) (λ p e. (p, e))
+  by_equal_inv = by_cases (λ o. o ≡ Equal → (x ≡ y) × (n ≡ Equal)) (λ p e. cc) (λ p e. cc) (λ p e. (p, e))
 
-  by_then : (next : Order) → by x y (and_then n next) ≡ and_then (by x y n) next
+  by_then : (next : Ordering) → by x y (ordering_then n next) ≡ ordering_then (by x y n) next
   by_then next =
-      by_cases (λ o. by x y (and_then n next) ≡ and_then o next) (λ p. rw (lt-ltb x y p))
+      by_cases (λ o. by x y (ordering_then n next) ≡ ordering_then o next) (λ p. rw (lt-ltb x y p))
       (λ p. let q : y ≤ x = omega arith in rw (le-ltb x y q, lt-ltb y x p))
       (λ p. let q : x ≤ y = omega arith in let r : y ≤ x = omega arith in rw (le-ltb x y r, le-ltb y x q))
 
@@ -84,11 +67,11 @@ order_flip (x ∷ xs) (y ∷ ys) = ap (by y x) (order_flip xs ys) ∙ by_flip x 
 
 pub order_trans : (a b c : List ℕ) → order a b ≡ Less → order b c ≡ Less → order a c ≡ Less
 unfolding order
-order_trans [] [] c h k = absurd (equal_less h)
-order_trans [] (y ∷ ys) [] h k = absurd (greater_less k)
+order_trans [] [] c h k = cc
+order_trans [] (y ∷ ys) [] h k = cc
 order_trans [] (y ∷ ys) (z ∷ zs) h k = refl
-order_trans (x ∷ xs) [] c h k = absurd (greater_less h)
-order_trans (x ∷ xs) (y ∷ ys) [] h k = absurd (greater_less k)
+order_trans (x ∷ xs) [] c h k = cc
+order_trans (x ∷ xs) (y ∷ ys) [] h k = cc
 order_trans (x ∷ xs) (y ∷ ys) (z ∷ zs) h k =
     ⊎_elim
     (λ p. ⊎_elim (λ q. by_less x z _ (omega arith)) (λ q. by_less x z _ (omega arith)) (by_less_inv y z _ k))
@@ -99,8 +82,8 @@ order_trans (x ∷ xs) (y ∷ ys) (z ∷ zs) h k =
 pub order_same : (a b : List ℕ) → order a b ≡ Equal → a ≡ b
 unfolding order
 order_same [] [] h = refl
-order_same [] (y ∷ ys) h = absurd (less_equal h)
-order_same (x ∷ xs) [] h = absurd (greater_equal h)
+order_same [] (y ∷ ys) h = cc
+order_same (x ∷ xs) [] h = cc
 order_same (x ∷ xs) (y ∷ ys) h =
     let p = by_equal_inv x y (order xs ys) h in
     let q = order_same xs ys p.1 in
@@ -118,7 +101,7 @@ order_behind [] b c = refl
 order_behind (x ∷ xs) b c = by_next x x _ (omega arith) (omega arith) ∙ order_behind xs b c
 
 -- beginnings of one length decide first, then the ends
-pub order_then : (a b c d : List ℕ) → length a ≡ length b → order (a ++ c) (b ++ d) ≡ and_then (order a b) (order c d)
+pub order_then : (a b c d : List ℕ) → length a ≡ length b → order (a ++ c) (b ++ d) ≡ ordering_then (order a b) (order c d)
 unfolding order
 order_then [] [] c d h = refl
 order_then [] (y ∷ ys) c d h = absurd (omega arith)
@@ -128,7 +111,7 @@ order_then (x ∷ xs) (y ∷ ys) c d h = ap (by x y) (order_then xs ys c d (omeg
 -- nothing of n numbers is less than n zeros
 pub zeros_least : (n : ℕ) (x : List ℕ) → length x ≡ n → order x (replicate n 0) ≡ Less → ⊥
 unfolding order
-zeros_least zero [] l h = equal_less h
+zeros_least zero [] l h = cc
 zeros_least zero (x ∷ xs) l h = omega arith
 zeros_least (suc n) [] l h = omega arith
 zeros_least (suc n) (x ∷ xs) l h =
@@ -138,24 +121,26 @@ pub order_one : (x y : ℕ) → order (x ∷ []) (y ∷ []) ≡ by x y Equal
 unfolding order
 order_one x y = refl
 
--- ---- lists from a place on
+-- ---- the order of std
 
-module _ (a b : List ℕ) (i : ℕ) where
-  pub order_on : i < length a → i < length b → order (drop i a) (drop i b) ≡ by (get_or a i 0) (get_or b i 0) (order (drop (i + 1) a) (drop (i + 1) b))
-  unfolding order
-  order_on h k = rw (add-one, drop-cons a i 0, drop-cons b i 0)
+-- by a number is by its place in the order of numbers
+by_is : (x y : ℕ) (n : Ordering) → by x y n ≡ ordering_then (nat_cmp x y) n
+by_is x y n =
+    let then = λ (o : Ordering). ordering_then o n in
+    by_cases x y n (λ o. o ≡ then (nat_cmp x y)) (λ p. ap then (nat_cmp_is x y Less p)) (λ p. ap then (nat_cmp_is x y Greater p))
+    (λ p. ap then (nat_cmp_is x y Equal p))
 
-  pub order_longer : i < length a → length b ≤ i → order (drop i a) (drop i b) ≡ Greater
-  unfolding order
-  order_longer h k = rw (drop-cons a i 0, drop_of_length-le b k)
+pub by_equal_is : (x y : ℕ) → by x y Equal ≡ nat_cmp x y
+by_equal_is x y =
+    by_cases x y Equal (λ o. o ≡ nat_cmp x y) (nat_cmp_is x y Less) (nat_cmp_is x y Greater) (nat_cmp_is x y Equal)
 
-  pub order_shorter : length a ≤ i → i < length b → order (drop i a) (drop i b) ≡ Less
-  unfolding order
-  order_shorter h k = rw (drop-cons b i 0, drop_of_length-le a h)
-
-  pub order_ended : length a ≤ i → length b ≤ i → order (drop i a) (drop i b) ≡ Equal
-  unfolding order
-  order_ended h k = rw (drop_of_length-le a h, drop_of_length-le b k)
+-- THE ORDER OF LISTS IS THAT OF `cmp` AT SLICES
+pub order_is : (a b : List ℕ) → order a b ≡ slice_cmp nat_cmp a b
+unfolding order
+order_is [] [] = refl
+order_is [] (y ∷ ys) = refl
+order_is (x ∷ xs) [] = refl
+order_is (x ∷ xs) (y ∷ ys) = by_is x y (order xs ys) ∙ ap (ordering_then (nat_cmp x y)) (order_is xs ys)
 
 -- ---- rows
 
@@ -180,17 +165,21 @@ pub compared_under : (i : List ℕ) (a b m n : ℕ) → compared (row i a m) (ro
 compared_under i a b m n = order_behind i (a ∷ []) (b ∷ []) ∙ order_one a b
 
 -- by identifiers of one length, then by epochs
-pub compared_parts : (o : Order) (i j : List ℕ) (a b m n : ℕ) → length i ≡ length j → order i j ≡ o
-    → compared (row i a m) (row j b n) ≡ and_then o (by a b Equal)
+pub compared_parts : (o : Ordering) (i j : List ℕ) (a b m n : ℕ) → length i ≡ length j → order i j ≡ o
+    → compared (row i a m) (row j b n) ≡ ordering_then o (by a b Equal)
 compared_parts o i j a b m n h e =
-    order_then i j (a ∷ []) (b ∷ []) h ∙ ap (and_then (order i j)) (order_one a b) ∙ ap (λ (p : Order). and_then p (by a b Equal)) e
+    order_then i j (a ∷ []) (b ∷ []) h ∙ ap (ordering_then (order i j)) (order_one a b) ∙ ap (λ (p : Ordering). ordering_then p (by a b Equal)) e
+
+-- the same, as `then` and `cmp` answer it
+pub compared_then : (i j : List ℕ) (a b : ℕ) → length i ≡ length j → ordering_then (order i j) (nat_cmp a b) ≡ compared (row i a 0) (row j b 0)
+compared_then i j a b h = ap (ordering_then (order i j)) (sym (by_equal_is a b)) ∙ sym (compared_parts (order i j) i j a b 0 0 h refl)
 
 -- ---- how rows stand
 
 pub self_same : (a : Row) → compared a a ≡ Equal
 self_same a = order_self (key a)
 
-pub flipped : (a b : Row) (o : Order) → compared a b ≡ o → compared b a ≡ flip o
+pub flipped : (a b : Row) (o : Ordering) → compared a b ≡ o → compared b a ≡ flip o
 flipped a b o h = order_flip (key a) (key b) ∙ ap flip h
 
 pub less_trans : (a b c : Row) → compared a b ≡ Less → compared b c ≡ Less → compared a c ≡ Less

@@ -9,8 +9,8 @@ use lib.ListN.{length, take}
 use Rattle.records_spec.specs.Tables.{At, records_of}
 use Rattle.records_spec.proofs.Tables.{take_records}
 use Rattle.rows_spec.specs.Rows.{Row, compared, parts_of, Tables, rows_of, rows_in, Room}
-use Rattle.rows_spec.specs.declared.order.Order.TheVariants.{Less, Equal}
-use Rattle.rows_spec.proofs.Comparing.{compared_under, by_less_inv, equal_less}
+use Rattle.std.specs.declared.cmp.Ordering.TheVariants.{Less, Equal}
+use Rattle.rows_spec.proofs.Comparing.{compared_under, by_less_inv}
 
 -- ---- without identifiers
 
@@ -38,6 +38,6 @@ parts_in {n} {t} r = parts_first n t.ids (records_of t.epochs t.bytes) r.ids_lon
 -- of two rows of one identifier the first has the lower epoch
 pub less_under : (a b : Row) → a.identifier ≡ b.identifier → compared a b ≡ Less → a.part.epoch < b.part.epoch
 less_under a b e h =
-    ⊎_elim (λ p. p) (λ p. absurd (equal_less p.1))
+    ⊎_elim (λ p. p) (λ p. let e : Equal ≡ Less = p.1 in cc)
     (by_less_inv a.part.epoch b.part.epoch Equal
     (sym (compared_under b.identifier a.part.epoch b.part.epoch a.part.bytes b.part.bytes) ∙ rw e at h))

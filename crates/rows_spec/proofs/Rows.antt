@@ -1,6 +1,6 @@
 -- Rows and the three tables that hold them: their places, their room, and when they are proper.
 -- Assumes nothing.
-use mathlib.Core.Path.{◌≡◌, refl, sym, ap, ◌∙◌}
+use mathlib.Core.Path.{◌≡◌, refl, sym, ap, ◌∙◌, subst}
 use mathlib.Core.List.{List, [], ◌∷◌, ◌++◌}
 use mathlib.Core.Bool.{true, false, ◌&&◌, and-false, and-eq-true_iff}
 use Prim.Native.Nat.{ℕ, zero, suc, ◌+◌, ◌-◌, ◌≤◌, ◌<◌}
@@ -15,8 +15,8 @@ use Rattle.records_spec.specs.Tables.{records_of}
 use Rattle.rows_spec.specs.Order.{is_less}
 use Rattle.rows_spec.specs.Rows.{Row, row, compared, leads, ascends, Tables, tables, rows_of, rows_in, row_at, room_in, proper_rows, Room}
 use Rattle.rows_spec.specs.Inner.Rows.{Proper}
-use Rattle.rows_spec.specs.declared.order.Order.{Order}
-use Rattle.rows_spec.specs.declared.order.Order.TheVariants.{Less, Equal, Greater}
+use Rattle.std.specs.declared.cmp.Ordering.{Ordering}
+use Rattle.std.specs.declared.cmp.Ordering.TheVariants.{Less, Equal, Greater}
 use Rattle.rows_spec.proofs.Comparing.{less_trans, left_same}
 
 -- ---- the place of a row
@@ -99,10 +99,10 @@ room_less m p r =
 
 -- ---- ascending rows
 
-pub is_less_lem : (o : Order) → is_less o ≡ true → o ≡ Less
+pub is_less_lem : (o : Ordering) → is_less o ≡ true → o ≡ Less
 is_less_lem Less h = refl
-is_less_lem Equal h = let z : ◌≡◌ {A = ℕ} 0 1 = cc in absurd (omega arith)
-is_less_lem Greater h = let z : ◌≡◌ {A = ℕ} 0 1 = cc in absurd (omega arith)
+is_less_lem Equal h = cc
+is_less_lem Greater h = cc
 
 -- a row stands before the first of some rows, if there is one
 abbrev pub Before : Row → List Row → Type 0
@@ -146,16 +146,6 @@ module _ {n : ℕ} {t : Tables} (r : Room n t) (i : ℕ) where
   unfolding ascends
   asc_at h = rw (rows_on r i (omega arith), rows_on r (i + 1) h)
 
-  -- a row and the next one, by how they stand
-  pub asc_less : i + 1 < n → compared (row_at t i) (row_at t (i + 1)) ≡ Less → ascends (drop i (rows_in n t)) ≡ ascends (drop (i + 1) (rows_in n t))
-  asc_less h e = asc_at h ∙ rw e
-
-  pub asc_equal : i + 1 < n → compared (row_at t i) (row_at t (i + 1)) ≡ Equal → ascends (drop i (rows_in n t)) ≡ false
-  asc_equal h e = asc_at h ∙ rw e
-
-  pub asc_greater : i + 1 < n → compared (row_at t i) (row_at t (i + 1)) ≡ Greater → ascends (drop i (rows_in n t)) ≡ false
-  asc_greater h e = asc_at h ∙ rw e
-
   -- the last row, or none
   pub asc_last : n ≤ i + 1 → ascends (drop i (rows_in n t)) ≡ true
   unfolding ascends
@@ -164,6 +154,15 @@ module _ {n : ℕ} {t : Tables} (r : Room n t) (i : ℕ) where
         | yes p ↦ rw (rows_on r i p, rows_end r (i + 1) h)
         | no p ↦ rw (rows_end r i (omega arith))
       ]
+
+-- the rows from the one before a place on, by whether that is less
+pub asc_next : {n : ℕ} {t : Tables} → Room n t → (i : ℕ) → 0 < i → i < n
+    → ascends (drop (i - 1) (rows_in n t)) ≡ (is_less (compared (row_at t (i - 1)) (row_at t i)) && ascends (drop i (rows_in n t)))
+asc_next {n} {t} r i h k =
+    let before = i - 1 in
+    let e : before + 1 ≡ i = omega arith in
+    subst (λ (j : ℕ). ascends (drop before (rows_in n t)) ≡ (is_less (compared (row_at t before) (row_at t j)) && ascends (drop j (rows_in n t)))) e
+    (asc_at r before (omega arith))
 
 -- ---- proper rows
 

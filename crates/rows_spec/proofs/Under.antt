@@ -12,7 +12,7 @@ use Rattle.rows_spec.specs.Rows.{Row, row, parts_of, rows_under, ascends}
 use Rattle.rows_spec.specs.Removals.{total_rows}
 use Rattle.rows_spec.proofs.Comparing.{by_less, compared_under}
 use Rattle.rows_spec.proofs.Rows.{Before, asc_none, asc_cons}
-use Rattle.rows_spec.specs.declared.order.Order.TheVariants.{Equal}
+use Rattle.std.specs.declared.cmp.Ordering.TheVariants.{Equal}
 
 module _ (i : List ℕ) where
   pub under_none : rows_under i [] ≡ []

@@ -3,7 +3,7 @@
 use Rattle.std.specs.Prelude.{ℕ, ◌≤◌, Bool, true, ◌&&◌, List, [], ◌∷◌, ◌++◌, leb, length, take, get_or, set}
 use Rattle.records_spec.specs.Tables.{At, ◌⦂◌, records_of, epochs_of, counts_of, over}
 use Rattle.rows_spec.specs.Order.{order, is_less}
-use Rattle.rows_spec.specs.declared.order.Order.{Order}
+use Rattle.std.specs.declared.cmp.Ordering.{Ordering}
 
 -- bytes removed from one epoch, and whose they were
 pub record Row : Type 0 where
@@ -19,7 +19,7 @@ abbrev pub key : Row → List ℕ
 key r = r.identifier ++ (r.part.epoch ∷ [])
 
 -- how two rows stand to each other
-abbrev pub compared : Row → Row → Order
+abbrev pub compared : Row → Row → Ordering
 compared a b = order (key a) (key b)
 
 -- a row stands before the first of some rows, if there is one

@@ -2,8 +2,6 @@
 // No function: types, definitions, examples and laws, which the contracts of `rows` cite. See specs/ and proofs/.
 #![tactic(auto)]
 
-mod order;
 mod removed;
 
-pub use order::Order;
 pub use removed::{Removed, StorageRemovedBytes};

@@ -6,8 +6,8 @@ use mathlib.Core.List.{List, [], ◌∷◌}
 use Prim.Native.Nat.{ℕ}
 use native.Mathlib.Omega.{arith}
 use Rattle.rows_spec.specs.Rows.{Row, row, compared, ascends}
-use Rattle.rows_spec.specs.declared.order.Order.{Order}
-use Rattle.rows_spec.specs.declared.order.Order.TheVariants.{Less, Equal, Greater}
+use Rattle.std.specs.declared.cmp.Ordering.{Ordering}
+use Rattle.std.specs.declared.cmp.Ordering.TheVariants.{Less, Equal, Greater}
 use Rattle.rows_spec.proofs.Comparing.{flipped, less_trans, right_same, left_same, row_same}
 use Rattle.rows_spec.proofs.Rows.{Before, before_same, asc_before, asc_tail, asc_cons}
 use Rattle.sums_spec.specs.Joins.{capped, plus, add_beside, add_row}
@@ -15,9 +15,9 @@ use Rattle.sums_spec.specs.Joins.{capped, plus, add_beside, add_row}
 -- ---- a row added
 
 -- by how it stands to the first
-pub add_at : (r b : Row) (l : List Row) (o : Order) → compared r b ≡ o → add_row r (b ∷ l) ≡ add_beside o r b l (add_row r l)
+pub add_at : (r b : Row) (l : List Row) (o : Ordering) → compared r b ≡ o → add_row r (b ∷ l) ≡ add_beside o r b l (add_row r l)
 unfolding add_row
-add_at r b l o h = ap (λ (p : Order). add_beside p r b l (add_row r l)) h
+add_at r b l o h = ap (λ (p : Ordering). add_beside p r b l (add_row r l)) h
 
 pub add_none : (r : Row) → add_row r [] ≡ r ∷ []
 unfolding add_row
@@ -32,7 +32,7 @@ add_before a (b ∷ l) h = add_at a b l Less h
 two : (a b : Row) (m : List Row) → add_row a m ≡ a ∷ m → add_row b m ≡ b ∷ m → add_row a (b ∷ m) ≡ add_row b (a ∷ m)
 two a b m ha hb = go (compared a b) refl
   where
-    go : (o : Order) → compared a b ≡ o → add_row a (b ∷ m) ≡ add_row b (a ∷ m)
+    go : (o : Ordering) → compared a b ≡ o → add_row a (b ∷ m) ≡ add_row b (a ∷ m)
     go Less e = add_at a b m Less e ∙ ap (λ (l : List Row). a ∷ l) (sym hb) ∙ sym (add_at b a m Greater (flipped a b Less e))
     go Equal e = add_at a b m Equal e ∙ ap (λ (r : Row). r ∷ m) (row_same a b _ _ e (omega arith)) ∙ sym (add_at b a m Equal (flipped a b Equal e))
     go Greater e = add_at a b m Greater e ∙ ap (λ (l : List Row). b ∷ l) ha ∙ sym (add_at b a m Less (flipped a b Greater e))
@@ -43,7 +43,7 @@ module _ (a b x : Row) (l : List Row) where
       ap (add_row a) (add_at b x l Less q) ∙ two a b (x ∷ l) (add_at a x l Less p) (add_at b x l Less q) ∙ ap (add_row b) (sym (add_at a x l Less p))
 
   -- a is before b, which is not before x
-  less_other : (o : Order) (m : List Row) → compared a b ≡ Less → compared a x ≡ Less → compared b x ≡ o → add_row b (x ∷ l) ≡ m → Before a m
+  less_other : (o : Ordering) (m : List Row) → compared a b ≡ Less → compared a x ≡ Less → compared b x ≡ o → add_row b (x ∷ l) ≡ m → Before a m
       → add_row a (add_row b (x ∷ l)) ≡ add_row b (add_row a (x ∷ l))
   less_other o m ab p q e h =
       ap (add_row a) e ∙ add_before a m h
@@ -77,7 +77,7 @@ pub add_comm : (a b : Row) (l : List Row) → add_row a (add_row b l) ≡ add_ro
 add_comm a b [] = ap (add_row a) (add_none b) ∙ two a b [] (add_none a) (add_none b) ∙ ap (add_row b) (sym (add_none a))
 add_comm a b (x ∷ l) = go (compared a x) (compared b x) refl refl (add_comm a b l)
   where
-    go : (p q : Order) → compared a x ≡ p → compared b x ≡ q → add_row a (add_row b l) ≡ add_row b (add_row a l)
+    go : (p q : Ordering) → compared a x ≡ p → compared b x ≡ q → add_row a (add_row b l) ≡ add_row b (add_row a l)
         → add_row a (add_row b (x ∷ l)) ≡ add_row b (add_row a (x ∷ l))
     go Less Less p q ih = less_less a b x l p q
     go Less Equal p q ih = less_equal a b x l p q
@@ -94,7 +94,7 @@ pub add_fused : (a x : Row) (m : List Row) → compared a x ≡ Equal → add_ro
 add_fused a x [] e = ap (add_row a) (add_none x) ∙ add_at a x [] Equal e ∙ sym (add_none (plus a x))
 add_fused a x (y ∷ m) e = go (compared x y) refl (add_fused a x m e)
   where
-    go : (p : Order) → compared x y ≡ p → add_row a (add_row x m) ≡ add_row (plus a x) m → add_row a (add_row x (y ∷ m)) ≡ add_row (plus a x) (y ∷ m)
+    go : (p : Ordering) → compared x y ≡ p → add_row a (add_row x m) ≡ add_row (plus a x) m → add_row a (add_row x (y ∷ m)) ≡ add_row (plus a x) (y ∷ m)
     go Less p ih =
         ap (add_row a) (add_at x y m Less p) ∙ add_at a x (y ∷ m) Equal e ∙ sym (add_at (plus a x) y m Less (left_same y a x e ∙ p))
     go Equal p ih =
@@ -115,7 +115,7 @@ pub add_cases : (P : List Row → Type 0) (r b : Row) (l : List Row)
 unfolding add_row
 add_cases P r b l less equal greater = go (compared r b) refl
   where
-    go : (o : Order) → compared r b ≡ o → P (add_beside o r b l (add_row r l))
+    go : (o : Ordering) → compared r b ≡ o → P (add_beside o r b l (add_row r l))
     go Less e = less e
     go Equal e = equal e
     go Greater e = greater e

@@ -14,8 +14,8 @@ use Rattle.records_spec.proofs.Owners.{same_self}
 use Rattle.rows_spec.specs.Rows.{Row, compared, ascends}
 use Rattle.rows_spec.specs.Removals.{Removal, nothing, basic, sectioned, rows_of_removal, total_rows, total}
 use Rattle.rows_spec.specs.Order.{is_equal}
-use Rattle.rows_spec.specs.declared.order.Order.{Order}
-use Rattle.rows_spec.specs.declared.order.Order.TheVariants.{Less, Equal, Greater}
+use Rattle.std.specs.declared.cmp.Ordering.{Ordering}
+use Rattle.std.specs.declared.cmp.Ordering.TheVariants.{Less, Equal, Greater}
 use Rattle.rows_spec.proofs.Comparing.{compared_same, right_same}
 use Rattle.rows_spec.proofs.Rows.{asc_tail}
 use Rattle.rows_spec.proofs.Removals.{total_cons, total_none}
@@ -27,9 +27,9 @@ use Rattle.sums_spec.proofs.Losing.{basic_later, basic_cases}
 
 -- ---- the bytes at a row's pair
 
-pub bytes_at_lem : (r b : Row) (l : List Row) (o : Order) → compared r b ≡ o → bytes_at r (b ∷ l) ≡ cond (is_equal o) b.part.bytes (bytes_at r l)
+pub bytes_at_lem : (r b : Row) (l : List Row) (o : Ordering) → compared r b ≡ o → bytes_at r (b ∷ l) ≡ cond (is_equal o) b.part.bytes (bytes_at r l)
 unfolding bytes_at
-bytes_at_lem r b l o e = ap (λ (p : Order). cond (is_equal p) b.part.bytes (bytes_at r l)) e
+bytes_at_lem r b l o e = ap (λ (p : Ordering). cond (is_equal p) b.part.bytes (bytes_at r l)) e
 
 -- a row behind x does not stand at its pair
 bytes_behind : (x a : Row) (l : List Row) → compared x a ≡ Less → bytes_at x (add_row a l) ≡ bytes_at x l
@@ -118,7 +118,7 @@ most_without n (b ∷ l) = go (compared (unknown n) b) refl (most_without n l)
     others true h = omega (arith, total_cons b l)
     others false h = omega (arith, total_cons b l, total_cons b (without_zeros l))
 
-    go : (o : Order) → compared (unknown n) b ≡ o → total_rows (without_zeros l) + bytes_at (unknown n) l ≤ total_rows l
+    go : (o : Ordering) → compared (unknown n) b ≡ o → total_rows (without_zeros l) + bytes_at (unknown n) l ≤ total_rows l
         → total_rows (without_zeros (b ∷ l)) + cond (is_equal o) b.part.bytes (bytes_at (unknown n) l) ≤ total_rows (b ∷ l)
     go Less o h = others (of_zeros b) h
     go Greater o h = others (of_zeros b) h

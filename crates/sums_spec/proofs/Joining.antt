@@ -7,7 +7,7 @@ use Prim.Native.Nat.{◌≤◌}
 use native.Mathlib.Omega.{arith}
 use lib.ListN.{length}
 use Rattle.rows_spec.specs.Rows.{Row, compared, ascends}
-use Rattle.rows_spec.specs.declared.order.Order.TheVariants.{Less, Equal, Greater}
+use Rattle.std.specs.declared.cmp.Ordering.TheVariants.{Less, Equal, Greater}
 use Rattle.rows_spec.proofs.Comparing.{flipped, less_trans, right_same}
 use Rattle.rows_spec.proofs.Rows.{asc_before, asc_tail}
 use Rattle.sums_spec.specs.Joins.{plus, add_row, joined}

@@ -7,7 +7,7 @@ use native.Mathlib.Omega.{arith}
 use lib.ListN.{length, get_or, length-append}
 use Rattle.rows_spec.specs.Rows.{Row, row, compared, ascends, Tables, rows_in, row_at, over_rows, set_row, Room}
 use Rattle.rows_spec.specs.Inner.Rows.{Proper}
-use Rattle.rows_spec.specs.declared.order.Order.TheVariants.{Less, Equal, Greater}
+use Rattle.std.specs.declared.cmp.Ordering.TheVariants.{Less, Equal, Greater}
 use Rattle.rows_spec.proofs.Comparing.{flipped}
 use Rattle.rows_spec.proofs.Rows.{length_rows, rows_last, room_less, proper_first}
 use Rattle.rows_spec.proofs.Backing.{Backing, backing_start, backing_fits, backing_first, backing_room, backing_step, backing_stays}

@@ -3,7 +3,7 @@
 use mathlib.Core.Path.{◌≡◌, refl, sym, ap, ◌∙◌}
 use mathlib.Core.Bool.{Bool, true, false, cond}
 use mathlib.Core.List.{List, [], ◌∷◌}
-use Prim.Native.Nat.{ℕ, ◌+◌, ◌-◌, ◌≤◌, ◌<◌}
+use Prim.Native.Nat.{ℕ, ◌+◌, ◌≤◌, ◌<◌}
 use native.Mathlib.Omega.{arith}
 use lib.Dec.{leb, ltb}
 use lib.ListN.{length, drop, get_or}
@@ -13,8 +13,8 @@ use Rattle.records_spec.proofs.Owners.{same_self, same_equal}
 use Rattle.rows_spec.specs.Order.{order}
 use Rattle.rows_spec.specs.Rows.{Row, compared, ascends, Tables, rows_in, row_at}
 use Rattle.rows_spec.specs.Inner.Rows.{Proper}
-use Rattle.rows_spec.specs.declared.order.Order.TheVariants.{Less, Equal, Greater}
-use Rattle.rows_spec.proofs.Comparing.{order_same, order_self, compared_parts, greater_less, greater_equal}
+use Rattle.std.specs.declared.cmp.Ordering.TheVariants.{Less, Equal, Greater}
+use Rattle.rows_spec.proofs.Comparing.{order_same, order_self, compared_parts}
 use Rattle.rows_spec.proofs.Rows.{rows_on, rows_end, asc_drop}
 use Rattle.sums_spec.specs.Joins.{add_row}
 use Rattle.sums_spec.specs.Sums.{unknown, of_zeros, any_of_zeros, without_zeros, basic_plus}
@@ -30,7 +30,7 @@ pub zero_other : (i : List ℕ) → order i zeros ≡ Greater → same i zeros �
 zero_other i h = go (same i zeros) refl
   where
     go : (b : Bool) → same i zeros ≡ b → b ≡ false
-    go true e = absurd (greater_equal (sym h ∙ ap (λ (x : List ℕ). order x zeros) (same_equal i zeros e) ∙ order_self zeros))
+    go true e = let f : Greater ≡ Equal = sym h ∙ ap (λ (x : List ℕ). order x zeros) (same_equal i zeros e) ∙ order_self zeros in cc
     go false e = refl
 
 -- behind a row above the zeros none has the zero identifier
@@ -43,7 +43,7 @@ later_other a b l h k = go (same b.identifier zeros) refl
         let z : b.identifier ≡ zeros = same_equal b.identifier zeros e in
         let g : compared a b ≡ Greater = compared_parts Greater a.identifier b.identifier a.part.epoch b.part.epoch a.part.bytes
         b.part.bytes (l ∙ sym (ap (length {A = ℕ}) z)) (ap (order a.identifier) z ∙ h) in
-        absurd (greater_less (sym g ∙ k))
+        cc
 
 -- ---- all rows
 

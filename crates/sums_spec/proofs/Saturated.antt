@@ -10,12 +10,12 @@ use borrow.Author.Tests.{leb-true, leb-false}
 use Rattle.fields_spec.specs.Varint.{largest}
 use Rattle.rows_spec.specs.Rows.{Row, ascends}
 use Rattle.rows_spec.specs.Removals.{nothing, basic, sectioned, total_rows}
-use Rattle.rows_spec.specs.declared.order.Order.TheVariants.{Less, Equal, Greater}
+use Rattle.std.specs.declared.cmp.Ordering.TheVariants.{Less, Equal, Greater}
 use Rattle.rows_spec.proofs.Rows.{asc_tail, asc_cons}
 use Rattle.rows_spec.proofs.Removals.{total_cons}
 use Rattle.sums_spec.specs.Joins.{plus, add_row, joined}
 use Rattle.sums_spec.specs.Sums.{unknown, bytes_at, sum_fits}
-use Rattle.sums_spec.specs.AnyOrder.{small_rows, small, SaturatedTotal}
+use Rattle.sums_spec.specs.AnyOrder.{small_rows, SaturatedTotal}
 use Rattle.sums_spec.proofs.Adding.{add_cases}
 use Rattle.sums_spec.proofs.Joining.{AllAfter, all_after, joined_ascends}
 use Rattle.sums_spec.proofs.Losing.{basic_cases}

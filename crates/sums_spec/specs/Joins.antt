@@ -3,8 +3,8 @@
 use Rattle.std.specs.Prelude.{ℕ, ◌+◌, min, List, [], ◌∷◌}
 use Rattle.fields_spec.specs.Varint.{largest}
 use Rattle.rows_spec.specs.Rows.{Row, row, compared}
-use Rattle.rows_spec.specs.declared.order.Order.{Order}
-use Rattle.rows_spec.specs.declared.order.Order.TheVariants.{Less, Equal, Greater}
+use Rattle.std.specs.declared.cmp.Ordering.{Ordering}
+use Rattle.std.specs.declared.cmp.Ordering.TheVariants.{Less, Equal, Greater}
 
 -- two numbers of bytes together, at most 4,294,967,295
 abbrev pub capped : ℕ → ℕ → ℕ
@@ -15,7 +15,7 @@ abbrev pub plus : Row → Row → Row
 plus a b = row a.identifier a.part.epoch (capped a.part.bytes b.part.bytes)
 
 -- a row that stands so to the first of some rows: before it, into it, or behind it, among what the others are with the row
-abbrev pub add_beside : Order → Row → Row → List Row → List Row → List Row
+abbrev pub add_beside : Ordering → Row → Row → List Row → List Row → List Row
 add_beside Less r first others more = r ∷ first ∷ others
 add_beside Equal r first others more = plus r first ∷ others
 add_beside Greater r first others more = first ∷ more

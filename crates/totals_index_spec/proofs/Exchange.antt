@@ -8,8 +8,8 @@ use Prim.Native.Nat.{ℕ, ◌+◌}
 use native.Mathlib.Omega.{arith}
 use Rattle.rows_spec.specs.Rows.{Row, compared, ascends}
 use Rattle.rows_spec.specs.Order.{is_equal}
-use Rattle.rows_spec.specs.declared.order.Order.{Order}
-use Rattle.rows_spec.specs.declared.order.Order.TheVariants.{Less, Equal, Greater}
+use Rattle.std.specs.declared.cmp.Ordering.{Ordering}
+use Rattle.std.specs.declared.cmp.Ordering.TheVariants.{Less, Equal, Greater}
 use Rattle.rows_spec.proofs.Comparing.{flipped}
 use Rattle.rows_spec.proofs.Rows.{asc_tail}
 use Rattle.totals_spec.specs.Table.{total_at}
@@ -49,7 +49,7 @@ module _ (p : Test) (f : Fair p) where
   by_more b t [] s a = rw (total_none b, f.no_count b b.part.bytes) (omega arith)
   by_more b t (r ∷ rs) s a = go (compared r b) refl (by_more b t rs s (asc_tail r rs a))
     where
-      on : (o : Order) → compared r b ≡ o → is_equal o ≡ false → (q : Order) → compared b r ≡ q → is_equal q ≡ false
+      on : (o : Ordering) → compared r b ≡ o → is_equal o ≡ false → (q : Ordering) → compared b r ≡ q → is_equal q ≡ false
           → count_by p rs (b ∷ t) ≡ one (p b (total_at b rs) b.part.bytes) + count_by p rs t
           → one (p r r.part.bytes (total_at r (b ∷ t))) + count_by p rs (b ∷ t)
           ≡ one (p b (total_at b (r ∷ rs)) b.part.bytes) + (one (p r r.part.bytes (total_at r t)) + count_by p rs t)
@@ -58,7 +58,7 @@ module _ (p : Test) (f : Fair p) where
           let y : total_at b (r ∷ rs) ≡ total_at b rs = total_at_lem b r rs q g ∙ rw m in
           rw (x, y) (omega (arith, ih))
 
-      go : (o : Order) → compared r b ≡ o → count_by p rs (b ∷ t) ≡ one (p b (total_at b rs) b.part.bytes) + count_by p rs t
+      go : (o : Ordering) → compared r b ≡ o → count_by p rs (b ∷ t) ≡ one (p b (total_at b rs) b.part.bytes) + count_by p rs t
           → one (p r r.part.bytes (total_at r (b ∷ t))) + count_by p rs (b ∷ t)
           ≡ one (p b (total_at b (r ∷ rs)) b.part.bytes) + (one (p r r.part.bytes (total_at r t)) + count_by p rs t)
       go Less e ih = on Less e refl Greater (flipped r b Less e) refl ih

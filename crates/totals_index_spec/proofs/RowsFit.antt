@@ -12,8 +12,8 @@ use borrow.Author.Tests.{leb-true, le-leb}
 use Rattle.records_spec.specs.Tables.{records_of}
 use Rattle.rows_spec.specs.Rows.{Row, compared, ascends, rows_of, rows_in, rows_under}
 use Rattle.rows_spec.specs.Order.{is_equal}
-use Rattle.rows_spec.specs.declared.order.Order.{Order}
-use Rattle.rows_spec.specs.declared.order.Order.TheVariants.{Less, Equal, Greater}
+use Rattle.std.specs.declared.cmp.Ordering.{Ordering}
+use Rattle.std.specs.declared.cmp.Ordering.TheVariants.{Less, Equal, Greater}
 use Rattle.rows_spec.proofs.Comparing.{self_same}
 use Rattle.rows_spec.proofs.Rows.{asc_tail}
 use Rattle.totals_spec.specs.Table.{total_at}
@@ -36,7 +36,7 @@ rows_fit_lem os ns (b ∷ t) = leb (b.part.bytes - total_at b os + total_at b ns
 total_tail : (k b : Row) (t : List Row) → ascends (b ∷ t) ≡ true → total_at k t ≤ total_at k (b ∷ t)
 total_tail k b t s = go (compared k b) refl
   where
-    go : (o : Order) → compared k b ≡ o → total_at k t ≤ total_at k (b ∷ t)
+    go : (o : Ordering) → compared k b ≡ o → total_at k t ≤ total_at k (b ∷ t)
     go Less e = omega (arith, total_at_lem k b t Less e)
     go Equal e = omega (arith, total_behind k b t e s)
     go Greater e = omega (arith, total_at_lem k b t Greater e)
@@ -61,7 +61,7 @@ module _ (os ns : List Row) where
       let p = (and-eq-true_iff (leb (b.part.bytes - total_at b os + total_at b ns) largest_total) (rows_fit_lem os ns t)).0 h in
       go (leb-true _ _ p.0) (compared k b) refl (fit_at t p.1 m k)
     where
-      go : b.part.bytes - total_at b os + total_at b ns ≤ largest_total → (o : Order) → compared k b ≡ o
+      go : b.part.bytes - total_at b os + total_at b ns ≤ largest_total → (o : Ordering) → compared k b ≡ o
           → total_at k t - total_at k os + total_at k ns ≤ largest_total
           → total_at k (b ∷ t) - total_at k os + total_at k ns ≤ largest_total
       go f Less e ih = omega (arith, total_at_lem k b t Less e)

@@ -3,7 +3,7 @@
 use mathlib.Core.Path.{◌≡◌, refl, sym, ap, ◌∙◌}
 use mathlib.Core.Bool.{Bool, true, false, cond}
 use mathlib.Core.List.{List, [], ◌∷◌, ◌++◌, append_assoc}
-use Prim.Native.Nat.{ℕ, zero, suc, ◌+◌, ◌-◌, ◌≤◌, ◌<◌}
+use Prim.Native.Nat.{ℕ, zero, suc, ◌+◌, ◌≤◌, ◌<◌}
 use native.Mathlib.Omega.{arith}
 use lib.Dec.{ltb}
 use lib.ListN.{length, take, drop}
@@ -11,8 +11,8 @@ use lib.Seq.{length-take-le, drop_at}
 use borrow.Author.Tests.{lt-ltb}
 use Rattle.rows_spec.specs.Rows.{Row, compared, ascends}
 use Rattle.rows_spec.specs.Order.{is_equal}
-use Rattle.rows_spec.specs.declared.order.Order.{Order}
-use Rattle.rows_spec.specs.declared.order.Order.TheVariants.{Less, Equal, Greater}
+use Rattle.std.specs.declared.cmp.Ordering.{Ordering}
+use Rattle.std.specs.declared.cmp.Ordering.TheVariants.{Less, Equal, Greater}
 use Rattle.rows_spec.proofs.Comparing.{less_trans, flipped, self_same}
 use Rattle.rows_spec.proofs.Rows.{asc_before, asc_tail, asc_drop}
 use Rattle.totals_spec.specs.Table.{all_positive, total_at, row_if, put_beside, put_total, with_total, add_count, add_counts}
@@ -34,7 +34,7 @@ unfolding place_in total_at
 behind_within k [] = omega arith
 behind_within k (b ∷ l) = go (compared b k) refl (behind_within k l)
   where
-    go : (o : Order) → compared b k ≡ o → behind_in k l ≤ length l → behind_in k (b ∷ l) ≤ suc (length l)
+    go : (o : Ordering) → compared b k ≡ o → behind_in k l ≤ length l → behind_in k (b ∷ l) ≤ suc (length l)
     go Less e ih = rw (e, flipped b k Less e) (omega arith)
     go Equal e ih = rw e (omega (arith, one_most (ltb 0 (total_at k (b ∷ l)))))
     go Greater e ih = rw e (omega (arith, one_most (ltb 0 (total_at k (b ∷ l)))))
@@ -49,7 +49,7 @@ put_split k n p [] s a = put_none (with_total k n) ∙ rw (lt-ltb 0 n p, total_n
 put_split k n p (b ∷ l) s a = put_at (with_total k n) b l (compared k b) refl
     ∙ go (compared k b) refl (put_split k n p l (asc_tail b l s) (above_tail b l a))
   where
-    go : (o : Order) → compared k b ≡ o → put_total (with_total k n) l ≡ take (place_in k l) l ++ (with_total k n ∷ drop (behind_in k l) l)
+    go : (o : Ordering) → compared k b ≡ o → put_total (with_total k n) l ≡ take (place_in k l) l ++ (with_total k n ∷ drop (behind_in k l) l)
         → put_beside o (with_total k n) b l (put_total (with_total k n) l)
         ≡ take (place_in k (b ∷ l)) (b ∷ l) ++ (with_total k n ∷ drop (behind_in k (b ∷ l)) (b ∷ l))
     go Less e ih = rw (lt-ltb 0 n p, flipped k b Less e, total_before k (b ∷ l) e s)
@@ -92,7 +92,7 @@ module _ (s : Row) (m : List Row) where
       put_at r b (l ++ (s ∷ m)) (compared r b) refl ∙ go (compared r b) (put_front r e l)
       ∙ ap (λ (u : List Row). u ++ (s ∷ m)) (sym (put_at r b l (compared r b) refl))
     where
-      go : (o : Order) → put_total r (l ++ (s ∷ m)) ≡ put_total r l ++ (s ∷ m)
+      go : (o : Ordering) → put_total r (l ++ (s ∷ m)) ≡ put_total r l ++ (s ∷ m)
           → put_beside o r b (l ++ (s ∷ m)) (put_total r (l ++ (s ∷ m))) ≡ put_beside o r b l (put_total r l) ++ (s ∷ m)
       go Less ih = if_front r (b ∷ l) (s ∷ m)
       go Equal ih = if_front r l (s ∷ m)

@@ -13,8 +13,8 @@ use Rattle.fields_spec.specs.Big.{said, said_after}
 use Rattle.records_spec.specs.Flags.{owner_length}
 use Rattle.rows_spec.specs.Order.{by, order, is_less}
 use Rattle.rows_spec.specs.Rows.{row, compared}
-use Rattle.rows_spec.specs.declared.order.Order.{Order}
-use Rattle.rows_spec.specs.declared.order.Order.TheVariants.{Equal}
+use Rattle.std.specs.declared.cmp.Ordering.{Ordering}
+use Rattle.std.specs.declared.cmp.Ordering.TheVariants.{Equal}
 use Rattle.rows_spec.proofs.Comparing.{by_less, by_greater, by_next, order_one}
 
 -- by the first numbers, and where these are equal by what comes next
@@ -64,7 +64,7 @@ or_told x y n = go (ltb x y) refl (ltb y x) refl
 pub or_same : (x y : ℕ) (n r : Bool) (u v : ℕ) (m : Bool) → r ≡ less_or x y n → x ≡ u → y ≡ v → n ≡ m → r ≡ less_or u v m
 or_same x y n r u v m e f g h = e ∙ ap (λ (z : ℕ). less_or z y n) f ∙ ap (λ (z : ℕ). less_or u z n) g ∙ ap (less_or u v) h
 
-less_by : (x y : ℕ) (n : Order) → is_less (by x y n) ≡ less_or x y (is_less n)
+less_by : (x y : ℕ) (n : Ordering) → is_less (by x y n) ≡ less_or x y (is_less n)
 less_by x y n = go (ltb x y) refl (ltb y x) refl
   where
     go : (p : Bool) → ltb x y ≡ p → (q : Bool) → ltb y x ≡ q → is_less (by x y n) ≡ less_or x y (is_less n)
@@ -83,7 +83,7 @@ less_last x y = go (ltb x y) refl (ltb y x) refl
 -- ---- bytes stand as the numbers that they say
 
 -- a byte more on both sides
-by_byte : (n m x y : ℕ) (o : Order) → x < 256 → y < 256 → by n m (by x y o) ≡ by (n * 256 + x) (m * 256 + y) o
+by_byte : (n m x y : ℕ) (o : Ordering) → x < 256 → y < 256 → by n m (by x y o) ≡ by (n * 256 + x) (m * 256 + y) o
 by_byte n m x y o h k = go (ltb n m) refl (ltb m n) refl (ltb x y) refl (ltb y x) refl
   where
     go : (p : Bool) → ltb n m ≡ p → (q : Bool) → ltb m n ≡ q → (r : Bool) → ltb x y ≡ r → (s : Bool) → ltb y x ≡ s

@@ -12,8 +12,8 @@ use Rattle.records_spec.specs.Tables.{epochs_of, rising}
 use Rattle.records_spec.specs.Flags.{Flags, id_of}
 use Rattle.rows_spec.specs.Rows.{Row, compared, ascends}
 use Rattle.rows_spec.specs.Order.{is_equal}
-use Rattle.rows_spec.specs.declared.order.Order.{Order}
-use Rattle.rows_spec.specs.declared.order.Order.TheVariants.{Less, Equal, Greater}
+use Rattle.std.specs.declared.cmp.Ordering.{Ordering}
+use Rattle.std.specs.declared.cmp.Ordering.TheVariants.{Less, Equal, Greater}
 use Rattle.rows_spec.proofs.Comparing.{self_same}
 use Rattle.rows_spec.proofs.Rows.{asc_none, asc_tail}
 use Rattle.rows_spec.proofs.Under.{asc_under}
@@ -30,9 +30,9 @@ unfolding count_at
 count_none k = refl
 
 -- by how it stands to the first
-pub count_cons : (k r : Row) (rs : List Row) (o : Order) → compared k r ≡ o → count_at k (r ∷ rs) ≡ cond (is_equal o) r.part.bytes 0 + count_at k rs
+pub count_cons : (k r : Row) (rs : List Row) (o : Ordering) → compared k r ≡ o → count_at k (r ∷ rs) ≡ cond (is_equal o) r.part.bytes 0 + count_at k rs
 unfolding count_at
-count_cons k r rs o h = ap (λ (p : Order). cond (is_equal p) r.part.bytes 0 + count_at k rs) h
+count_cons k r rs o h = ap (λ (p : Ordering). cond (is_equal p) r.part.bytes 0 + count_at k rs) h
 
 -- of ascending rows, no pair of which stands twice, it is the total
 pub count_total : (k : Row) (rs : List Row) → ascends rs ≡ true → count_at k rs ≡ total_at k rs
@@ -40,7 +40,7 @@ count_total k [] s = count_none k ∙ sym (total_none k)
 count_total k (r ∷ rs) s = count_cons k r rs (compared k r) refl ∙ go (compared k r) refl (count_total k rs (asc_tail r rs s))
     ∙ sym (total_at_lem k r rs (compared k r) refl)
   where
-    go : (o : Order) → compared k r ≡ o → count_at k rs ≡ total_at k rs
+    go : (o : Ordering) → compared k r ≡ o → count_at k rs ≡ total_at k rs
         → cond (is_equal o) r.part.bytes 0 + count_at k rs ≡ cond (is_equal o) r.part.bytes (total_at k rs)
     go Less e ih = omega arith
     go Equal e ih = omega (arith, total_behind k r rs e s)
@@ -89,7 +89,7 @@ module _ (k r : Row) (u : List Row) (s : ascends u ≡ true) where
       → total_at k (put_total (with_total r (f (total_at r u) r.part.bytes)) u) ≡ f (total_at k u) (cond (is_equal (compared k r)) r.part.bytes 0)
   put_by f z = total_put k (with_total r (f (total_at r u) r.part.bytes)) u s ∙ go (compared k r) refl
     where
-      go : (o : Order) → compared k r ≡ o → cond (is_equal o) (f (total_at r u) r.part.bytes) (total_at k u)
+      go : (o : Ordering) → compared k r ≡ o → cond (is_equal o) (f (total_at r u) r.part.bytes) (total_at k u)
           ≡ f (total_at k u) (cond (is_equal o) r.part.bytes 0)
       go Less e = sym (z (total_at k u))
       go Equal e = ap (λ (n : ℕ). f n r.part.bytes) (sym (total_same k r u e))
@@ -126,7 +126,7 @@ module _ (t : List Row) where
   covered_at [] s h k = omega (arith, count_none k)
   covered_at (o ∷ os) s h k = go (compared k o) refl (covered_at os (asc_tail o os s) (covered_tail o os h) k)
     where
-      go : (p : Order) → compared k o ≡ p → count_at k os ≤ total_at k t → count_at k (o ∷ os) ≤ total_at k t
+      go : (p : Ordering) → compared k o ≡ p → count_at k os ≤ total_at k t → count_at k (o ∷ os) ≤ total_at k t
       go Less e ih = omega (arith, count_cons k o os Less e)
       go Equal e ih =
           omega (

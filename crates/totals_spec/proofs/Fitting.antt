@@ -9,8 +9,8 @@ use lib.Dec.{leb}
 use borrow.Author.Tests.{leb-true, le-leb}
 use Rattle.rows_spec.specs.Rows.{Row, compared, ascends}
 use Rattle.records_spec.specs.Outcomes.{ok}
-use Rattle.rows_spec.specs.declared.order.Order.{Order}
-use Rattle.rows_spec.specs.declared.order.Order.TheVariants.{Less, Equal, Greater}
+use Rattle.std.specs.declared.cmp.Ordering.{Ordering}
+use Rattle.std.specs.declared.cmp.Ordering.TheVariants.{Less, Equal, Greater}
 use Rattle.rows_spec.proofs.Comparing.{self_same}
 use Rattle.rows_spec.proofs.Rows.{asc_tail}
 use Rattle.totals_spec.specs.Table.{total_at}
@@ -37,7 +37,7 @@ module _ (os t : List Row) (s : ascends os ≡ true) where
   fits_at [] r h k m = omega (arith, count_none k)
   fits_at (n ∷ ns) r h k m = go (compared k n) refl (fits_at ns (asc_tail n ns r) (fits_tail os t n ns h) k m)
     where
-      go : (p : Order) → compared k n ≡ p → total_at k t - count_at k os + count_at k ns ≤ largest_total
+      go : (p : Ordering) → compared k n ≡ p → total_at k t - count_at k os + count_at k ns ≤ largest_total
           → total_at k t - count_at k os + count_at k (n ∷ ns) ≤ largest_total
       go Less e ih = let c = count_cons k n ns Less e in omega arith
       go Equal e ih =

@@ -10,7 +10,7 @@ use lib.Dec.{ltb, eqb}
 use lib.ListN.{length}
 use borrow.Author.Tests.{lt-ltb, le-ltb, eq-eqb, ne_eqb}
 use Rattle.rows_spec.specs.Rows.{Row, ascends}
-use Rattle.rows_spec.specs.declared.order.Order.TheVariants.{Equal, Greater}
+use Rattle.std.specs.declared.cmp.Ordering.TheVariants.{Equal, Greater}
 use Rattle.rows_spec.proofs.Comparing.{self_same}
 use Rattle.rows_spec.proofs.Rows.{asc_tail}
 use Rattle.totals_spec.specs.Table.{all_positive, total_at, row_if, put_total, with_total, add_counts, take_counts}

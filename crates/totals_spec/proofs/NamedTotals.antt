@@ -9,8 +9,8 @@ use lib.Dec.{ltb}
 use borrow.Author.Tests.{lt-ltb}
 use Rattle.rows_spec.specs.Rows.{Row, compared, ascends}
 use Rattle.rows_spec.specs.Order.{is_equal}
-use Rattle.rows_spec.specs.declared.order.Order.{Order}
-use Rattle.rows_spec.specs.declared.order.Order.TheVariants.{Less, Equal, Greater}
+use Rattle.std.specs.declared.cmp.Ordering.{Ordering}
+use Rattle.std.specs.declared.cmp.Ordering.TheVariants.{Less, Equal, Greater}
 use Rattle.rows_spec.proofs.Comparing.{left_same}
 use Rattle.rows_spec.proofs.Rows.{Before, before_trans, asc_before, asc_tail, asc_cons}
 use Rattle.totals_spec.specs.Table.{all_positive, total_at}
@@ -22,9 +22,9 @@ use Rattle.totals_spec.proofs.Counts.{count_none, count_cons}
 -- ---- whether a row is named
 
 -- by how it stands to the first
-names_at : (k r : Row) (rs : List Row) (o : Order) → compared k r ≡ o → names k (r ∷ rs) ≡ cond (is_equal o) true (names k rs)
+names_at : (k r : Row) (rs : List Row) (o : Ordering) → compared k r ≡ o → names k (r ∷ rs) ≡ cond (is_equal o) true (names k rs)
 unfolding names
-names_at k r rs o h = ap (λ (p : Order). cond (is_equal p) true (names k rs)) h
+names_at k r rs o h = ap (λ (p : Ordering). cond (is_equal p) true (names k rs)) h
 
 -- of a table without zeros: where its total is above 0
 pub names_total : (k : Row) (t : List Row) → all_positive t ≡ true → names k t ≡ ltb 0 (total_at k t)
@@ -32,7 +32,7 @@ unfolding names
 names_total k [] a = sym (ap (ltb 0) (total_none k))
 names_total k (b ∷ t) a = go (compared k b) refl (names_total k t (above_tail b t a)) ∙ sym (ap (ltb 0) (total_at_lem k b t (compared k b) refl))
   where
-    go : (o : Order) → compared k b ≡ o → names k t ≡ ltb 0 (total_at k t)
+    go : (o : Ordering) → compared k b ≡ o → names k t ≡ ltb 0 (total_at k t)
         → cond (is_equal o) true (names k t) ≡ ltb 0 (cond (is_equal o) b.part.bytes (total_at k t))
     go Less e ih = ih
     go Equal e ih = sym (lt-ltb 0 b.part.bytes (above_first b t a))
@@ -49,7 +49,7 @@ unfolding names
 names_append k [] ys = refl
 names_append k (x ∷ xs) ys = go (compared k x) (names_append k xs ys)
   where
-    go : (o : Order) → names k (xs ++ ys) ≡ cond (names k xs) true (names k ys)
+    go : (o : Ordering) → names k (xs ++ ys) ≡ cond (names k xs) true (names k ys)
         → cond (is_equal o) true (names k (xs ++ ys)) ≡ cond (cond (is_equal o) true (names k xs)) true (names k ys)
     go Less ih = ih
     go Equal ih = refl
@@ -60,7 +60,7 @@ pub not_counted : (k : Row) (rs : List Row) → names k rs ≡ false → count_a
 not_counted k [] h = count_none k
 not_counted k (r ∷ rs) h = go (compared k r) refl (not_counted k rs) (sym (names_at k r rs (compared k r) refl) ∙ h)
   where
-    go : (o : Order) → compared k r ≡ o → (names k rs ≡ false → count_at k rs ≡ 0) → cond (is_equal o) true (names k rs) ≡ false
+    go : (o : Ordering) → compared k r ≡ o → (names k rs ≡ false → count_at k rs ≡ 0) → cond (is_equal o) true (names k rs) ≡ false
         → count_at k (r ∷ rs) ≡ 0
     go Less e ih f = omega (arith, count_cons k r rs Less e, ih f)
     go Equal e ih f = let z : ◌≡◌ {A = ℕ} 0 1 = cc in absurd (omega arith)
@@ -115,13 +115,13 @@ module _ (rs : List Row) where
       (λ e. gone (compared k b) refl e ih)
       (λ e. there (compared k b) refl e ih)
     where
-      gone : (o : Order) → compared k b ≡ o → names b rs ≡ true → total_at k (not_named rs t) ≡ cond (names k rs) 0 (total_at k t)
+      gone : (o : Ordering) → compared k b ≡ o → names b rs ≡ true → total_at k (not_named rs t) ≡ cond (names k rs) 0 (total_at k t)
           → total_at k (not_named rs t) ≡ cond (names k rs) 0 (total_at k (b ∷ t))
       gone Less f e ih = ih ∙ ap (cond (names k rs) 0) (sym (total_at_lem k b t Less f))
       gone Equal f e ih = let n = names_same k b rs f ∙ e in ih ∙ rw n
       gone Greater f e ih = ih ∙ ap (cond (names k rs) 0) (sym (total_at_lem k b t Greater f))
 
-      there : (o : Order) → compared k b ≡ o → names b rs ≡ false → total_at k (not_named rs t) ≡ cond (names k rs) 0 (total_at k t)
+      there : (o : Ordering) → compared k b ≡ o → names b rs ≡ false → total_at k (not_named rs t) ≡ cond (names k rs) 0 (total_at k t)
           → total_at k (b ∷ not_named rs t) ≡ cond (names k rs) 0 (total_at k (b ∷ t))
       there Less f e ih = total_at_lem k b (not_named rs t) Less f ∙ ih ∙ ap (cond (names k rs) 0) (sym (total_at_lem k b t Less f))
       there Equal f e ih = let n = names_same k b rs f ∙ e in total_at_lem k b (not_named rs t) Equal f ∙ rw n (sym (total_at_lem k b t Equal f))

@@ -9,8 +9,8 @@ use lib.ListN.{length, drop, get_or, length-drop, drop_of_length-le}
 use lib.Seq.{drop-drop}
 use Rattle.rows_spec.specs.Order.{is_less}
 use Rattle.rows_spec.specs.Rows.{Row, compared, ascends, Tables, rows_in, row_at}
-use Rattle.rows_spec.specs.declared.order.Order.{Order}
-use Rattle.rows_spec.specs.declared.order.Order.TheVariants.{Less, Equal, Greater}
+use Rattle.std.specs.declared.cmp.Ordering.{Ordering}
+use Rattle.std.specs.declared.cmp.Ordering.TheVariants.{Less, Equal, Greater}
 use Rattle.rows_spec.proofs.Comparing.{less_trans, flipped}
 use Rattle.rows_spec.proofs.Rows.{is_less_lem, asc_before, asc_tail, asc_drop, length_rows, rows_on}
 use Rattle.totals_spec.specs.Table.{total_at}
@@ -24,16 +24,16 @@ none_there zero e = let l = ap (length {A = Row}) e in absurd (omega arith)
 none_there (suc j) e = let l = ap (length {A = Row}) e in absurd (omega arith)
 
 module _ (r : Row) where
-  pub place_at : (b : Row) (l : List Row) (o : Order) → compared b r ≡ o → place_in r (b ∷ l) ≡ cond (is_less o) (suc (place_in r l)) 0
+  pub place_at : (b : Row) (l : List Row) (o : Ordering) → compared b r ≡ o → place_in r (b ∷ l) ≡ cond (is_less o) (suc (place_in r l)) 0
   unfolding place_in
-  place_at b l o e = ap (λ (p : Order). cond (is_less p) (suc (place_in r l)) 0) e
+  place_at b l o e = ap (λ (p : Ordering). cond (is_less p) (suc (place_in r l)) 0) e
 
   pub place_within : (l : List Row) → place_in r l ≤ length l
   unfolding place_in
   place_within [] = zero-le
   place_within (b ∷ l) = go (compared b r) refl (place_within l)
     where
-      go : (o : Order) → compared b r ≡ o → place_in r l ≤ length l → place_in r (b ∷ l) ≤ suc (length l)
+      go : (o : Ordering) → compared b r ≡ o → place_in r l ≤ length l → place_in r (b ∷ l) ≤ suc (length l)
       go Less e ih = rw (place_at b l Less e) (suc-le-suc ih)
       go Equal e ih = rw (place_at b l Equal e) zero-le
       go Greater e ih = rw (place_at b l Greater e) zero-le
@@ -45,7 +45,7 @@ module _ (r : Row) where
   place_upto b m (x ∷ l) zero e h = let s : x ≡ b = cc in rw (s, h) zero-le
   place_upto b m (x ∷ l) (suc j) e h = go (compared x r) refl (place_upto b m l j e h)
     where
-      go : (o : Order) → compared x r ≡ o → place_in r l ≤ j → place_in r (x ∷ l) ≤ suc j
+      go : (o : Ordering) → compared x r ≡ o → place_in r l ≤ j → place_in r (x ∷ l) ≤ suc j
       go Less q ih = rw (place_at x l Less q) (suc-le-suc ih)
       go Equal q ih = rw (place_at x l Equal q) zero-le
       go Greater q ih = rw (place_at x l Greater q) zero-le
@@ -69,7 +69,7 @@ module _ (r : Row) where
   total_found [] = refl
   total_found (b ∷ l) = go (compared b r) refl (total_found l)
     where
-      go : (o : Order) → compared b r ≡ o → total_at r l ≡ total_at r (drop (place_in r l) l)
+      go : (o : Ordering) → compared b r ≡ o → total_at r l ≡ total_at r (drop (place_in r l) l)
           → total_at r (b ∷ l) ≡ total_at r (drop (place_in r (b ∷ l)) (b ∷ l))
       go Less e ih = rw (flipped b r Less e, e) ih
       go Equal e ih = rw e

@@ -9,8 +9,8 @@ use native.Mathlib.Omega.{arith}
 use lib.ListN.{length, take, drop}
 use Rattle.rows_spec.specs.Order.{is_less}
 use Rattle.rows_spec.specs.Rows.{Row, compared, ascends}
-use Rattle.rows_spec.specs.declared.order.Order.{Order}
-use Rattle.rows_spec.specs.declared.order.Order.TheVariants.{Less, Equal, Greater}
+use Rattle.std.specs.declared.cmp.Ordering.{Ordering}
+use Rattle.std.specs.declared.cmp.Ordering.TheVariants.{Less, Equal, Greater}
 use Rattle.rows_spec.proofs.Comparing.{self_same, flipped}
 use Rattle.rows_spec.proofs.Rows.{Before, before_trans, before_same, asc_before, asc_tail}
 use Rattle.totals_spec.specs.Table.{all_positive, total_at, row_if, put_total, with_total, take_counts}
@@ -80,7 +80,7 @@ module _ (k : Row) (c : ℕ) (os : List Row) (some : 0 < c) (h : ascends (with_t
   taken_at [] s v = absurd (omega (arith, most [] v, total_none k))
   taken_at (b ∷ l) s v = go (compared b k) refl (taken_at l (asc_tail b l s))
     where
-      go : (o : Order) → compared b k ≡ o → (covered (with_total k c ∷ os) l ≡ true → TakenAt k c os l) → TakenAt k c os (b ∷ l)
+      go : (o : Ordering) → compared b k ≡ o → (covered (with_total k c ∷ os) l ≡ true → TakenAt k c os l) → TakenAt k c os (b ∷ l)
       go Less e ih =
           let r = ih (sym (covered_past b l (with_total k c ∷ os) e h) ∙ v) in
           let p = place_at k b l Less e in

@@ -9,9 +9,9 @@ use lib.Dec.{ltb}
 use borrow.Author.Tests.{ltb-true, ltb-false, lt-ltb}
 use Rattle.rows_spec.specs.Rows.{Row, compared, ascends}
 use Rattle.rows_spec.specs.Order.{is_equal}
-use Rattle.rows_spec.specs.declared.order.Order.{Order}
-use Rattle.rows_spec.specs.declared.order.Order.TheVariants.{Less, Equal, Greater}
-use Rattle.rows_spec.proofs.Comparing.{compared_same, self_same, flipped, right_same, left_same, row_same, greater_equal}
+use Rattle.std.specs.declared.cmp.Ordering.{Ordering}
+use Rattle.std.specs.declared.cmp.Ordering.TheVariants.{Less, Equal, Greater}
+use Rattle.rows_spec.proofs.Comparing.{compared_same, self_same, flipped, right_same, left_same, row_same}
 use Rattle.rows_spec.proofs.Rows.{Before, before_trans, before_same, asc_before, asc_tail, asc_cons}
 use Rattle.totals_spec.specs.Table.{all_positive, total_at, row_if, put_beside, put_total, with_total}
 
@@ -22,9 +22,9 @@ unfolding total_at
 total_none k = refl
 
 -- by how it stands to the first
-pub total_at_lem : (k b : Row) (l : List Row) (o : Order) → compared k b ≡ o → total_at k (b ∷ l) ≡ cond (is_equal o) b.part.bytes (total_at k l)
+pub total_at_lem : (k b : Row) (l : List Row) (o : Ordering) → compared k b ≡ o → total_at k (b ∷ l) ≡ cond (is_equal o) b.part.bytes (total_at k l)
 unfolding total_at
-total_at_lem k b l o h = ap (λ (p : Order). cond (is_equal p) b.part.bytes (total_at k l)) h
+total_at_lem k b l o h = ap (λ (p : Ordering). cond (is_equal p) b.part.bytes (total_at k l)) h
 
 -- a row before them all has none
 pub total_before : (k : Row) (l : List Row) → Before k l → ascends l ≡ true → total_at k l ≡ 0
@@ -75,9 +75,9 @@ unfolding put_total
 put_none r = refl
 
 -- by how the row stands to the first
-pub put_at : (r b : Row) (l : List Row) (o : Order) → compared r b ≡ o → put_total r (b ∷ l) ≡ put_beside o r b l (put_total r l)
+pub put_at : (r b : Row) (l : List Row) (o : Ordering) → compared r b ≡ o → put_total r (b ∷ l) ≡ put_beside o r b l (put_total r l)
 unfolding put_total
-put_at r b l o h = ap (λ (p : Order). put_beside p r b l (put_total r l)) h
+put_at r b l o h = ap (λ (p : Ordering). put_beside p r b l (put_total r l)) h
 
 pub put_cases : (P : List Row → Type 0) (r b : Row) (l : List Row)
     → (compared r b ≡ Less → P (row_if r (b ∷ l))) → (compared r b ≡ Equal → P (row_if r l)) → (compared r b ≡ Greater → P (b ∷ put_total r l))
@@ -85,7 +85,7 @@ pub put_cases : (P : List Row → Type 0) (r b : Row) (l : List Row)
 unfolding put_total
 put_cases P r b l less equal greater = go (compared r b) refl
   where
-    go : (o : Order) → compared r b ≡ o → P (put_beside o r b l (put_total r l))
+    go : (o : Ordering) → compared r b ≡ o → P (put_beside o r b l (put_total r l))
     go Less e = less e
     go Equal e = equal e
     go Greater e = greater e
@@ -129,7 +129,7 @@ total_if k r l none =
     if_cases (λ (m : List Row). total_at k m ≡ cond (is_equal (compared k r)) r.part.bytes (total_at k l)) r l
     (λ p. total_at_lem k r l (compared k r) refl) (λ p. go p (compared k r) refl)
   where
-    go : r.part.bytes ≡ 0 → (o : Order) → compared k r ≡ o → total_at k l ≡ cond (is_equal o) r.part.bytes (total_at k l)
+    go : r.part.bytes ≡ 0 → (o : Ordering) → compared k r ≡ o → total_at k l ≡ cond (is_equal o) r.part.bytes (total_at k l)
     go p Less e = refl
     go p Equal e = none e ∙ sym p
     go p Greater e = refl
@@ -146,19 +146,19 @@ total_put k r (b ∷ l) s =
     (λ e. total_at_lem k b (put_total r l) (compared k b) refl ∙ ap (cond (is_equal (compared k b)) b.part.bytes) ih
     ∙ apart (compared k b) (compared k r) e refl refl)
   where
-    same : (o : Order) → compared r b ≡ Equal → compared k r ≡ o
+    same : (o : Ordering) → compared r b ≡ Equal → compared k r ≡ o
         → cond (is_equal o) r.part.bytes (total_at k l) ≡ cond (is_equal o) r.part.bytes (total_at k (b ∷ l))
     same Less e f = sym (total_at_lem k b l Less (sym (right_same k r b e) ∙ f))
     same Equal e f = refl
     same Greater e f = sym (total_at_lem k b l Greater (sym (right_same k r b e) ∙ f))
 
-    apart : (o p : Order) → compared r b ≡ Greater → compared k b ≡ o → compared k r ≡ p
+    apart : (o p : Ordering) → compared r b ≡ Greater → compared k b ≡ o → compared k r ≡ p
         → cond (is_equal o) b.part.bytes (cond (is_equal p) r.part.bytes (total_at k l)) ≡ cond (is_equal p) r.part.bytes (total_at k (b ∷ l))
     apart Less Less e f g = sym (total_at_lem k b l Less f)
     apart Less Equal e f g = refl
     apart Less Greater e f g = sym (total_at_lem k b l Less f)
     apart Equal Less e f g = sym (total_at_lem k b l Equal f)
-    apart Equal Equal e f g = absurd (greater_equal (sym e ∙ sym (left_same b k r g) ∙ f))
+    apart Equal Equal e f g = let h = left_same b k r g in cc
     apart Equal Greater e f g = sym (total_at_lem k b l Equal f)
     apart Greater Less e f g = sym (total_at_lem k b l Greater f)
     apart Greater Equal e f g = refl
@@ -169,7 +169,7 @@ pub put_back : (r : Row) (l : List Row) → ascends l ≡ true → all_positive 
 put_back r [] s a = ap (λ (n : ℕ). put_total (with_total r n) []) (total_none r) ∙ put_none (with_total r 0)
 put_back r (b ∷ l) s a = go (compared r b) refl (put_back r l (asc_tail b l s) (above_tail b l a))
   where
-    go : (o : Order) → compared r b ≡ o → put_total (with_total r (total_at r l)) l ≡ l → put_total (with_total r (total_at r (b ∷ l))) (b ∷ l) ≡ b ∷ l
+    go : (o : Ordering) → compared r b ≡ o → put_total (with_total r (total_at r l)) l ≡ l → put_total (with_total r (total_at r (b ∷ l))) (b ∷ l) ≡ b ∷ l
     go Less e ih = ap (λ (n : ℕ). put_total (with_total r n) (b ∷ l)) (total_before r (b ∷ l) e s) ∙ put_at (with_total r 0) b l Less e
     go Equal e ih =
         ap (λ (n : ℕ). put_total (with_total r n) (b ∷ l)) (total_at_lem r b l Equal e) ∙ put_at (with_total r b.part.bytes) b l Equal e
@@ -191,13 +191,13 @@ module _ (x y : Row) (a b : List Row) (s : ascends (x ∷ a) ≡ true) (t : asce
   behind_same : (k : Row) → total_at k a ≡ total_at k b
   behind_same k = go (compared k x) refl
     where
-      on : (o : Order) → compared k x ≡ o → is_equal o ≡ false → total_at k a ≡ total_at k b
+      on : (o : Ordering) → compared k x ≡ o → is_equal o ≡ false → total_at k a ≡ total_at k b
       on o f n =
           let p : total_at k (x ∷ a) ≡ total_at k a = total_at_lem k x a o f ∙ rw n in
           let q : total_at k (y ∷ b) ≡ total_at k b = total_at_lem k y b o (sym (right_same k x y e) ∙ f) ∙ rw n in
           sym p ∙ same k ∙ q
 
-      go : (o : Order) → compared k x ≡ o → total_at k a ≡ total_at k b
+      go : (o : Ordering) → compared k x ≡ o → total_at k a ≡ total_at k b
       go Less f = on Less f refl
       go Equal f = total_behind k x a f s ∙ sym (total_behind k y b (sym (right_same k x y e) ∙ f) t)
       go Greater f = on Greater f refl
@@ -215,7 +215,7 @@ same_totals (x ∷ a) [] s f t g same = absurd (not_first x a [] f tt t (same x)
 same_totals (x ∷ a) (y ∷ b) s f t g same =
     go (compared x y) refl (same_totals a b (asc_tail x a s) (above_tail x a f) (asc_tail y b t) (above_tail y b g))
   where
-    go : (o : Order) → compared x y ≡ o → (((k : Row) → total_at k a ≡ total_at k b) → a ≡ b) → x ∷ a ≡ y ∷ b
+    go : (o : Ordering) → compared x y ≡ o → (((k : Row) → total_at k a ≡ total_at k b) → a ≡ b) → x ∷ a ≡ y ∷ b
     go Less e ih = absurd (not_first x a (y ∷ b) f e t (same x))
     go Equal e ih = ap (λ (l : List Row). x ∷ l) (ih (behind_same x y a b s t e same)) ∙ ap (λ (z : Row). z ∷ b) (first_same x y a b s t e same)
     go Greater e ih = absurd (not_first y b (x ∷ a) g (flipped x y Greater e) s (sym (same y)))

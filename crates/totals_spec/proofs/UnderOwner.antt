@@ -17,8 +17,8 @@ use Rattle.records_spec.proofs.Tables.{length_records_of, epochs_records}
 use Rattle.records_spec.proofs.Unions.{record_on, table_end}
 use Rattle.rows_spec.specs.Order.{by, is_equal}
 use Rattle.rows_spec.specs.Rows.{Row, row, compared, ascends, rows_under}
-use Rattle.rows_spec.specs.declared.order.Order.{Order}
-use Rattle.rows_spec.specs.declared.order.Order.TheVariants.{Less, Equal, Greater}
+use Rattle.std.specs.declared.cmp.Ordering.{Ordering}
+use Rattle.std.specs.declared.cmp.Ordering.TheVariants.{Less, Equal, Greater}
 use Rattle.rows_spec.proofs.Comparing.{compared_under, compared_same, by_less, by_greater, by_next}
 use Rattle.rows_spec.proofs.Under.{under_none, under_cons, length_under, asc_under}
 use Rattle.totals_spec.specs.Table.{total_at}
@@ -75,7 +75,7 @@ total_under o e n (r ∷ rs) =
     ∙ equal_by e r.epoch in
     rw (q, total_under o e n rs)
 
-not_equal : (a b : Row) → (a.identifier ≡ b.identifier → ⊥) → (o : Order) → compared a b ≡ o → is_equal o ≡ false
+not_equal : (a b : Row) → (a.identifier ≡ b.identifier → ⊥) → (o : Ordering) → compared a b ≡ o → is_equal o ≡ false
 not_equal a b d Less e = refl
 not_equal a b d Equal e = absurd (d (compared_same a b e).0)
 not_equal a b d Greater e = refl

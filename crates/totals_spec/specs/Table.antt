@@ -3,8 +3,8 @@
 use Rattle.std.specs.Prelude.{ℕ, ◌+◌, ◌-◌, Bool, true, cond, ◌&&◌, List, [], ◌∷◌, ltb}
 use Rattle.rows_spec.specs.Rows.{Row, row, compared, ascends}
 use Rattle.rows_spec.specs.Order.{is_equal}
-use Rattle.rows_spec.specs.declared.order.Order.{Order}
-use Rattle.rows_spec.specs.declared.order.Order.TheVariants.{Less, Equal, Greater}
+use Rattle.std.specs.declared.cmp.Ordering.{Ordering}
+use Rattle.std.specs.declared.cmp.Ordering.TheVariants.{Less, Equal, Greater}
 
 -- no total is 0
 unfoldable pub all_positive : List Row → Bool
@@ -25,7 +25,7 @@ abbrev pub row_if : Row → List Row → List Row
 row_if r rest = cond (ltb 0 r.part.bytes) (r ∷ rest) rest
 
 -- a row against the first of others: before it, in its place, or among those behind it
-abbrev pub put_beside : Order → Row → Row → List Row → List Row → List Row
+abbrev pub put_beside : Ordering → Row → Row → List Row → List Row → List Row
 put_beside Less r first others more = row_if r (first ∷ others)
 put_beside Equal r first others more = row_if r others
 put_beside Greater r first others more = first ∷ more
