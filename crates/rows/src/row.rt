@@ -3,43 +3,27 @@ ghost use Rattle.std.specs.Prelude.{◌≡◌, ◌+◌};
 ghost use Rattle.rows_spec.specs.Rows.{row, tables, room_in, proper_rows, set_row, Room, rows_were, rows_left};
 
 use crate::order;
-use rows_spec::Order;
 
 // Whether n rows have room in all three tables.
 pub fn rows_fit(n: usize, ids: &[[u8; 32]], epochs: &[u16], bytes: &[u32]) -> bool
     ensures { result ≡ room_in n (rows_were ids.now epochs.now bytes.now) }
 {
-    if ids.len() < n {
-        return false;
-    }
-    if epochs.len() < n {
-        return false;
-    }
-    n <= bytes.len()
+    n <= ids.len() && n <= epochs.len() && n <= bytes.len()
 }
 
 // Whether the first n rows stand in the tables, ascend and have no pair twice.
 pub fn are_proper(n: usize, ids: &[[u8; 32]], epochs: &[u16], bytes: &[u32]) -> bool
     ensures { result ≡ proper_rows n (rows_were ids.now epochs.now bytes.now) }
 {
-    if rows_fit(n, ids, epochs, bytes) {
-        let mut i: usize = 0;
-        while i + 1 < n {
-            match order::compare_rows(ids, epochs, i, ids, epochs, i + 1) {
-                Order::Less => {
-                    i += 1;
-                }
-                Order::Equal => {
-                    return false;
-                }
-                Order::Greater => {
-                    return false;
-                }
-            }
-        }
-        return true;
+    if !rows_fit(n, ids, epochs, bytes) {
+        return false;
     }
-    false
+    for i in 1..n {
+        if !order::compare_rows(ids, epochs, i - 1, ids, epochs, i).is_lt() {
+            return false;
+        }
+    }
+    true
 }
 
 // Puts a row at a place.

@@ -1,23 +1,19 @@
--- `rows::order::compare_rows` meets its contract: identifiers have one length, so they decide before the epochs. Assumes nothing.
-use mathlib.Core.Path.{sym, ◌∙◌}
-use Rattle.rows_spec.specs.declared.order.Order.TheVariants.{Less, Equal, Greater}
-use Rattle.rows_spec.proofs.Comparing.{compared_parts}
+-- `compare_rows` answers by the identifiers, which have one length, and where these are equal by the epochs.
+use Rattle.std.proofs.Common.{◌≡◌, get_or, Ordering, Less, Equal, Greater, sym, ap, ◌∙◌, rules}
+use Rattle.std.specs.Ordering.{ordering_then, nat_cmp, MatchOrdering}
+use Rattle.rows_spec.proofs.Comparing.{compared_then}
 use Rattle.rows.proofs.order.compare_rows.Goals as goal
 
-pub returns-in-Less : goal.returns-in-Less
-returns-in-Less c =
-    sym (compared_parts Less _ _ _ _ 0 0
-    (c.compare_ids-arg-1.given ∙ sym c.compare_ids-arg-2-1.given)
-    (sym c.compare_ids.ensures ∙ c.in-Less.is))
+-- what `then_with` answers, where its closure answers s
+then_is : (o s r : Ordering) → MatchOrdering o (r ≡ Less) (r ≡ s) (r ≡ Greater) → r ≡ ordering_then o s
+then_is Less s r h = h
+then_is Equal s r h = h
+then_is Greater s r h = h
 
-pub returns-in-Equal : goal.returns-in-Equal
-returns-in-Equal c =
-    c.compare_epochs.ensures
-    ∙ sym (compared_parts Equal _ _ _ _ 0 0 (c.compare_ids-arg-1.given ∙ sym c.compare_ids-arg-2-1.given)
-    (sym c.compare_ids.ensures ∙ c.in-Equal.is))
-
-pub returns-in-Greater : goal.returns-in-Greater
-returns-in-Greater c =
-    sym (compared_parts Greater _ _ _ _ 0 0
-    (c.compare_ids-arg-1.given ∙ sym c.compare_ids-arg-2-1.given)
-    (sym c.compare_ids.ensures ∙ c.in-Greater.is))
+pub returns : goal.returns
+returns c =
+    let a = c.args in
+    let s = nat_cmp (get_or a.epochs.now a.i 0) (get_or a.other_epochs.now a.j 0) in
+    let h : MatchOrdering c.compare_ids.result (c.then_with.result ≡ Less) (c.then_with.result ≡ s) (c.then_with.result ≡ Greater) = search rules in
+    let long = c.told-ids a.i c.requires.i_in_bounds.0 ∙ sym (c.told-other_ids a.j c.requires.j_in_bounds.0) in
+    then_is _ _ _ h ∙ ap (λ (o : Ordering). ordering_then o s) c.compare_ids.ensures ∙ compared_then _ _ _ _ long
