@@ -11,9 +11,11 @@ use Rattle.records_spec.specs.Tables.{counts_of}
 use lib.ListN.{length, take}
 use borrow.Author.Tests.{le-leb, lt-leb}
 use Rattle.fields_spec.specs.Varint.{largest}
-use Rattle.records_spec.specs.Outcomes.{refused, ok}
+use Rattle.records_spec.specs.Outcomes.{refused, ok, answered}
 use Rattle.records_spec.specs.Refusals.{number}
 use Rattle.records_spec.specs.declared.refusal.Refusal.TheVariants.{TotalTooLarge}
+use native.Mathlib.Omega.{arith}
+use Rattle.std.specs.Prelude.{Option, Some, None as NoSum, MatchOption, ok_or}
 use Rattle.rows_spec.specs.Rows.{Row, parts_of, Tables, rows_in, Room}
 use Rattle.rows_spec.specs.Inner.Rows.{Proper}
 use Rattle.rows_spec.specs.Removals.{removal_in, proper_in, holding_rows, total_rows, any_bytes, total, has_bytes}
@@ -87,3 +89,9 @@ module _ (x : Removed) (t : Tables) (h : proper_in x t ≡ true) where
 
   pub total_passes : largest < total (removal_in x t) → refused (number TotalTooLarge) ≡ total_removed (holding_rows x t)
   total_passes k = rw h (sym (within_over (total (removal_in x t)) k))
+
+  -- a sum of n that is there where it fits
+  pub total_summed : {n : ℕ} (m : Option ℕ) → total (removal_in x t) ≡ n → MatchOption m (largest < n) (λ s. (s ≡ n) × (s ≤ largest))
+      → answered (ok_or m TotalTooLarge) ≡ total_removed (holding_rows x t)
+  total_summed NoSum e k = total_passes (omega (arith, e, k))
+  total_summed (Some s) e k = total_fits (k.0 ∙ sym e) k.1

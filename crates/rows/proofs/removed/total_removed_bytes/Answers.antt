@@ -1,8 +1,9 @@
 -- `total_removed_bytes` answers by the state's cases; rows come to the sum of their column.
-use Rattle.std.proofs.Common.{sym, ◌∙◌, arith}
+use Rattle.std.proofs.Common.{sym, ap, ◌∙◌, arith}
 use Rattle.std.proofs.lemmas.List.{length-take-le}
+use Rattle.records_spec.specs.Outcomes.{answered}
 use Rattle.rows_spec.specs.Rows.{tables}
-use Rattle.rows_spec.proofs.Removals.{sectioned_long, sectioned_total, total_fits, total_passes}
+use Rattle.rows_spec.proofs.Removals.{sectioned_long, sectioned_total, total_summed}
 use Rattle.rows.proofs.removed.total_removed_bytes.Goals as goal
 
 pub slice_bounds-checked_sum-end : goal.slice_bounds-checked_sum-end
@@ -11,16 +12,10 @@ slice_bounds-checked_sum-end c =
     let proper = sym c.removal_is_proper.ensures ∙ c.if-not-removal_is_proper.false in
     omega (arith, length-take-le c.in-Sectioned.n a.bytes.now (sectioned_long (tables a.ids.now a.epochs.now a.bytes.now) proper c.in-Sectioned.is))
 
-pub returns-in-Some : goal.returns-in-Some
-returns-in-Some c =
+pub returns-in-Sectioned : goal.returns-in-Sectioned
+returns-in-Sectioned c =
     let a = c.args in
     let t = tables a.ids.now a.epochs.now a.bytes.now in
     let proper = sym c.removal_is_proper.ensures ∙ c.if-not-removal_is_proper.false in
-    total_fits a.removal.removed t proper (c.in-Some.ensures ∙ sym (sectioned_total t proper c.in-Sectioned.is)) (omega arith)
-
-pub returns-in-None-checked_sum : goal.returns-in-None-checked_sum
-returns-in-None-checked_sum c =
-    let a = c.args in
-    let t = tables a.ids.now a.epochs.now a.bytes.now in
-    let proper = sym c.removal_is_proper.ensures ∙ c.if-not-removal_is_proper.false in
-    total_passes a.removal.removed t proper (omega (arith, c.in-None-checked_sum.ensures, sectioned_total t proper c.in-Sectioned.is))
+    let summed = sectioned_total t proper c.in-Sectioned.is in
+    ap answered c.ok_or.ensures.value ∙ total_summed a.removal.removed t proper c.checked_sum.result summed c.checked_sum.ensures
