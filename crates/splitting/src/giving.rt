@@ -13,14 +13,7 @@ pub const MINIMUM_NON_BASE_FLAGS_SIZE: u32 = 3;
 pub fn gives(asked: u32, count: u32) -> u32
     ensures { result ≡ min asked (count - minimum) }
 {
-    if count <= MINIMUM_NON_BASE_FLAGS_SIZE {
-        return 0;
-    }
-    let most = count - MINIMUM_NON_BASE_FLAGS_SIZE;
-    if most <= asked {
-        return most;
-    }
-    asked
+    asked.min(count.saturating_sub(MINIMUM_NON_BASE_FLAGS_SIZE))
 }
 
 // Visits the records from the latest down, while bytes are left. Nothing is written.
@@ -28,15 +21,13 @@ pub fn visit(epochs: &[u16], counts: &[u32], amount: u32) -> Visited
     requires { length epochs.now ≡ length counts.now }
     ensures { result ≡ visits (records_were epochs.now counts.now) amount }
 {
-    let mut records: usize = 0;
+    let mut records = 0;
     let mut left = amount;
-    let mut j = counts.len();
-    while 0 < j {
+    for count in counts.iter().rev() {
         if left == 0 {
-            return Visited { records, left };
+            break;
         }
-        j -= 1;
-        left -= gives(left, counts[j]);
+        left -= gives(left, *count);
         records += 1;
     }
     Visited { records, left }

@@ -23,29 +23,27 @@ pub fn split_key_removed_bytes(
         let rows_lent = rows_were ids.old row_epochs.old row_bytes.old in
         after (told_removal result) (rows_left ids.new row_epochs.new row_bytes.new) ≡ split_key flags_given removed_key_bytes rows_lent }
 {
-    if records::is_proper(flags, epochs, counts) {
-        if removed_key_bytes == 0 {
-            return AnsweredRemoval::Done(StorageRemovedBytes {
-                removed: Removed::None,
-            });
-        }
-        if rows::rows_fit(1, ids, row_epochs, row_bytes) {
-            let owner = records::owner_id(flags);
-            let id = owner.id;
-            rows::put_row(
-                ids,
-                row_epochs,
-                row_bytes,
-                0,
-                id,
-                flags.base,
-                removed_key_bytes,
-            );
-            return AnsweredRemoval::Done(StorageRemovedBytes {
-                removed: Removed::Sectioned(1),
-            });
-        }
+    if !records::is_proper(flags, epochs, counts) {
+        return AnsweredRemoval::Refused(Refusal::BadTable);
+    }
+    if removed_key_bytes == 0 {
+        return AnsweredRemoval::Done(StorageRemovedBytes {
+            removed: Removed::None,
+        });
+    }
+    if !rows::rows_fit(1, ids, row_epochs, row_bytes) {
         return AnsweredRemoval::Refused(Refusal::NoRoom);
     }
-    AnsweredRemoval::Refused(Refusal::BadTable)
+    rows::put_row(
+        ids,
+        row_epochs,
+        row_bytes,
+        0,
+        records::owner_id(flags).id,
+        flags.base,
+        removed_key_bytes,
+    );
+    AnsweredRemoval::Done(StorageRemovedBytes {
+        removed: Removed::Sectioned(1),
+    })
 }

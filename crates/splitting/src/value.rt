@@ -5,23 +5,12 @@ ghost use Rattle.records_spec.specs.Tables.{records_of};
 ghost use Rattle.rows_spec.specs.Rows.{tables, Room, rows_were, rows_left};
 ghost use Rattle.records_spec.specs.Outcomes.{after};
 ghost use Rattle.splitting_spec.specs.Sections.{split};
-ghost use Rattle.splitting_spec.specs.Inner.Visits.{rows_at_base};
 ghost use Rattle.splitting_spec.specs.Calls.{value_part, PlacedRemoval, split_value, told_split};
 
 use crate::giving::{gives, visit};
 use records_spec::{Head, OwnerId, Refusal};
 use rows_spec::{Removed, StorageRemovedBytes};
 use splitting_spec::{Splitting, ValueSplit};
-
-// How many rows bytes at the base make: one, or none where there are no bytes.
-fn rows_at_base(bytes: u32) -> usize
-    ensures { result ≡ rows_at_base bytes }
-{
-    if bytes == 0 {
-        return 0;
-    }
-    1
-}
 
 // Bytes in sections at the records, from the latest down while bytes are left, and the rest at the base. They make so many rows, which
 // are put from the back.
@@ -49,25 +38,19 @@ fn sectioned_storage_removal(
         };
     }
     let mut left = removed_bytes;
-    let mut j = counts.len();
+    // The place of a row steps down with the turns, which end early where nothing is left.
     let mut k = rows;
-    while 0 < j {
+    for (epoch, count) in epochs.iter().rev().zip(counts.iter().rev()) {
         if left == 0 {
-            return StorageRemovedBytes {
-                removed: Removed::Sectioned(rows),
-            };
+            break;
         }
-        j -= 1;
+        let given = gives(left, *count);
         k -= 1;
-        let given = gives(left, counts[j]);
-        rows::put_row(ids, row_epochs, row_bytes, k, id, epochs[j], given);
+        rows::put_row(ids, row_epochs, row_bytes, k, id, *epoch, given);
         left -= given;
     }
     if 0 < left {
         rows::put_row(ids, row_epochs, row_bytes, 0, id, base, left);
-        return StorageRemovedBytes {
-            removed: Removed::Sectioned(rows),
-        };
     }
     StorageRemovedBytes {
         removed: Removed::Sectioned(rows),
@@ -88,28 +71,29 @@ pub fn split_value_removed_bytes(
         let rows_lent = rows_were ids.old row_epochs.old row_bytes.old in
         after (told_split result) (rows_left ids.new row_epochs.new row_bytes.new) ≡ split_value flags_given removed_value_bytes rows_lent }
 {
-    if records::is_proper(flags, epochs, counts) {
-        let n = flags.records;
-        let visits = visit(&epochs[..n], &counts[..n], removed_value_bytes);
-        let visited = visits.records;
-        let rows = visited + rows_at_base(visits.left);
-        if rows::rows_fit(rows, ids, row_epochs, row_bytes) {
-            let owner = records::owner_id(flags);
-            let id = owner.id;
-            let removal = sectioned_storage_removal(
-                removed_value_bytes,
-                flags.base,
-                id,
-                &epochs[..n],
-                &counts[..n],
-                rows,
-                ids,
-                row_epochs,
-                row_bytes,
-            );
-            return Splitting::Done(ValueSplit { removal, visited });
-        }
+    if !records::is_proper(flags, epochs, counts) {
+        return Splitting::Refused(Refusal::BadTable);
+    }
+    let epochs = &epochs[..flags.records];
+    let counts = &counts[..flags.records];
+    let visited = visit(epochs, counts, removed_value_bytes);
+    let rows = visited.records + usize::from(0 < visited.left);
+    if !rows::rows_fit(rows, ids, row_epochs, row_bytes) {
         return Splitting::Refused(Refusal::NoRoom);
     }
-    Splitting::Refused(Refusal::BadTable)
+    let removal = sectioned_storage_removal(
+        removed_value_bytes,
+        flags.base,
+        records::owner_id(flags).id,
+        epochs,
+        counts,
+        rows,
+        ids,
+        row_epochs,
+        row_bytes,
+    );
+    Splitting::Done(ValueSplit {
+        removal,
+        visited: visited.records,
+    })
 }
