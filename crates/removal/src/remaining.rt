@@ -31,14 +31,14 @@ fn remaining_len(
     let mut a: usize = 0;
     let mut b: usize = 0;
     let mut n: usize = 0;
+    // A `while`: the places in both tables move by what the next record took.
     while a + b < end {
         let next = records::next_record(our_epochs, our_counts, a, their_epochs, their_counts, b);
-        let rest = remove_from(removed_epochs, removed_bytes, next.epoch, next.count);
-        a = next.i;
-        b = next.j;
-        if rest.stays {
+        if remove_from(removed_epochs, removed_bytes, next.epoch, next.count).is_some() {
             n += 1;
         }
+        a = next.i;
+        b = next.j;
     }
     n
 }
@@ -63,18 +63,19 @@ fn remaining_fits(
         result ≡ room_for (length (minus (union our_records their_records) sections_removed)) epochs_len counts_len }
 {
     let most = our_epochs.len() + their_epochs.len();
-    if records::fit(most, epochs_len, counts_len) {
-        return true;
-    }
-    let n = remaining_len(
-        our_epochs,
-        our_counts,
-        their_epochs,
-        their_counts,
-        removed_epochs,
-        removed_bytes,
-    );
-    records::fit(n, epochs_len, counts_len)
+    records::fit(most, epochs_len, counts_len)
+        || records::fit(
+            remaining_len(
+                our_epochs,
+                our_counts,
+                their_epochs,
+                their_counts,
+                removed_epochs,
+                removed_bytes,
+            ),
+            epochs_len,
+            counts_len,
+        )
 }
 
 // Puts what remains into the two tables lent for it; answers the place behind it.
@@ -108,12 +109,12 @@ fn remaining_into(
     let mut a: usize = 0;
     let mut b: usize = 0;
     let mut k: usize = 0;
+    // A `while`: the places in both tables move by what the next record took.
     while a + b < end {
         let next = records::next_record(our_epochs, our_counts, a, their_epochs, their_counts, b);
-        let rest = remove_from(removed_epochs, removed_bytes, next.epoch, next.count);
-        if rest.stays {
+        if let Some(count) = remove_from(removed_epochs, removed_bytes, next.epoch, next.count) {
             epochs[k] = next.epoch;
-            counts[k] = rest.count;
+            counts[k] = count;
             k += 1;
         }
         a = next.i;
@@ -165,7 +166,8 @@ pub fn place_remaining(
             epochs,
             counts,
         );
-        return records::present(records::new_head(base, owner, n));
+        records::present(records::new_head(base, owner, n))
+    } else {
+        records::refused(Refusal::NoRoom)
     }
-    records::refused(Refusal::NoRoom)
 }

@@ -15,8 +15,8 @@ use crate::remaining::place_remaining;
 use crate::sections::{judge_sections, only_under};
 use flags_spec::MergingOwnersStrategy;
 use records_spec::{Answered, Head, MaybeOwner, OwnerId, Refusal};
-use removal_spec::SectionFault;
 use rows_spec::{Removed, StorageRemovedBytes};
+use std::cmp::Ordering;
 
 // The union less the sections, unless one is at fault.
 fn remove_sections(
@@ -50,7 +50,7 @@ fn remove_sections(
         removed_epochs,
         removed_bytes,
     ) {
-        SectionFault::Nowhere => place_remaining(
+        Ok(()) => place_remaining(
             owner,
             base,
             our_epochs,
@@ -62,7 +62,7 @@ fn remove_sections(
             epochs,
             counts,
         ),
-        SectionFault::At(refusal) => records::refused(refusal),
+        Err(refusal) => records::refused(refusal),
     }
 }
 
@@ -93,7 +93,7 @@ fn remove_rows(
         shown result (tables_left epochs.new counts.new) ≡ placing (taken id (sectioned (rows_in n removed_rows)) joined_flags) tables_lent }
 {
     if only_under(id, n, ids, removed_epochs, removed_bytes) {
-        return remove_sections(
+        remove_sections(
             owner,
             base,
             our_epochs,
@@ -104,9 +104,10 @@ fn remove_rows(
             &removed_bytes[..n],
             epochs,
             counts,
-        );
+        )
+    } else {
+        records::refused(Refusal::DifferentOwners)
     }
-    records::refused(Refusal::DifferentOwners)
 }
 
 // The union less a removal, of which only rows are read.
@@ -136,17 +137,7 @@ fn remove_bytes(
         shown result (tables_left epochs.new counts.new) ≡ placing (taken id (removal_in removed removed_rows) joined_flags) tables_lent }
 {
     match removed {
-        Removed::None => flags::place_union(
-            owner,
-            base,
-            our_epochs,
-            our_counts,
-            their_epochs,
-            their_counts,
-            epochs,
-            counts,
-        ),
-        Removed::Basic(_) => flags::place_union(
+        Removed::None | Removed::Basic(_) => flags::place_union(
             owner,
             base,
             our_epochs,
@@ -197,16 +188,13 @@ fn combine_same_base_epoch(
     if chosen.refused {
         return records::refused(Refusal::DifferentOwners);
     }
-    let owner = chosen.owner;
-    let n = ours.records;
-    let m = theirs.records;
     flags::place_union(
-        owner,
+        chosen.owner,
         ours.base,
-        &our_epochs[..n],
-        &our_counts[..n],
-        &their_epochs[..m],
-        &their_counts[..m],
+        &our_epochs[..ours.records],
+        &our_counts[..ours.records],
+        &their_epochs[..theirs.records],
+        &their_counts[..theirs.records],
         epochs,
         counts,
     )
@@ -240,26 +228,21 @@ fn combine_with_higher_base_epoch_remove_bytes(
         ≡ placing (removed_above strategy (removal_in removed removed_rows) (flags_of our_flags) (flags_of their_flags) (flags_of our_flags).records)
         tables_lent }
 {
-    let n = ours.records;
-    if n == 0 {
+    if ours.records == 0 {
         return flags::hand_on(ours, our_epochs, our_counts, epochs, counts);
     }
     let chosen = flags::combine_owners(ours, theirs, strategy);
     if chosen.refused {
         return records::refused(Refusal::DifferentOwners);
     }
-    let owner = chosen.owner;
-    let our_owner = records::owner_id(ours);
-    let id = our_owner.id;
-    let m = theirs.records;
     remove_bytes(
-        owner,
+        chosen.owner,
         ours.base,
-        &our_epochs[..n],
-        &our_counts[..n],
-        &their_epochs[..m],
-        &their_counts[..m],
-        id,
+        &our_epochs[..ours.records],
+        &our_counts[..ours.records],
+        &their_epochs[..theirs.records],
+        &their_counts[..theirs.records],
+        records::owner_id(ours).id,
         removed,
         ids,
         removed_epochs,
@@ -295,13 +278,9 @@ fn combine_removed_proper(
         shown result (tables_left epochs.new counts.new)
         ≡ placing (merged strategy (removal_in removed removed_rows) (flags_of our_flags) (flags_of their_flags)) tables_lent }
 {
-    let our_base = ours.base;
-    let their_base = theirs.base;
-    if their_base < our_base {
-        return records::refused(Refusal::DifferentBaseEpoch);
-    }
-    if our_base == their_base {
-        return combine_same_base_epoch(
+    match theirs.base.cmp(&ours.base) {
+        Ordering::Less => records::refused(Refusal::DifferentBaseEpoch),
+        Ordering::Equal => combine_same_base_epoch(
             ours,
             our_epochs,
             our_counts,
@@ -311,23 +290,23 @@ fn combine_removed_proper(
             strategy,
             epochs,
             counts,
-        );
+        ),
+        Ordering::Greater => combine_with_higher_base_epoch_remove_bytes(
+            ours,
+            our_epochs,
+            our_counts,
+            theirs,
+            their_epochs,
+            their_counts,
+            removed,
+            ids,
+            removed_epochs,
+            removed_bytes,
+            strategy,
+            epochs,
+            counts,
+        ),
     }
-    combine_with_higher_base_epoch_remove_bytes(
-        ours,
-        our_epochs,
-        our_counts,
-        theirs,
-        their_epochs,
-        their_counts,
-        removed,
-        ids,
-        removed_epochs,
-        removed_bytes,
-        strategy,
-        epochs,
-        counts,
-    )
 }
 
 // Merges ours with the incoming flags that came with removed bytes.
@@ -353,31 +332,28 @@ pub fn combine_removed_bytes(
         let removed_removal = holding_rows removal.removed removed_rows in
         shown result (tables_left epochs.new counts.new) ≡ combined_removed our_flags their_flags removed_removal strategy tables_lent }
 {
-    let removed = removal.removed;
-    if records::is_proper(ours, our_epochs, our_counts) {
-        if records::is_proper(theirs, their_epochs, their_counts) {
-            if rows::removal_is_proper(removed, ids, removed_epochs, removed_bytes) {
-                return combine_removed_proper(
-                    ours,
-                    our_epochs,
-                    our_counts,
-                    theirs,
-                    their_epochs,
-                    their_counts,
-                    removed,
-                    ids,
-                    removed_epochs,
-                    removed_bytes,
-                    strategy,
-                    epochs,
-                    counts,
-                );
-            }
-            return records::refused(Refusal::BadTable);
-        }
-        return records::refused(Refusal::BadTable);
+    if records::is_proper(ours, our_epochs, our_counts)
+        && records::is_proper(theirs, their_epochs, their_counts)
+        && rows::removal_is_proper(removal.removed, ids, removed_epochs, removed_bytes)
+    {
+        combine_removed_proper(
+            ours,
+            our_epochs,
+            our_counts,
+            theirs,
+            their_epochs,
+            their_counts,
+            removal.removed,
+            ids,
+            removed_epochs,
+            removed_bytes,
+            strategy,
+            epochs,
+            counts,
+        )
+    } else {
+        records::refused(Refusal::BadTable)
     }
-    records::refused(Refusal::BadTable)
 }
 
 // `combine_removed_bytes` where ours may be absent: then ours is not looked at, and the incoming flags are handed on; the removal is tested
@@ -406,7 +382,7 @@ pub fn optional_combine_removed_bytes(
         shown result (tables_left epochs.new counts.new) ≡ optional_combined_removed present our_flags their_flags removed_removal strategy tables_lent }
 {
     if present {
-        return combine_removed_bytes(
+        combine_removed_bytes(
             ours,
             our_epochs,
             our_counts,
@@ -420,11 +396,10 @@ pub fn optional_combine_removed_bytes(
             strategy,
             epochs,
             counts,
-        );
+        )
+    } else if rows::removal_is_proper(removal.removed, ids, removed_epochs, removed_bytes) {
+        flags::combine_absent(theirs, their_epochs, their_counts, epochs, counts)
+    } else {
+        records::refused(Refusal::BadTable)
     }
-    let removed = removal.removed;
-    if rows::removal_is_proper(removed, ids, removed_epochs, removed_bytes) {
-        return flags::combine_absent(theirs, their_epochs, their_counts, epochs, counts);
-    }
-    records::refused(Refusal::BadTable)
 }

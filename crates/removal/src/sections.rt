@@ -8,7 +8,6 @@ ghost use Rattle.removal_spec.specs.Removing.{only_under_lem, all_fine, lessened
 ghost use Rattle.removal_spec.specs.Inner.Findings.{standing_at, faulted, rested};
 
 use records_spec::{OwnerId, Refusal};
-use removal_spec::{FoundRecord, Rest, SectionFault};
 use splitting::MINIMUM_NON_BASE_FLAGS_SIZE;
 
 // Whether the first n rows have one identifier, and it is this.
@@ -16,49 +15,34 @@ pub fn only_under(id: OwnerId, n: usize, ids: &[[u8; 32]], epochs: &[u16], bytes
     requires { Room n (tables ids.now epochs.now bytes.now) }
     ensures { result ≡ only_under_lem id (rows_in n (rows_were ids.now epochs.now bytes.now)) }
 {
-    if n == 0 {
-        return false;
-    }
-    let mut i: usize = 0;
-    while i < n {
-        if records::same_owner(ids[i], id) {
-            i += 1;
-        } else {
-            return false;
-        }
-    }
-    true
+    0 < n
+        && ids[..n]
+            .iter()
+            .all(|row_id| records::same_owner(*row_id, id))
 }
 
-// What stands at an epoch.
-pub fn find_at(epochs: &[u16], counts: &[u32], epoch: u16) -> FoundRecord
+// The count of the record at an epoch, or none.
+pub fn find_at(epochs: &[u16], counts: &[u32], epoch: u16) -> Option<u32>
     requires { Table epochs.now counts.now }
     ensures { result ≡ standing_at epoch (records_were epochs.now counts.now) }
 {
     let spot = records::look_up(epochs, counts, epoch);
-    FoundRecord {
-        stands: spot.below < spot.upto,
-        count: spot.count,
-    }
+    (spot.below < spot.upto).then_some(spot.count)
 }
 
-// What stands at an epoch of the union: theirs, else ours.
+// The count of the union's record at an epoch, or none: theirs stands, else ours.
 fn find_in_union(
     our_epochs: &[u16],
     our_counts: &[u32],
     their_epochs: &[u16],
     their_counts: &[u32],
     epoch: u16,
-) -> FoundRecord
+) -> Option<u32>
     requires table { Table our_epochs.now our_counts.now }
     requires table_2 { Table their_epochs.now their_counts.now }
     ensures { result ≡ standing_at epoch (union (records_were our_epochs.now our_counts.now) (records_were their_epochs.now their_counts.now)) }
 {
-    let theirs = find_at(their_epochs, their_counts, epoch);
-    if theirs.stands {
-        return theirs;
-    }
-    find_at(our_epochs, our_counts, epoch)
+    find_at(their_epochs, their_counts, epoch).or_else(|| find_at(our_epochs, our_counts, epoch))
 }
 
 // The fault of one section, the base skipped: there is no record at its epoch, or the record holds less.
@@ -70,7 +54,7 @@ fn judge_section(
     their_counts: &[u32],
     epoch: u16,
     bytes: u32,
-) -> SectionFault
+) -> Result<(), Refusal>
     requires table { Table our_epochs.now our_counts.now }
     requires table_2 { Table their_epochs.now their_counts.now }
     ensures { let our_records = records_were our_epochs.now our_counts.now in
@@ -78,16 +62,13 @@ fn judge_section(
         faulted result ≡ fine base (union our_records their_records) (epoch ⦂ bytes) }
 {
     if epoch == base {
-        return SectionFault::Nowhere;
+        return Ok(());
     }
-    let standing_at = find_in_union(our_epochs, our_counts, their_epochs, their_counts, epoch);
-    if standing_at.stands {
-        if bytes <= standing_at.count {
-            return SectionFault::Nowhere;
-        }
-        return SectionFault::At(Refusal::Overflow);
+    match find_in_union(our_epochs, our_counts, their_epochs, their_counts, epoch) {
+        None => Err(Refusal::NoStorageAtEpoch),
+        Some(count) if count < bytes => Err(Refusal::Overflow),
+        Some(_) => Ok(()),
     }
-    SectionFault::At(Refusal::NoStorageAtEpoch)
 }
 
 // The fault of the first section at fault, in ascending epoch order.
@@ -99,7 +80,7 @@ pub fn judge_sections(
     their_counts: &[u32],
     epochs: &[u16],
     bytes: &[u32],
-) -> SectionFault
+) -> Result<(), Refusal>
     requires table { Table our_epochs.now our_counts.now }
     requires table_2 { Table their_epochs.now their_counts.now }
     requires table_3 { Table epochs.now bytes.now }
@@ -108,47 +89,30 @@ pub fn judge_sections(
         let records_given = records_were epochs.now bytes.now in
         faulted result ≡ all_fine base (union our_records their_records) records_given }
 {
-    let mut i: usize = 0;
-    while i < epochs.len() {
-        match judge_section(
+    for (epoch, taken) in epochs.iter().zip(bytes) {
+        judge_section(
             base,
             our_epochs,
             our_counts,
             their_epochs,
             their_counts,
-            epochs[i],
-            bytes[i],
-        ) {
-            SectionFault::Nowhere => {
-                i += 1;
-            }
-            SectionFault::At(refusal) => {
-                return SectionFault::At(refusal);
-            }
-        }
+            *epoch,
+            *taken,
+        )?;
     }
-    SectionFault::Nowhere
+    Ok(())
 }
 
 // What stays of a record after its section, if it has one, also one of 0: with 3 or less left it is dropped.
-pub fn remove_from(epochs: &[u16], bytes: &[u32], epoch: u16, count: u32) -> Rest
+pub fn remove_from(epochs: &[u16], bytes: &[u32], epoch: u16, count: u32) -> Option<u32>
     requires { Table epochs.now bytes.now }
     ensures { rested epoch result ≡ lessened (records_were epochs.now bytes.now) (epoch ⦂ count) }
 {
-    let section = find_at(epochs, bytes, epoch);
-    if section.stands {
-        let taken = section.count;
-        if count <= taken {
-            return Rest {
-                stays: false,
-                count: 0,
-            };
+    match find_at(epochs, bytes, epoch) {
+        None => Some(count),
+        Some(taken) => {
+            let left = count.saturating_sub(taken);
+            (MINIMUM_NON_BASE_FLAGS_SIZE < left).then_some(left)
         }
-        let left = count - taken;
-        return Rest {
-            stays: MINIMUM_NON_BASE_FLAGS_SIZE < left,
-            count: left,
-        };
     }
-    Rest { stays: true, count }
 }

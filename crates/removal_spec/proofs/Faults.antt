@@ -1,12 +1,15 @@
 -- The first section at fault: what one section's tests tell, and how the first one decides of all.
 -- Assumes nothing.
 use mathlib.Core.Path.{◌≡◌, refl, ap}
-use mathlib.Core.Bool.{true, false}
 use mathlib.Core.List.{List, [], ◌∷◌}
 use Prim.Native.Nat.{ℕ, ◌≤◌, ◌<◌}
 use borrow.Author.Tests.{le-leb, lt-leb, eq-eqb, ne_eqb}
-use Rattle.records_spec.specs.Tables.{At, ◌⦂◌, has, held}
+use Rattle.std.specs.Prelude.{Some, None, ◌⊎◌}
+use Rattle.std.proofs.Common.{inl, inr}
+use Rattle.records_spec.specs.Tables.{At, ◌⦂◌, records_of}
 use Rattle.removal_spec.specs.Removing.{fine, all_fine}
+use Rattle.removal_spec.specs.Inner.Findings.{standing_at}
+use Rattle.removal_spec.proofs.Finding.{stands_count, stands_not}
 use Rattle.records_spec.specs.Refusals.{number}
 use Rattle.records_spec.specs.Outcomes.{Answer, ok, refused, ◌>>=◌}
 use Rattle.records_spec.specs.declared.refusal.Refusal.TheVariants.{Overflow, NoStorageAtEpoch}
@@ -19,14 +22,15 @@ module _ (base : ℕ) (rs : List At) (e n : ℕ) where
   fault_base p = rw (eq-eqb e base p)
 
   module _ (d : e ≡ base → ⊥) where
-    pub fault_lacks : has e rs ≡ false → fine base rs (e ⦂ n) ≡ refused (number NoStorageAtEpoch)
-    fault_lacks h = simp (ne_eqb e base d, h)
+    -- what stands at the epoch decides: nothing, less, or as much
+    pub fault_lacks : standing_at e rs ≡ None → fine base rs (e ⦂ n) ≡ refused (number NoStorageAtEpoch)
+    fault_lacks h = simp (ne_eqb e base d, stands_not e rs h)
 
-    pub fault_over : has e rs ≡ true → held e rs < n → fine base rs (e ⦂ n) ≡ refused (number Overflow)
-    fault_over h p = simp (ne_eqb e base d, h, lt-leb n (held e rs) p)
+    pub fault_over : (k : ℕ) → standing_at e rs ≡ Some k → k < n → fine base rs (e ⦂ n) ≡ refused (number Overflow)
+    fault_over k h p = let s = stands_count e rs k h in simp (ne_eqb e base d, s.0, s.1, lt-leb n k p)
 
-    pub fault_within : has e rs ≡ true → n ≤ held e rs → fine base rs (e ⦂ n) ≡ ok tt
-    fault_within h p = simp (ne_eqb e base d, h, le-leb n (held e rs) p)
+    pub fault_within : (k : ℕ) → standing_at e rs ≡ Some k → n ≤ k → fine base rs (e ⦂ n) ≡ ok tt
+    fault_within k h p = let s = stands_count e rs k h in simp (ne_eqb e base d, s.0, s.1, le-leb n k p)
 
 -- ---- all sections
 
@@ -41,6 +45,24 @@ module _ (base : ℕ) (rs : List At) where
   fault_on s ss h = ap (λ (x : Answer (Unit {0})). ◌>>=◌ x (λ done. all_fine base rs ss)) h
 
   -- the first section is at fault
-  pub fault_at : (s : At) (ss : List At) (k : ℕ) → fine base rs s ≡ refused k → all_fine base rs (s ∷ ss) ≡ refused k
+  fault_at : (s : At) (ss : List At) (k : ℕ) → fine base rs s ≡ refused k → all_fine base rs (s ∷ ss) ≡ refused k
   unfolding all_fine
   fault_at s ss k h = ap (λ (x : Answer (Unit {0})). ◌>>=◌ x (λ done. all_fine base rs ss)) h
+
+  -- the same of the sections that two lists are: none are left, or the first is not at fault, or it is
+  pub faults_end : (es ns : List ℕ) → (es ≡ []) ⊎ (ns ≡ []) → all_fine base rs (records_of es ns) ≡ ok tt
+  unfolding records_of
+  faults_end es ns (inl p) = rw p fault_none
+  faults_end [] ns (inr p) = fault_none
+  faults_end (e ∷ es) ns (inr p) = rw p fault_none
+
+  module _ (e n : ℕ) (es ns : List ℕ) where
+    pub faults_on : {fs ms : List ℕ} → fs ≡ e ∷ es → ms ≡ n ∷ ns → fine base rs (e ⦂ n) ≡ ok tt
+        → all_fine base rs (records_of fs ms) ≡ all_fine base rs (records_of es ns)
+    unfolding records_of
+    faults_on p q h = rw (p, q) (fault_on (e ⦂ n) (records_of es ns) h)
+
+    pub faults_at : {fs ms : List ℕ} → fs ≡ e ∷ es → ms ≡ n ∷ ns → (k : ℕ) → fine base rs (e ⦂ n) ≡ refused k
+        → all_fine base rs (records_of fs ms) ≡ refused k
+    unfolding records_of
+    faults_at p q k h = rw (p, q) (fault_at (e ⦂ n) (records_of es ns) k h)

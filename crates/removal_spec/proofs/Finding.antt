@@ -1,10 +1,13 @@
 -- What stands at an epoch: found around its place in a table, and in a union by theirs first, then ours.
 -- Assumes nothing.
-use mathlib.Core.Path.{◌≡◌, sym, ap, ◌∙◌}
-use mathlib.Core.Bool.{Bool, true, false}
+use mathlib.Core.Path.{◌≡◌, refl, sym, ap, ◌∙◌}
+use mathlib.Core.Bool.{Bool, true, false, cond}
 use mathlib.Core.List.{List}
 use Prim.Native.Nat.{ℕ}
 use lib.Dec.{ltb}
+use Rattle.std.specs.Prelude.{Option, Some, None}
+use Rattle.std.specs.Bool.{then_some}
+use Rattle.std.specs.Option.{option_or}
 use Rattle.records_spec.specs.Tables.{At, records_of, has, held, union}
 use Rattle.records_spec.specs.Inner.Tables.{Table}
 use Rattle.records_spec.specs.Inner.Unions.{spot_of}
@@ -12,31 +15,41 @@ use Rattle.records_spec.specs.declared.table.Spot.{Spot}
 use Rattle.records_spec.proofs.Around.{spot_has}
 use Rattle.records_spec.proofs.Held.{has_union, held_union}
 use Rattle.removal_spec.specs.Inner.Findings.{standing_at}
-use Rattle.removal_spec.specs.declared.sections.FoundRecord.{FoundRecord}
 
+-- around the epoch's place in a table
 pub spot_found : {es cs : List ℕ} → Table es cs → (e : ℕ) (s : Spot) → s ≡ spot_of e es cs
-    → record { stands = ltb s.below s.upto; count = s.count } ≡ standing_at e (records_of es cs)
+    → then_some (ltb s.below s.upto) s.count ≡ standing_at e (records_of es cs)
 spot_found {es} {cs} t e s h =
-    ap (λ (x : Spot). record { stands = ltb x.below x.upto; count = x.count }) h
-    ∙ ap (λ (b : Bool). record { stands = b; count = held e (records_of es cs) }) (sym (spot_has t e))
+    ap (λ (x : Spot). then_some (ltb x.below x.upto) x.count) h
+    ∙ ap (λ (b : Bool). then_some b (held e (records_of es cs))) (sym (spot_has t e))
+    ∙ by (has e (records_of es cs)) (held e (records_of es cs))
+  where
+    by : (b : Bool) (n : ℕ) → then_some b n ≡ cond b (Some n) None
+    by true n = refl
+    by false n = refl
 
-module _ (e : ℕ) (os ts : List At) (w : FoundRecord) where
-  -- a record of theirs stands
-  pub found_theirs : w ≡ standing_at e ts → w.stands ≡ true → w ≡ standing_at e (union os ts)
-  found_theirs h p =
-      let q : has e ts ≡ true = sym (ap (λ (x : FoundRecord). x.stands) h) ∙ p in
-      h ∙ rw (has_union e os ts, held_union e os ts, q)
+-- in a union: theirs, else ours
+pub found_union : (e : ℕ) (os ts : List At) → option_or (standing_at e ts) (standing_at e os) ≡ standing_at e (union os ts)
+found_union e os ts = rw (has_union e os ts, held_union e os ts) (by (has e ts) (held e ts))
+  where
+    by : (b : Bool) (n : ℕ) → option_or (cond b (Some n) None) (standing_at e os)
+        ≡ cond (cond b true (has e os)) (Some (cond b n (held e os))) None
+    by true n = refl
+    by false n = refl
 
-  -- else ours
-  pub found_ours : (v : FoundRecord) → v ≡ standing_at e ts → v.stands ≡ false → w ≡ standing_at e os → w ≡ standing_at e (union os ts)
-  found_ours v h p k =
-      let q : has e ts ≡ false = sym (ap (λ (x : FoundRecord). x.stands) h) ∙ p in
-      k ∙ rw (has_union e os ts, held_union e os ts, q)
+-- ---- what was found, read back
 
--- what was found, read back
-module _ (e : ℕ) (rs : List At) (w : FoundRecord) (h : w ≡ standing_at e rs) where
-  pub found_has : (b : Bool) → w.stands ≡ b → has e rs ≡ b
-  found_has b p = sym (ap (λ (x : FoundRecord). x.stands) h) ∙ p
+module _ (e : ℕ) (rs : List At) where
+  pub stands_count : (n : ℕ) → standing_at e rs ≡ Some n → (has e rs ≡ true) × (held e rs ≡ n)
+  stands_count n h = by (has e rs) (held e rs) h
+    where
+      by : (b : Bool) (k : ℕ) → cond b (Some k) None ≡ Some n → (b ≡ true) × (k ≡ n)
+      by true k h = (refl, cc)
+      by false k h = absurd cc
 
-  pub found_held : w.count ≡ held e rs
-  found_held = ap (λ (x : FoundRecord). x.count) h
+  pub stands_not : standing_at e rs ≡ None → has e rs ≡ false
+  stands_not h = by (has e rs) (held e rs) h
+    where
+      by : (b : Bool) (k : ℕ) → ◌≡◌ {A = Option ℕ} (cond b (Some k) None) None → b ≡ false
+      by true k h = absurd cc
+      by false k h = refl

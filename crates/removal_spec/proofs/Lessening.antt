@@ -8,39 +8,40 @@ use native.Mathlib.Omega.{arith}
 use lib.Dec.{ltb, leb}
 use lib.ListN.{length, drop}
 use borrow.Author.Tests.{ltb-true, ltb-false, le-leb, lt-leb}
+use Rattle.std.specs.Prelude.{Option, Some, None, is_some}
+use Rattle.std.specs.Bool.{then_some}
 use Rattle.records_spec.specs.Tables.{At, ◌⦂◌, epochs_of, ascending, has, held, union}
 use Rattle.records_spec.specs.Inner.Unions.{Stepped}
 use Rattle.records_spec.specs.declared.table.NextRecord.{NextRecord}
 use Rattle.records_spec.proofs.Tables.{epochs_cons}
 use Rattle.records_spec.proofs.Rising.{asc_head, asc_tail, asc_cons, asc_lower}
 use Rattle.splitting_spec.specs.Sections.{minimum}
-use Rattle.removal_spec.specs.Removing.{lessened, minus}
-use Rattle.removal_spec.specs.Inner.Findings.{rested}
-use Rattle.removal_spec.specs.declared.sections.Rest.{Rest}
+use Rattle.removal_spec.specs.Removing.{remainder, lessened, minus}
+use Rattle.removal_spec.specs.Inner.Findings.{standing_at, rested}
+use Rattle.removal_spec.proofs.Finding.{stands_count, stands_not}
 
 -- ---- one record
 
+-- what remains, by the code's test
+left_over : (e n : ℕ) → rested e (then_some (ltb minimum n) n) ≡ remainder e n
+left_over e n = by (ltb minimum n) refl
+  where
+    by : (b : Bool) → ltb minimum n ≡ b → rested e (then_some b n) ≡ remainder e n
+    by true q = rw (lt-leb n minimum (ltb-true minimum n q))
+    by false q = rw (le-leb n minimum (ltb-false minimum n q))
+
 module _ (ss : List At) (e c : ℕ) where
   -- no section: the record stays whole
-  pub lessened_whole : has e ss ≡ false → lessened ss (e ⦂ c) ≡ e ⦂ c ∷ []
-  lessened_whole h = rw h
+  pub lessened_whole : standing_at e ss ≡ None → lessened ss (e ⦂ c) ≡ e ⦂ c ∷ []
+  lessened_whole h = rw (stands_not e ss h)
 
-  module _ (h : has e ss ≡ true) where
-    -- 3 or less remain, also where the section is 0: the record is dropped
-    pub lessened_gone : c - held e ss ≤ minimum → lessened ss (e ⦂ c) ≡ []
-    lessened_gone p = simp (h, le-leb (c - held e ss) minimum p)
+  -- 3 or less remain, also where the section is 0: the record is dropped
+  pub lessened_gone : has e ss ≡ true → c - held e ss ≤ minimum → lessened ss (e ⦂ c) ≡ []
+  lessened_gone h p = simp (h, le-leb (c - held e ss) minimum p)
 
-    -- more than 3 remain
-    pub lessened_kept : minimum < c - held e ss → lessened ss (e ⦂ c) ≡ e ⦂ (c - held e ss) ∷ []
-    lessened_kept p = simp (h, lt-leb (c - held e ss) minimum p)
-
-    -- by the code's test
-    pub lessened_left : (n : ℕ) → n ≡ c - held e ss → rested e (record { stays = ltb minimum n; count = n }) ≡ lessened ss (e ⦂ c)
-    lessened_left n p = by (ltb minimum n) refl
-      where
-        by : (b : Bool) → ltb minimum n ≡ b → rested e (record { stays = b; count = n }) ≡ lessened ss (e ⦂ c)
-        by true q = let l = ltb-true minimum n q in sym (lessened_kept (omega arith) ∙ ap (λ (m : ℕ). e ⦂ m ∷ []) (sym p))
-        by false q = let l = ltb-false minimum n q in sym (lessened_gone (omega arith))
+  -- a section of n bytes: more than 3 remain, or the record is dropped
+  pub lessened_left : (n : ℕ) → standing_at e ss ≡ Some n → rested e (then_some (ltb minimum (c - n)) (c - n)) ≡ lessened ss (e ⦂ c)
+  lessened_left n h = let s = stands_count e ss n h in rw (s.0, s.1) (left_over e (c - n))
 
 -- a record is dropped, or stays with no more than it had
 pub lessened_cases : (P : List At → Type 0) (ss : List At) (r : At) → P [] → ((n : ℕ) → n ≤ r.bytes → P (r.epoch ⦂ n ∷ [])) → P (lessened ss r)
@@ -85,19 +86,28 @@ minus_above b (r ∷ rs) ss h =
 
 -- ---- the next record of a union, and what stays of it
 
-module _ {os ts : List At} {a b : ℕ} {r : NextRecord} (s : Stepped os ts a b r) (ss : List At) (x : Rest)
+rested_long : (e : ℕ) (x : Option ℕ) (rs : List At) → length (rested e x ++ rs) ≡ cond (is_some x) 1 0 + length rs
+rested_long e None rs = omega arith
+rested_long e (Some n) rs = omega arith
+
+module _ {os ts : List At} {a b : ℕ} {r : NextRecord} (s : Stepped os ts a b r) (ss : List At) (x : Option ℕ)
     (h : rested r.epoch x ≡ lessened ss (r.epoch ⦂ r.count)) where
   next_minus : minus (union (drop a os) (drop b ts)) ss ≡ rested r.epoch x ++ minus (union (drop r.i os) (drop r.j ts)) ss
   next_minus =
       ap (λ (l : List At). minus l ss) s.step ∙ minus_cons (r.epoch ⦂ r.count) (union (drop r.i os) (drop r.j ts)) ss
       ∙ ap (λ (l : List At). l ++ minus (union (drop r.i os) (drop r.j ts)) ss) (sym h)
 
-  pub next_stays : x.stays ≡ true → minus (union (drop a os) (drop b ts)) ss
-      ≡ r.epoch ⦂ x.count ∷ minus (union (drop r.i os) (drop r.j ts)) ss
-  next_stays e = next_minus ∙ rw e
+  pub next_stays : (n : ℕ) → x ≡ Some n → minus (union (drop a os) (drop b ts)) ss
+      ≡ r.epoch ⦂ n ∷ minus (union (drop r.i os) (drop r.j ts)) ss
+  next_stays n e = next_minus ∙ rw e
 
-  pub next_gone : x.stays ≡ false → minus (union (drop a os) (drop b ts)) ss ≡ minus (union (drop r.i os) (drop r.j ts)) ss
+  pub next_gone : x ≡ None → minus (union (drop a os) (drop b ts)) ss ≡ minus (union (drop r.i os) (drop r.j ts)) ss
   next_gone e = next_minus ∙ rw e
+
+  -- the same counted
+  pub next_long : length (minus (union (drop a os) (drop b ts)) ss)
+      ≡ cond (is_some x) 1 0 + length (minus (union (drop r.i os) (drop r.j ts)) ss)
+  next_long = ap (length {A = At}) next_minus ∙ rested_long r.epoch x (minus (union (drop r.i os) (drop r.j ts)) ss)
 
 -- nothing is left of a union
 pub minus_done : (us ss : List At) → us ≡ [] → minus us ss ≡ []

@@ -122,6 +122,6 @@ examples =
     ∷ []
 
 pub marked : map combined examples ≡ map (λ (e : Example). e.left) examples
-unfolding examples combined_removed removed all_under all_fine minus proper_rows ascends order rows_of ids_of parts_of rows_under split sections section spare
-    same proper leaving records_of epochs_of counts_of ascending has held put union
+unfolding examples combined_removed removed all_under all_fine minus proper_rows ascends order rows_of ids_of parts_of rows_under split
+    sections section spare same proper leaving records_of epochs_of counts_of ascending has held put union
 marked = refl

@@ -1,28 +1,27 @@
--- Rows under one identifier: the loop that asks for it, and that the epochs of such rows rise where the rows ascend, so that they are a table.
+-- Rows under one identifier: how the code asks for it, and that the epochs of such rows rise where the rows ascend, so that they are a table.
 -- By cases on the rows.
 -- Assumes nothing.
 use mathlib.Core.Path.{◌≡◌, refl, sym, ap, ◌∙◌}
-use mathlib.Core.Bool.{true, false, ◌&&◌, and-eq-true_iff, true≢false}
+use mathlib.Core.Bool.{Bool, true, ◌&&◌, and-eq-true_iff, true≢false}
 use mathlib.Core.List.{List, [], ◌∷◌}
-use Prim.Native.Nat.{ℕ, ◌+◌, ◌≤◌, ◌<◌}
+use Prim.Native.Nat.{ℕ, zero, suc, ◌≤◌, ◌<◌}
 use native.Mathlib.Omega.{arith}
-use lib.ListN.{length, take, drop, get_or}
+use lib.ListN.{length, take}
 use lib.Seq.{length-take-le}
-use Rattle.records_spec.specs.Tables.{At, epochs_of, rising}
+use Rattle.std.specs.List.{list_all}
+use Rattle.records_spec.specs.Tables.{At, records_of, epochs_of, rising}
 use Rattle.records_spec.specs.Inner.Tables.{Table}
 use Rattle.records_spec.specs.Flags.{same}
 use Rattle.records_spec.proofs.Tables.{epochs_none, epochs_cons, epochs_records}
 use Rattle.records_spec.proofs.Rising.{asc_none, asc_cons, asc_of_rises, rises_none, rises_cons}
 use Rattle.records_spec.proofs.Owners.{same_self, same_equal}
-use Rattle.rows_spec.specs.Rows.{Row, ascends, parts_of, rows_under, Tables, rows_in, Room}
+use Rattle.rows_spec.specs.Rows.{Row, ascends, parts_of, rows_under, Tables, rows_of, rows_in, Room}
 use Rattle.rows_spec.specs.Inner.Rows.{Proper}
-use Rattle.rows_spec.proofs.Rows.{rows_on, rows_end, length_rows, asc_before, asc_tail}
+use Rattle.rows_spec.proofs.Rows.{length_rows, asc_before, asc_tail}
 use Rattle.rows_spec.proofs.Under.{under_none}
 use Rattle.rows_spec.proofs.Under.{under_cons}
 use Rattle.rows_spec.proofs.Parts.{parts_none, parts_cons, parts_in, less_under}
 use Rattle.removal_spec.specs.Removing.{all_under, only_under_lem}
-
--- ---- from a place on
 
 all_cons : (i : List ℕ) (r : Row) (rs : List Row) → all_under i (r ∷ rs) ≡ (same r.identifier i && all_under i rs)
 unfolding all_under
@@ -32,36 +31,32 @@ all_none : (i : List ℕ) → all_under i [] ≡ true
 unfolding all_under
 all_none i = refl
 
-module _ {n : ℕ} {t : Tables} (r : Room n t) (i : List ℕ) (k : ℕ) where
-  pub all_same : k < n → same (get_or t.ids k []) i ≡ true → all_under i (drop k (rows_in n t)) ≡ all_under i (drop (k + 1) (rows_in n t))
-  all_same p h = ap (all_under i) (rows_on r k p) ∙ all_cons i _ (drop (k + 1) (rows_in n t)) ∙ rw h
-
-  pub all_other : k < n → same (get_or t.ids k []) i ≡ false → all_under i (drop k (rows_in n t)) ≡ false
-  all_other p h = ap (all_under i) (rows_on r k p) ∙ all_cons i _ (drop (k + 1) (rows_in n t)) ∙ rw h
-
-  pub all_end : n ≤ k → all_under i (drop k (rows_in n t)) ≡ true
-  all_end p = ap (all_under i) (rows_end r k p) ∙ all_none i
-
 -- ---- one identifier
+
+-- of rows that stand in tables: each identifier is this
+all_ids : (i : List ℕ) (is : List (List ℕ)) (es bs : List ℕ) (n : ℕ) → n ≤ length is → n ≤ length es → n ≤ length bs
+    → all_under i (take n (rows_of is (records_of es bs))) ≡ list_all (λ x. same x i) (take n is)
+unfolding all_under rows_of records_of
+all_ids i is es bs zero h k l = refl
+all_ids i [] es bs (suc n) h k l = absurd (omega arith)
+all_ids i (x ∷ is) [] bs (suc n) h k l = absurd (omega arith)
+all_ids i (x ∷ is) (e ∷ es) [] (suc n) h k l = absurd (omega arith)
+all_ids i (x ∷ is) (e ∷ es) (b ∷ bs) (suc n) h k l =
+    ap (λ (c : Bool). same x i && c) (all_ids i is es bs n (omega arith) (omega arith) (omega arith))
 
 only_all : (i : List ℕ) (rs : List Row) → 0 < length rs → only_under_lem i rs ≡ all_under i rs
 only_all i [] p = absurd (omega arith)
 only_all i (r ∷ rs) p = refl
 
-only_empty : (i : List ℕ) (rs : List Row) → length rs ≡ 0 → only_under_lem i rs ≡ false
-only_empty i [] p = refl
-only_empty i (r ∷ rs) p = absurd (omega arith)
+-- of some rows that stand in tables
+pub only_ids : {n : ℕ} {t : Tables} → Room n t → 0 < n → (i : List ℕ)
+    → only_under_lem i (rows_in n t) ≡ list_all (λ x. same x i) (take n t.ids)
+only_ids {n} {t} r p i =
+    only_all i (rows_in n t) (omega (arith, length_rows r)) ∙ all_ids i t.ids t.epochs t.bytes n r.ids_long r.epochs_long r.bytes_long
 
 only_true : (i : List ℕ) (rs : List Row) → only_under_lem i rs ≡ true → all_under i rs ≡ true
 only_true i [] h = absurd (true≢false (sym h))
 only_true i (r ∷ rs) h = h
-
-module _ {n : ℕ} {t : Tables} (r : Room n t) (i : List ℕ) where
-  pub only_none : n ≡ 0 → only_under_lem i (rows_in n t) ≡ false
-  only_none e = only_empty i (rows_in n t) (length_rows r ∙ e)
-
-  pub only_some : 0 < n → only_under_lem i (rows_in n t) ≡ all_under i (rows_in n t)
-  only_some p = only_all i (rows_in n t) (omega (arith, length_rows r))
 
 -- ---- their epochs
 

@@ -1,23 +1,21 @@
 -- What the code finds: what stands at an epoch, a section at fault, and what stays of a record.
 -- Assumes nothing.
-use Rattle.std.specs.Prelude.{ℕ, cond, List, [], ◌∷◌}
+use Rattle.std.specs.Prelude.{ℕ, cond, List, [], ◌∷◌, Option, Some, None, Result, Ok, Err}
 use Rattle.records_spec.specs.Refusals.{number}
 use Rattle.records_spec.specs.Outcomes.{Answer, ok, refused}
 use Rattle.records_spec.specs.Tables.{At, ◌⦂◌, has, held}
-use Rattle.removal_spec.specs.declared.sections.FoundRecord.{FoundRecord}
-use Rattle.removal_spec.specs.declared.sections.SectionFault.{SectionFault}
-use Rattle.removal_spec.specs.declared.sections.SectionFault.TheVariants.{Nowhere, At as Faulty}
-use Rattle.removal_spec.specs.declared.sections.Rest.{Rest}
+use Rattle.records_spec.specs.declared.refusal.Refusal.{Refusal}
 
--- whether a record stands at an epoch, and its count
-abbrev pub standing_at : ℕ → List At → FoundRecord
-standing_at e rs = record { stands = has e rs; count = held e rs }
+-- the count of the record at an epoch, or none
+abbrev pub standing_at : ℕ → List At → Option ℕ
+standing_at e rs = cond (has e rs) (Some (held e rs)) None
 
 -- no fault, or a refusal, as the code told it
-abbrev pub faulted : SectionFault → Answer (Unit {0})
-faulted Nowhere = ok tt
-faulted (Faulty r) = refused (number r)
+abbrev pub faulted : Result (Unit {0}) Refusal → Answer (Unit {0})
+faulted (Ok done) = ok tt
+faulted (Err r) = refused (number r)
 
 -- what stays of a record at an epoch, as the code told it
-abbrev pub rested : ℕ → Rest → List At
-rested e r = cond r.stays (e ⦂ r.count ∷ []) []
+abbrev pub rested : ℕ → Option ℕ → List At
+rested e None = []
+rested e (Some n) = e ⦂ n ∷ []

@@ -1,7 +1,8 @@
--- `removal::sections::find_at` meets its contract: a record stands where fewer are below the epoch than at most there. Assumes nothing.
+-- A record stands where fewer are below the epoch than at most there.
+use Rattle.std.proofs.Common.{◌∙◌}
 use Rattle.removal_spec.proofs.Finding.{spot_found}
 use Rattle.removal.proofs.sections.find_at.Goals as goal
 
 pub returns : goal.returns
 returns c =
-    spot_found c.requires c.args.epoch c.look_up-spot.result c.look_up-spot.ensures
+    c.then_some.ensures ∙ spot_found c.requires c.args.epoch c.look_up-spot.result c.look_up-spot.ensures
