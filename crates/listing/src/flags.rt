@@ -39,14 +39,12 @@ pub fn answer_len(answered: Answered, epochs: &[u16], counts: &[u32]) -> usize
     requires { Listable answered.head epochs.now counts.now }
     ensures { result ≡ length (outcome_text answered.outcome answered.head epochs.now counts.now) }
 {
-    let outcome = answered.outcome;
-    match outcome {
+    match answered.outcome {
         Outcome::Absent => 5,
         Outcome::Refused(refusal) => line_len(b"refused ", records::number(refusal) as u64),
         Outcome::Present => {
-            let head = answered.head;
-            let n = head.records;
-            flags_len(head, &epochs[..n], &counts[..n])
+            let n = answered.head.records;
+            flags_len(answered.head, &epochs[..n], &counts[..n])
         }
     }
 }
@@ -57,19 +55,14 @@ pub fn put_answer(out: &mut [u8], answered: Answered, epochs: &[u16], counts: &[
     requires counts_in_bounds { length (outcome_text answered.outcome answered.head epochs.now counts.now) ≤ length out.old }
     ensures { Put (outcome_text answered.outcome answered.head epochs.now counts.now) 0 result out.old out.new }
 {
-    let outcome = answered.outcome;
-    match outcome {
+    match answered.outcome {
         Outcome::Absent => put_text(out, 0, b"none\n"),
-        Outcome::Refused(refusal) => put_number_line(
-            out,
-            0,
-            b"refused ",
-            records::number(refusal) as u64,
-        ),
+        Outcome::Refused(refusal) => {
+            put_number_line(out, 0, b"refused ", records::number(refusal) as u64)
+        }
         Outcome::Present => {
-            let head = answered.head;
-            let n = head.records;
-            put_flags(out, head, &epochs[..n], &counts[..n])
+            let n = answered.head.records;
+            put_flags(out, answered.head, &epochs[..n], &counts[..n])
         }
     }
 }

@@ -16,14 +16,9 @@ pub fn put_text(out: &mut [u8], at: usize, text: &[u8]) -> usize
     requires { at + length text.now ≤ length out.old }
     ensures { Put text.now at result out.old out.new }
 {
-    let mut i = at;
-    let mut k: usize = 0;
-    while k < text.len() {
-        out[i] = text[k];
-        i += 1;
-        k += 1;
-    }
-    i
+    let end = at + text.len();
+    out[at..end].copy_from_slice(text);
+    end
 }
 
 // The length of a line of a word and a number.
@@ -47,13 +42,11 @@ pub fn put_number_line(out: &mut [u8], at: usize, word: &[u8], n: u64) -> usize
 pub fn owner_len(head: Head) -> usize
     ensures { Sized (owner_line (owner_of head)) longest_owner_line result }
 {
-    let kind = head.kind;
-    if records::is_owned(kind) {
-        let owner = head.owner;
-        let bytes: &[u8] = &owner;
-        return 7 + 2 * bytes.len();
+    if records::is_owned(head.kind) {
+        7 + 2 * head.owner.len()
+    } else {
+        0
     }
-    0
 }
 
 // Writes the owner's line at `at`, if there is an owner; answers the place behind it.
@@ -61,14 +54,13 @@ pub fn put_owner_line(out: &mut [u8], at: usize, head: Head) -> usize
     requires { at + length (owner_line (owner_of head)) ≤ length out.old }
     ensures { Put (owner_line (owner_of head)) at result out.old out.new }
 {
-    let kind = head.kind;
-    if records::is_owned(kind) {
-        let owner = head.owner;
+    if records::is_owned(head.kind) {
         let digits = put_text(out, at, b"owner ");
-        let end = put_hex(out, digits, &owner);
-        return put_text(out, end, b"\n");
+        let end = put_hex(out, digits, &head.owner);
+        put_text(out, end, b"\n")
+    } else {
+        at
     }
-    at
 }
 
 // The length of a record's line.
@@ -93,11 +85,9 @@ pub fn records_len(epochs: &[u16], counts: &[u32]) -> usize
     requires { (length epochs.now ≡ length counts.now) × (length epochs.now ≤ record_places) }
     ensures { Sized (record_texts (records_were epochs.now counts.now)) (longest_record_line * record_places) result }
 {
-    let mut size: usize = 0;
-    let mut k: usize = 0;
-    while k < epochs.len() {
-        size += record_len(epochs[k], counts[k]);
-        k += 1;
+    let mut size = 0;
+    for (epoch, count) in epochs.iter().zip(counts) {
+        size += record_len(*epoch, *count);
     }
     size
 }
@@ -109,10 +99,8 @@ pub fn put_record_lines(out: &mut [u8], at: usize, epochs: &[u16], counts: &[u32
     ensures { Put (record_texts (records_were epochs.now counts.now)) at result out.old out.new }
 {
     let mut i = at;
-    let mut k: usize = 0;
-    while k < epochs.len() {
-        i = put_record_line(out, i, epochs[k], counts[k]);
-        k += 1;
+    for (epoch, count) in epochs.iter().zip(counts) {
+        i = put_record_line(out, i, *epoch, *count);
     }
     i
 }

@@ -1,35 +1,23 @@
 -- `listing::lines::records_len` meets its contract. The invariant: the size so far and that of the records left make that of all.
 -- Assumes nothing.
-use mathlib.Core.Path.{ap}
-use native.Mathlib.Omega.{arith}
-use lib.ListN.{length}
-use Rattle.listing_spec.proofs.Lengths.{length_on, lines_end}
+use Rattle.std.proofs.Common.{length, ap, arith}
+use Rattle.listing.proofs.Zipped.{length_turn, rest_turn, line_end}
 use Rattle.listing.proofs.lines.records_len.Goals as goal
 
-pub loop-k-preserved : goal.loop-k-preserved
-loop-k-preserved c =
-    omega (
-      arith,
-      c.record_len-size.ensures,
-      length_on c.args.epochs.now c.args.counts.now c.loop-k.k c.requires.0
-          c.loop-k-test.true,
-    )
+pub overflow_add-size : goal.overflow_add-size
+overflow_add-size c =
+    let l = c.loop-epoch in
+    omega (arith, rest_turn l.epoch-iterator c.next.new.self c.next.result c.next.ensures.steps c.in-Some.epoch c.in-Some.count c.in-Some.is)
+
+pub loop-epoch-preserved : goal.loop-epoch-preserved
+loop-epoch-preserved c =
+    let l = c.loop-epoch in
+    let rest = rest_turn l.epoch-iterator c.next.new.self c.next.result c.next.ensures.steps c.in-Some.epoch c.in-Some.count c.in-Some.is in
+    let line = length_turn l.epoch-iterator c.next.new.self c.next.result c.next.ensures.steps c.in-Some.epoch c.in-Some.count c.in-Some.is in
+    record { bounded = omega arith; counts = omega arith }
 
 pub returns : goal.returns
 returns c =
-    let a = c.args in
-    let l = c.loop-k in
-    let e = ap length (lines_end a.epochs.now a.counts.now l.k c.loop-k-test.false) in
+    let l = c.loop-epoch in
+    let none = ap length (line_end l.epoch-iterator c.next.new.self c.next.result c.next.ensures.steps c.in-None.is) in
     record { counts = omega arith; bounded = omega arith }
-
-pub loop-k-init : goal.loop-k-init
-loop-k-init c = omega arith
-
-pub overflow_add-size : goal.overflow_add-size
-overflow_add-size c = omega arith
-
-pub overflow_add-k : goal.overflow_add-k
-overflow_add-k c = omega arith
-
-pub loop-k-smaller : goal.loop-k-smaller
-loop-k-smaller c = omega arith
