@@ -1,6 +1,6 @@
 // The calls on the head of flags alone.
 ghost use Rattle.std.specs.Prelude.{◌≡◌};
-ghost use Rattle.records_spec.specs.Flags.{owned, multi, type_byte, same, owner_of, head_for, no_head, with_owner};
+ghost use Rattle.records_spec.specs.Flags.{owned, multi, type_byte, same, owner_of, id_of, head_for, no_head, with_owner};
 
 use records_spec::{Head, Kind, OWNER_LENGTH, OwnerId};
 
@@ -83,6 +83,13 @@ pub fn owner_id(head: Head) -> Option<OwnerId>
     } else {
         None
     }
+}
+
+// The owner's bytes, or as many zeros where there is none.
+pub fn id_of(head: Head) -> OwnerId
+    ensures { result ≡ id_of (owner_of head) }
+{
+    owner_id(head).unwrap_or([0; OWNER_LENGTH])
 }
 
 // Byte 0 of the flags.

@@ -7,7 +7,7 @@ mod room;
 mod table;
 
 pub use head::{
-    base_epoch, is_multi, is_owned, new_head, new_single_epoch, no_head, owner_id, same_owner,
+    base_epoch, id_of, is_multi, is_owned, new_head, new_single_epoch, no_head, owner_id, same_owner,
     set_owner_id, type_byte,
 };
 pub use joining::copy_run;

@@ -7,7 +7,7 @@ ghost use Rattle.rows_spec.specs.Calls.{told_removal};
 ghost use Rattle.splitting_spec.specs.Calls.{split_key};
 
 use records_spec::{Head, Refusal};
-use rows_spec::{AnsweredRemoval, Removed, StorageRemovedBytes};
+use rows_spec::{Removed, StorageRemovedBytes};
 
 // Takes key bytes at the base, whatever their number is.
 pub fn split_key_removed_bytes(
@@ -18,32 +18,32 @@ pub fn split_key_removed_bytes(
     ids: &mut [[u8; 32]],
     row_epochs: &mut [u16],
     row_bytes: &mut [u32],
-) -> AnsweredRemoval
+) -> Result<StorageRemovedBytes, Refusal>
     ensures { let flags_given = flags_were flags epochs.now counts.now in
         let rows_lent = rows_were ids.old row_epochs.old row_bytes.old in
         after (told_removal result) (rows_left ids.new row_epochs.new row_bytes.new) ≡ split_key flags_given removed_key_bytes rows_lent }
 {
     if !records::is_proper(flags, epochs, counts) {
-        return AnsweredRemoval::Refused(Refusal::BadTable);
+        return Err(Refusal::BadTable);
     }
     if removed_key_bytes == 0 {
-        return AnsweredRemoval::Done(StorageRemovedBytes {
+        return Ok(StorageRemovedBytes {
             removed: Removed::None,
         });
     }
     if !rows::rows_fit(1, ids, row_epochs, row_bytes) {
-        return AnsweredRemoval::Refused(Refusal::NoRoom);
+        return Err(Refusal::NoRoom);
     }
     rows::put_row(
         ids,
         row_epochs,
         row_bytes,
         0,
-        records::owner_id(flags).id,
+        records::id_of(flags),
         flags.base,
         removed_key_bytes,
     );
-    AnsweredRemoval::Done(StorageRemovedBytes {
+    Ok(StorageRemovedBytes {
         removed: Removed::Sectioned(1),
     })
 }

@@ -10,7 +10,7 @@ ghost use Rattle.splitting_spec.specs.Calls.{value_part, PlacedRemoval, split_va
 use crate::giving::{gives, visit};
 use records_spec::{Head, OwnerId, Refusal};
 use rows_spec::{Removed, StorageRemovedBytes};
-use splitting_spec::{Splitting, ValueSplit};
+use splitting_spec::ValueSplit;
 
 // Bytes in sections at the records, from the latest down while bytes are left, and the rest at the base. They make so many rows, which
 // are put from the back.
@@ -66,25 +66,25 @@ pub fn split_value_removed_bytes(
     ids: &mut [[u8; 32]],
     row_epochs: &mut [u16],
     row_bytes: &mut [u32],
-) -> Splitting
+) -> Result<ValueSplit, Refusal>
     ensures { let flags_given = flags_were flags epochs.now counts.now in
         let rows_lent = rows_were ids.old row_epochs.old row_bytes.old in
         after (told_split result) (rows_left ids.new row_epochs.new row_bytes.new) ≡ split_value flags_given removed_value_bytes rows_lent }
 {
     if !records::is_proper(flags, epochs, counts) {
-        return Splitting::Refused(Refusal::BadTable);
+        return Err(Refusal::BadTable);
     }
     let epochs = &epochs[..flags.records];
     let counts = &counts[..flags.records];
     let visited = visit(epochs, counts, removed_value_bytes);
     let rows = visited.records + usize::from(0 < visited.left);
     if !rows::rows_fit(rows, ids, row_epochs, row_bytes) {
-        return Splitting::Refused(Refusal::NoRoom);
+        return Err(Refusal::NoRoom);
     }
     let removal = sectioned_storage_removal(
         removed_value_bytes,
         flags.base,
-        records::owner_id(flags).id,
+        records::id_of(flags),
         epochs,
         counts,
         rows,
@@ -92,7 +92,7 @@ pub fn split_value_removed_bytes(
         row_epochs,
         row_bytes,
     );
-    Splitting::Done(ValueSplit {
+    Ok(ValueSplit {
         removal,
         visited: visited.records,
     })

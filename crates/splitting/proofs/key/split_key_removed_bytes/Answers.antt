@@ -1,8 +1,6 @@
 -- Of proper flags no bytes give no removal, and others one row, where it has room. Each return has its law.
-use Rattle.std.proofs.Common.{refl, sym, ap, ◌∙◌, arith}
+use Rattle.std.proofs.Common.{refl, sym, ◌∙◌, arith}
 use Rattle.records_spec.specs.Flags.{id_of, owner_of}
-use Rattle.records_spec.specs.declared.head.MaybeOwner.{MaybeOwner}
-use Rattle.records_spec.proofs.Owners.{owner_bytes_lem}
 use Rattle.splitting_spec.proofs.Calls.{key_none, key_put, key_short, key_bad, key_proper}
 use Rattle.splitting.proofs.key.split_key_removed_bytes.Goals as goal
 
@@ -21,6 +19,5 @@ returns-then-not-rows_fit c =
 
 pub returns : goal.returns
 returns c =
-    let ours = ap (λ (m : MaybeOwner). m.id) c.owner_id.ensures ∙ owner_bytes_lem (owner_of c.args.flags) in
     key_put _ _ _ _ (omega arith) (sym c.if-not-rows_fit.ensures) c.put_row.ensures
-    ∙ key_proper _ _ _ c.owner_id.result.id ours (sym c.if-not-is_proper.ensures)
+    ∙ key_proper _ _ _ c.id_of.result c.id_of.ensures (sym c.if-not-is_proper.ensures)

@@ -4,8 +4,6 @@ use Rattle.std.specs.Int.{from_bool}
 use Rattle.std.proofs.lemmas.List.{length-take}
 use Rattle.records_spec.specs.Tables.{At, records_of}
 use Rattle.records_spec.specs.Flags.{id_of, owner_of}
-use Rattle.records_spec.specs.declared.head.MaybeOwner.{MaybeOwner}
-use Rattle.records_spec.proofs.Owners.{owner_bytes_lem}
 use Rattle.records_spec.proofs.Proper.{IsProper, proper_inv, proper_above, proper_long}
 use Rattle.splitting_spec.specs.Sections.{sections, split}
 use Rattle.splitting_spec.specs.Inner.Visits.{rows_at_base}
@@ -81,8 +79,7 @@ sectioned_storage_removal-removal-requires-clause-rows_value c =
 pub returns : goal.returns
 returns c =
     let d = (goal.at.returns c).After-from in
-    let id = c.owner_id.result.id in
-    let ours = ap (λ (m : MaybeOwner). m.id) c.owner_id.ensures ∙ owner_bytes_lem (owner_of c.args.flags) in
+    let id = c.id_of.result in
     value_placed id c.args.flags.base (records d) _ _ _ _ (rows d) (visited d) (sym c.if-not-rows_fit.ensures)
     c.sectioned_storage_removal-removal.ensures
-    ∙ value_proper _ _ _ id ours (sym c.if-not-is_proper.ensures)
+    ∙ value_proper _ _ _ id c.id_of.ensures (sym c.if-not-is_proper.ensures)
