@@ -9,7 +9,7 @@ ghost use Rattle.records_spec.specs.Flags.{kind_of_byte};
 use capi_spec::{CHead, CRemoval};
 use codec_spec::Changes;
 use flags_spec::MergingOwnersStrategy;
-use records_spec::{Head, Kind, KindByte};
+use records_spec::{Head, Kind};
 use rows_spec::{Removed, StorageRemovedBytes};
 
 // Whether a byte says yes.
@@ -23,30 +23,21 @@ pub fn is_true(byte: u8) -> bool
 pub fn is_kind(byte: u8) -> bool
     ensures { result ≡ is_kind byte }
 {
-    match records::kind_of_byte(byte) {
-        KindByte::Known(_) => true,
-        KindByte::Unknown => false,
-    }
+    Kind::try_from(byte).is_ok()
 }
 
 // Whether flags are absent or their byte is that of a kind; absent ones are not looked at.
 pub fn is_kind_if(present: bool, flags: CHead) -> bool
     ensures { result ≡ is_kind_if present flags }
 {
-    if present {
-        return is_kind(flags.kind);
-    }
-    true
+    !present || is_kind(flags.kind)
 }
 
 // The kind of a byte; any, where it has none.
 fn kind_given(byte: u8) -> Kind
     ensures { result ≡ kind_found (kind_of_byte byte) }
 {
-    match records::kind_of_byte(byte) {
-        KindByte::Known(kind) => kind,
-        KindByte::Unknown => Kind::SingleEpoch,
-    }
+    Kind::try_from(byte).unwrap_or(Kind::SingleEpoch)
 }
 
 // The head that C's head stands for.
@@ -63,13 +54,14 @@ pub fn head_given(given: CHead) -> Head
 }
 
 // The changes, if given.
-pub fn changes_given(given: u8, count: u16, size: u8) -> Changes
+pub fn changes_given(given: u8, count: u16, size: u8) -> Option<Changes>
     ensures { result ≡ changes_given given count size }
 {
-    if 0 < given {
-        return Changes::Given(count, size);
+    if is_true(given) {
+        Some(Changes { count, size })
+    } else {
+        None
     }
-    Changes::NotGiven
 }
 
 // Whether a byte is that of a strategy.
@@ -83,23 +75,18 @@ pub fn is_strategy(byte: u8) -> bool
 pub fn strategy_given(byte: u8) -> MergingOwnersStrategy
     ensures { result ≡ strategy_given byte }
 {
-    if byte == 0 {
-        return MergingOwnersStrategy::RaiseIssue;
+    match byte {
+        0 => MergingOwnersStrategy::RaiseIssue,
+        1 => MergingOwnersStrategy::UseOurs,
+        _ => MergingOwnersStrategy::UseTheirs,
     }
-    if byte == 1 {
-        return MergingOwnersStrategy::UseOurs;
-    }
-    MergingOwnersStrategy::UseTheirs
 }
 
 // Whether the bytes that a merge is given are those of kinds and of a strategy; absent ours is not looked at.
 pub fn can_merge(present: bool, ours: CHead, theirs: CHead, strategy: u8) -> bool
     ensures { result ≡ can_merge present ours theirs strategy }
 {
-    if is_kind_if(present, ours) {
-        return is_kind(theirs.kind) & is_strategy(strategy);
-    }
-    false
+    is_kind_if(present, ours) && is_kind(theirs.kind) && is_strategy(strategy)
 }
 
 // The same for a merge with removed bytes, and whether the byte of the removal is one.
@@ -112,20 +99,14 @@ pub fn can_remove(
 ) -> bool
     ensures { result ≡ (can_merge present ours theirs strategy && is_removal removal.kind) }
 {
-    if can_merge(present, ours, theirs, strategy) {
-        return is_removal(removal.kind);
-    }
-    false
+    can_merge(present, ours, theirs, strategy) && is_removal(removal.kind)
 }
 
 // Whether the bytes of the old and the new flags are those of kinds; absent flags are not looked at.
 pub fn can_replace(old_present: u8, old_flags: CHead, new_present: u8, new_flags: CHead) -> bool
     ensures { result ≡ can_replace old_present old_flags new_present new_flags }
 {
-    if is_kind_if(is_true(old_present), old_flags) {
-        return is_kind_if(is_true(new_present), new_flags);
-    }
-    false
+    is_kind_if(is_true(old_present), old_flags) && is_kind_if(is_true(new_present), new_flags)
 }
 
 // Whether a byte is that of a removal.
@@ -139,24 +120,17 @@ pub fn is_removal(byte: u8) -> bool
 pub fn can_sum(lhs: CRemoval, rhs: CRemoval) -> bool
     ensures { result ≡ (is_removal lhs.kind && is_removal rhs.kind) }
 {
-    is_removal(lhs.kind) & is_removal(rhs.kind)
+    is_removal(lhs.kind) && is_removal(rhs.kind)
 }
 
 // The removal that C's removal stands for.
 pub fn removal_given(given: CRemoval) -> StorageRemovedBytes
     ensures { result.removed ≡ removed_given given }
 {
-    if given.kind == 0 {
-        return StorageRemovedBytes {
-            removed: Removed::None,
-        };
-    }
-    if given.kind == 1 {
-        return StorageRemovedBytes {
-            removed: Removed::Basic(given.bytes),
-        };
-    }
-    StorageRemovedBytes {
-        removed: Removed::Sectioned(given.rows),
-    }
+    let removed = match given.kind {
+        0 => Removed::None,
+        1 => Removed::Basic(given.bytes),
+        _ => Removed::Sectioned(given.rows),
+    };
+    StorageRemovedBytes { removed }
 }

@@ -1,13 +1,12 @@
 // What the calls answer, as C gets it. In a refused answer everything but the number is 0.
 #![tactic(auto)]
 
-ghost use Rattle.std.specs.Prelude.{◌≡◌};
+ghost use Rattle.std.specs.Prelude.{◌≡◌, Err};
 ghost use Rattle.records_spec.specs.Refusals.{number};
-ghost use Rattle.records_spec.specs.Answers.{counted, present_in};
-ghost use Rattle.rows_spec.specs.Calls.{decided, totalled, told_removal};
-ghost use Rattle.records_spec.specs.Outcomes.{refused, ok};
+ghost use Rattle.records_spec.specs.Answers.{present_in, head_in};
+ghost use Rattle.rows_spec.specs.Calls.{told_removal};
+ghost use Rattle.records_spec.specs.Outcomes.{answered, refused, ok};
 ghost use Rattle.splitting_spec.specs.Calls.{told_split};
-ghost use Rattle.repair_spec.specs.Calls.{told_repair};
 ghost use Rattle.records_spec.specs.Flags.{no_head};
 ghost use Rattle.rows_spec.specs.declared.removed.Removed.TheVariants.{None};
 ghost use Rattle.capi_spec.specs.Told.{head_told, flags_answer, count_told, truth_told, owner_told};
@@ -17,18 +16,18 @@ use capi_spec::{
     CCount, CFlags, CHead, CId, CMaybeOwner, COwner, CRemoval, CRepaired, CSum, CValueSplit,
 };
 use flags_spec::Choice;
-use records_spec::{Answered, Counted, Head, MaybeOwner, OWNER_LENGTH, Outcome, Refusal};
-use rows_spec::{AnsweredRemoval, HasRemoval, Removed, StorageRemovedBytes, TotalBytes};
-use splitting_spec::Splitting;
+use records_spec::{Head, OWNER_LENGTH, OwnerId, Refusal};
+use repair_spec::Sizes;
+use rows_spec::{Removed, StorageRemovedBytes};
+use splitting_spec::ValueSplit;
 
 // A head, its kind a byte.
 pub fn head_told(h: Head) -> CHead
     ensures { result ≡ head_told h }
 {
     let owner = h.owner;
-    let kind = h.kind;
     CHead {
-        kind: records::kind_byte(kind),
+        kind: u8::from(h.kind),
         base: h.base,
         owner,
         records: h.records,
@@ -36,28 +35,28 @@ pub fn head_told(h: Head) -> CHead
 }
 
 // Flags, none, or a refusal.
-pub fn flags_told(answered: Answered) -> CFlags
-    ensures { result ≡ flags_answer (present_in answered.outcome) answered.head }
+pub fn flags_told(answer: Result<Option<Head>, Refusal>) -> CFlags
+    ensures { result ≡ flags_answer (present_in answer) (head_in answer) }
 {
-    let outcome = answered.outcome;
-    let found = answered.head;
-    let head = head_told(found);
-    match outcome {
-        Outcome::Absent => CFlags {
-            refusal: 0,
-            present: 0,
-            head,
-        },
-        Outcome::Present => CFlags {
+    match answer {
+        Ok(Some(head)) => CFlags {
             refusal: 0,
             present: 1,
-            head,
+            head: head_told(head),
         },
-        Outcome::Refused(refusal) => CFlags {
-            refusal: records::number(refusal),
-            present: 0,
-            head,
-        },
+        Ok(None) => no_flags(0),
+        Err(refusal) => no_flags(u32::from(refusal)),
+    }
+}
+
+// No flags, with a refusal's number or 0.
+fn no_flags(refusal: u32) -> CFlags
+    ensures { result ≡ record { refusal = refusal; present = 0; head = head_told no_head } }
+{
+    CFlags {
+        refusal,
+        present: 0,
+        head: head_told(records::no_head()),
     }
 }
 
@@ -65,100 +64,78 @@ pub fn flags_told(answered: Answered) -> CFlags
 pub fn bad_flags() -> CFlags
     ensures { result ≡ flags_answer (refused (number Refusal.BadTable)) no_head }
 {
-    flags_told(records::refused(Refusal::BadTable))
-}
-
-// A number.
-fn some_number(count: u64) -> CCount
-    ensures { result ≡ record { refusal = 0; count = count } }
-{
-    CCount { refusal: 0, count }
-}
-
-// No number.
-fn no_number(refusal: u32) -> CCount
-    ensures { result ≡ record { refusal = refusal; count = 0 } }
-{
-    CCount { refusal, count: 0 }
+    flags_told(Err(Refusal::BadTable))
 }
 
 // A number, or a refusal.
-pub fn count_told(answer: Counted) -> CCount
-    ensures { result ≡ count_told (counted answer) }
+pub fn count_told(answer: Result<usize, Refusal>) -> CCount
+    ensures { result ≡ count_told (answered answer) }
 {
     match answer {
-        Counted::Count(n) => some_number(n as u64),
-        Counted::Refused(refusal) => no_number(records::number(refusal)),
+        Ok(n) => CCount {
+            refusal: 0,
+            count: n as u64,
+        },
+        Err(why) => CCount {
+            refusal: u32::from(why),
+            count: 0,
+        },
     }
 }
 
 // 1 or 0 for yes or no, or a refusal.
-pub fn has_told(answer: HasRemoval) -> CCount
-    ensures { result ≡ truth_told (decided answer) }
+pub fn has_told(answer: Result<bool, Refusal>) -> CCount
+    ensures { result ≡ truth_told (answered answer) }
 {
-    match answer {
-        HasRemoval::Yes => some_number(1),
-        HasRemoval::No => some_number(0),
-        HasRemoval::Refused(refusal) => no_number(records::number(refusal)),
-    }
+    count_told(answer.map(|yes| usize::from(yes)))
 }
 
 // A number of bytes, or a refusal.
-pub fn total_told(answer: TotalBytes) -> CCount
-    ensures { result ≡ count_told (totalled answer) }
+pub fn total_told(answer: Result<u32, Refusal>) -> CCount
+    ensures { result ≡ count_told (answered answer) }
 {
-    match answer {
-        TotalBytes::Bytes(n) => some_number(n as u64),
-        TotalBytes::Refused(refusal) => no_number(records::number(refusal)),
-    }
+    count_told(answer.map(|n| n as usize))
 }
 
 // The refusal where a byte of the old or the new flags names no kind.
 pub fn bad_table() -> CCount
     ensures { result ≡ count_told (refused (number Refusal.BadTable)) }
 {
-    count_told(Counted::Refused(Refusal::BadTable))
+    count_told(Err(Refusal::BadTable))
 }
 
 // Whose owner, or a refusal.
-pub fn owner_told(choice: Choice) -> COwner
+pub fn owner_told(choice: Result<Choice, Refusal>) -> COwner
     ensures { result ≡ owner_told choice }
 {
     match choice {
-        Choice::Neither => COwner {
+        Ok(Choice::Neither) => COwner {
             refusal: 0,
             which: 0,
         },
-        Choice::Ours => COwner {
+        Ok(Choice::Ours) => COwner {
             refusal: 0,
             which: 1,
         },
-        Choice::Theirs => COwner {
+        Ok(Choice::Theirs) => COwner {
             refusal: 0,
             which: 2,
         },
-        Choice::Refused(refusal) => COwner {
-            refusal: records::number(refusal),
+        Err(refusal) => COwner {
+            refusal: u32::from(refusal),
             which: 0,
         },
     }
 }
 
 // An owner or none.
-pub fn owner_id_told(owner: MaybeOwner) -> CMaybeOwner
+pub fn owner_id_told(owner: Option<OwnerId>) -> CMaybeOwner
     ensures { result ≡ owner_id_told (ok owner) }
 {
-    let bytes = owner.id;
-    if owner.owned {
-        return CMaybeOwner {
-            refusal: 0,
-            present: 1,
-            id: CId { bytes },
-        };
-    }
+    let bytes = owner.unwrap_or([0; OWNER_LENGTH]);
     CMaybeOwner {
         refusal: 0,
-        present: 0,
+        present: u8::from(owner.is_some()),
         id: CId { bytes },
     }
 }
@@ -168,10 +145,10 @@ pub fn no_owner_id(refusal: Refusal) -> CMaybeOwner
     ensures { result ≡ owner_id_told (refused (number refusal)) }
 {
     CMaybeOwner {
-        refusal: records::number(refusal),
+        refusal: u32::from(refusal),
         present: 0,
         id: CId {
-            bytes: [0u8; OWNER_LENGTH],
+            bytes: [0; OWNER_LENGTH],
         },
     }
 }
@@ -191,8 +168,7 @@ fn no_removal() -> CRemoval
 fn removal_told(state: StorageRemovedBytes) -> CRemoval
     ensures { result ≡ removal_told state.removed }
 {
-    let removed = state.removed;
-    match removed {
+    match state.removed {
         Removed::None => no_removal(),
         Removed::Basic(bytes) => CRemoval {
             kind: 1,
@@ -208,33 +184,33 @@ fn removal_told(state: StorageRemovedBytes) -> CRemoval
 }
 
 // A removal, or a refusal.
-pub fn sum_told(answered: AnsweredRemoval) -> CSum
-    ensures { result ≡ sum_answer (told_removal answered) }
+pub fn sum_told(answer: Result<StorageRemovedBytes, Refusal>) -> CSum
+    ensures { result ≡ sum_answer (told_removal answer) }
 {
-    match answered {
-        AnsweredRemoval::Done(state) => CSum {
+    match answer {
+        Ok(state) => CSum {
             refusal: 0,
             removal: removal_told(state),
         },
-        AnsweredRemoval::Refused(refusal) => CSum {
-            refusal: records::number(refusal),
+        Err(refusal) => CSum {
+            refusal: u32::from(refusal),
             removal: no_removal(),
         },
     }
 }
 
 // A removal and the number of records visited, or a refusal.
-pub fn split_told(splitting: Splitting) -> CValueSplit
-    ensures { result ≡ split_answer (told_split splitting) }
+pub fn split_told(answer: Result<ValueSplit, Refusal>) -> CValueSplit
+    ensures { result ≡ split_answer (told_split answer) }
 {
-    match splitting {
-        Splitting::Done(split) => CValueSplit {
+    match answer {
+        Ok(split) => CValueSplit {
             refusal: 0,
             removal: removal_told(split.removal),
             visited: split.visited,
         },
-        Splitting::Refused(refusal) => CValueSplit {
-            refusal: records::number(refusal),
+        Err(refusal) => CValueSplit {
+            refusal: u32::from(refusal),
             removal: no_removal(),
             visited: 0,
         },
@@ -242,17 +218,17 @@ pub fn split_told(splitting: Splitting) -> CValueSplit
 }
 
 // How many bytes and lines, or a refusal.
-pub fn repair_told(outcome: repair_spec::AnsweredRepair) -> CRepaired
-    ensures { result ≡ repair_answer (told_repair outcome) }
+pub fn repair_told(answer: Result<Sizes, Refusal>) -> CRepaired
+    ensures { result ≡ repair_answer (answered answer) }
 {
-    match outcome {
-        repair_spec::AnsweredRepair::Done { bytes, lines } => CRepaired {
+    match answer {
+        Ok(sizes) => CRepaired {
             refusal: 0,
-            bytes,
-            lines,
+            bytes: sizes.bytes,
+            lines: sizes.lines,
         },
-        repair_spec::AnsweredRepair::Refused(refusal) => CRepaired {
-            refusal: records::number(refusal),
+        Err(refusal) => CRepaired {
+            refusal: u32::from(refusal),
             bytes: 0,
             lines: 0,
         },
