@@ -1,6 +1,6 @@
 // The sizes of flag bytes.
 ghost use Rattle.std.specs.Prelude.{◌≡◌, ◌+◌, ◌*◌, ◌≤◌, leb, length};
-ghost use Rattle.records_spec.specs.Flags.{owned, owner_if, owner_of, owner_length};
+ghost use Rattle.records_spec.specs.Flags.{owner_of};
 ghost use Rattle.records_spec.specs.Answers.{counted, flags_were};
 ghost use Rattle.codec_spec.specs.Bytes.{owner_bytes, unowned_head, owned_head};
 ghost use Rattle.codec_spec.specs.Sizes.{changes_size, approximate, longest_record, largest_changes};
@@ -8,7 +8,7 @@ ghost use Rattle.codec_spec.specs.Inner.Sizes.{counts_size};
 ghost use Rattle.codec_spec.specs.Calls.{size_of};
 
 use codec_spec::{Changes, LONGEST_RECORD, OWNED_HEAD, UNOWNED_HEAD};
-use records_spec::{Counted, Head, Kind, OWNER_LENGTH, OwnerId, Refusal};
+use records_spec::{Counted, Head, Refusal};
 
 // The bytes of a head without an owner, as the 32 bits that document 01 asks for.
 const UNOWNED_32: u32 = UNOWNED_HEAD as u32;
@@ -22,7 +22,7 @@ fn changes_size(changes: Changes) -> u32
 {
     match changes {
         Changes::NotGiven => 0,
-        Changes::Given(count, bytes) => (count as u32) * (2 + bytes as u32),
+        Changes::Given(count, bytes) => u32::from(count) * (2 + u32::from(bytes)),
     }
 }
 
@@ -30,22 +30,17 @@ fn changes_size(changes: Changes) -> u32
 pub fn approximate_size(has_owner_id: bool, changes: Changes) -> u32
     ensures { result ≡ approximate has_owner_id changes }
 {
-    let size = changes_size(changes);
-    if has_owner_id {
-        return OWNED_32 + size;
-    }
-    UNOWNED_32 + size
+    let head = if has_owner_id { OWNED_32 } else { UNOWNED_32 };
+    head + changes_size(changes)
 }
 
 // The number of bytes of records with these counts.
 fn records_size(counts: &[u32]) -> usize
     ensures { (result ≡ counts_size counts.now) × (result ≤ longest_record * length counts.now) }
 {
-    let mut size: usize = 0;
-    let mut k: usize = 0;
-    while k < counts.len() {
-        size += 2 + fields::varint_len(counts[k]);
-        k += 1;
+    let mut size = 0;
+    for count in counts {
+        size += 2 + fields::varint_len(*count);
     }
     size
 }
@@ -55,33 +50,22 @@ fn records_size(counts: &[u32]) -> usize
 fn size_by_limits(counts: &[u32]) -> usize
     ensures { (result ≡ counts_size counts.now) × (result ≤ longest_record * length counts.now) }
 {
-    let mut size: usize = 0;
-    let mut k: usize = 0;
-    while k < counts.len() {
-        let count = counts[k];
-        size += 2 + fields::len_by_limits(count);
-        k += 1;
+    let mut size = 0;
+    for count in counts {
+        size += 2 + fields::len_by_limits(*count);
     }
     size
-}
-
-// The number of bytes of an owner, if there is one.
-fn owner_id_size(kind: Kind, owner: OwnerId) -> usize
-    ensures { (result ≡ length (owner_bytes (owner_if (owned kind) owner))) × (result ≤ owner_length) }
-{
-    if records::is_owned(kind) {
-        return OWNER_LENGTH;
-    }
-    0
 }
 
 // The number of bytes before the records.
 pub fn head_bytes_size(head: Head) -> usize
     ensures { (result ≡ unowned_head + length (owner_bytes (owner_of head))) × (result ≤ owned_head) }
 {
-    let kind = head.kind;
-    let owner = head.owner;
-    UNOWNED_HEAD + owner_id_size(kind, owner)
+    if records::is_owned(head.kind) {
+        OWNED_HEAD
+    } else {
+        UNOWNED_HEAD
+    }
 }
 
 // Whether `size` bytes and records with these counts fit in `room` bytes. The longest records are surely enough, and
@@ -89,14 +73,10 @@ pub fn head_bytes_size(head: Head) -> usize
 pub fn bytes_fit(size: usize, counts: &[u32], room: usize) -> bool
     ensures { result ≡ leb (size + counts_size counts.now) room }
 {
-    if room < size {
-        return false;
+    match room.checked_sub(size) {
+        Some(left) => LONGEST_RECORD * counts.len() <= left || size_by_limits(counts) <= left,
+        None => false,
     }
-    let left = room - size;
-    if LONGEST_RECORD * counts.len() <= left {
-        return true;
-    }
-    size_by_limits(counts) <= left
 }
 
 // The number of bytes of flags.
@@ -105,7 +85,8 @@ pub fn serialized_size(flags: Head, epochs: &[u16], counts: &[u32]) -> Counted
 {
     if records::is_proper(flags, epochs, counts) {
         let n = flags.records;
-        return Counted::Count(head_bytes_size(flags) + records_size(&counts[..n]));
+        Counted::Count(head_bytes_size(flags) + records_size(&counts[..n]))
+    } else {
+        Counted::Refused(Refusal::BadTable)
     }
-    Counted::Refused(Refusal::BadTable)
 }

@@ -17,12 +17,9 @@ fn put_owner(out: &mut [u8], at: usize, owner: OwnerId) -> usize
     requires { at + length owner ≤ length out.old }
     ensures { Put owner at result out.old out.new }
 {
-    let mut k: usize = 0;
-    while k < OWNER_LENGTH {
-        out[at + k] = owner[k];
-        k += 1;
-    }
-    at + OWNER_LENGTH
+    let behind = at + OWNER_LENGTH;
+    out[at..behind].copy_from_slice(&owner);
+    behind
 }
 
 // Writes what stands before the records at the start of `out`; answers the place behind it.
@@ -30,14 +27,13 @@ fn put_head(out: &mut [u8], head: Head) -> usize
     requires { unowned_head + length (owner_bytes (owner_of head)) ≤ length out.old }
     ensures { Put (head_bytes head.kind (owner_of head) head.base) 0 result out.old out.new }
 {
-    let kind = head.kind;
-    out[0] = records::kind_byte(kind);
-    if records::is_owned(kind) {
-        let owner = head.owner;
-        let at = put_owner(out, BEHIND_KIND, owner);
-        return fields::put_be16(out, at, head.base);
-    }
-    fields::put_be16(out, BEHIND_KIND, head.base)
+    out[0] = records::kind_byte(head.kind);
+    let at = if records::is_owned(head.kind) {
+        put_owner(out, BEHIND_KIND, head.owner)
+    } else {
+        BEHIND_KIND
+    };
+    fields::put_be16(out, at, head.base)
 }
 
 // Writes records at `at`; answers the place behind them.
@@ -47,11 +43,9 @@ fn put_records(out: &mut [u8], at: usize, epochs: &[u16], counts: &[u32]) -> usi
     ensures { Put (records_bytes (records_were epochs.now counts.now)) at result out.old out.new }
 {
     let mut i = at;
-    let mut k: usize = 0;
-    while k < epochs.len() {
-        let behind = fields::put_be16(out, i, epochs[k]);
-        i = fields::put_varint(out, behind, counts[k]);
-        k += 1;
+    for (epoch, count) in epochs.iter().zip(counts) {
+        let behind = fields::put_be16(out, i, *epoch);
+        i = fields::put_varint(out, behind, *count);
     }
     i
 }
@@ -60,13 +54,13 @@ fn put_records(out: &mut [u8], at: usize, epochs: &[u16], counts: &[u32]) -> usi
 pub fn serialize(flags: Head, epochs: &[u16], counts: &[u32], out: &mut [u8]) -> Counted
     ensures { after (counted result) out.new ≡ serialized (flags_were flags epochs.now counts.now) out.old }
 {
-    if records::is_proper(flags, epochs, counts) {
-        let n = flags.records;
-        if bytes_fit(head_bytes_size(flags), &counts[..n], out.len()) {
-            let at = put_head(out, flags);
-            return Counted::Count(put_records(out, at, &epochs[..n], &counts[..n]));
-        }
+    if !records::is_proper(flags, epochs, counts) {
+        return Counted::Refused(Refusal::BadTable);
+    }
+    let n = flags.records;
+    if !bytes_fit(head_bytes_size(flags), &counts[..n], out.len()) {
         return Counted::Refused(Refusal::NoRoom);
     }
-    Counted::Refused(Refusal::BadTable)
+    let at = put_head(out, flags);
+    Counted::Count(put_records(out, at, &epochs[..n], &counts[..n]))
 }

@@ -1,24 +1,21 @@
--- `codec_writing::sizes::size_by_limits` meets its contract: the sum so far and what the counts from k on add make the whole; a length is
--- found by limits.
--- Assumes nothing.
-use native.Mathlib.Omega.{arith}
+-- Each count adds two bytes and its varint, of which five bytes are the most.
+use Rattle.std.proofs.Common.{arith}
 use Rattle.codec_spec.proofs.Sizing.{summing_start, summing_step, summing_done}
 use Rattle.codec_writing.proofs.sizes.size_by_limits.Goals as goal
 
-pub loop-k-preserved : goal.loop-k-preserved
-loop-k-preserved c =
-    let l = c.loop-k in
-    summing_step l.invariant c.len_by_limits.result c.loop-k-test.true c.len_by_limits.ensures
-    (omega (arith, c.type_inv.counts l.k))
+pub loop-count-init : goal.loop-count-init
+loop-count-init c = summing_start _
 
-pub loop-k-init : goal.loop-k-init
-loop-k-init c = summing_start _
+pub loop-count-preserved : goal.loop-count-preserved
+loop-count-preserved c =
+    let l = c.loop-count in
+    summing_step l.invariant _ c.loop-count-test.true c.len_by_limits.ensures (omega (arith, c.type_inv.counts l.count-index))
 
 pub overflow_add-size : goal.overflow_add-size
-overflow_add-size c = omega (arith, loop-k-preserved c)
+overflow_add-size c = omega (arith, loop-count-preserved c)
 
-pub overflow_add-size-in-loop-k : goal.overflow_add-size-in-loop-k
-overflow_add-size-in-loop-k c = omega (arith, loop-k-preserved c)
+pub overflow_add-size-in-loop-count : goal.overflow_add-size-in-loop-count
+overflow_add-size-in-loop-count c = omega (arith, loop-count-preserved c)
 
 pub returns : goal.returns
-returns c = summing_done c.loop-k.invariant c.loop-k-test.false
+returns c = summing_done c.loop-count.invariant c.loop-count-test.false
