@@ -5,18 +5,14 @@ ghost use Rattle.rows_spec.specs.Inner.Rows.{Proper};
 ghost use Rattle.sums_spec.specs.Joins.{capped, joined};
 ghost use Rattle.sums_spec.specs.Inner.Sums.{Last};
 
-use fields::LARGEST;
-use rows_spec::Order;
+use std::cmp::Ordering;
 use sums_spec::LastRow;
 
 // Two numbers of bytes together, at most the largest.
 pub fn saturating_add(m: u32, n: u32) -> u32
     ensures { result ≡ capped m n }
 {
-    if LARGEST - m < n {
-        return LARGEST;
-    }
-    m + n
+    m.saturating_add(n)
 }
 
 // The last row of the join of our first i rows and their first j, of which there is one.
@@ -35,39 +31,31 @@ fn last_row(
     requires j_nonzero { 0 < j }
     ensures { Last (rows_were ids.now epochs.now bytes.now) (rows_were rhs_ids.now rhs_epochs.now rhs_bytes.now) i j result }
 {
-    let theirs = j - 1;
+    let theirs = LastRow {
+        id: rhs_ids[j - 1],
+        epoch: rhs_epochs[j - 1],
+        bytes: rhs_bytes[j - 1],
+        i,
+        j: j - 1,
+    };
     if i == 0 {
-        return LastRow {
-            id: rhs_ids[theirs],
-            epoch: rhs_epochs[theirs],
-            bytes: rhs_bytes[theirs],
-            i,
-            j: theirs,
-        };
+        return theirs;
     }
-    let ours = i - 1;
-    match rows::compare_rows(ids, epochs, ours, rhs_ids, rhs_epochs, theirs) {
-        Order::Less => LastRow {
-            id: rhs_ids[theirs],
-            epoch: rhs_epochs[theirs],
-            bytes: rhs_bytes[theirs],
-            i,
-            j: theirs,
+    let ours = LastRow {
+        id: ids[i - 1],
+        epoch: epochs[i - 1],
+        bytes: bytes[i - 1],
+        i: i - 1,
+        j,
+    };
+    match rows::compare_rows(ids, epochs, i - 1, rhs_ids, rhs_epochs, j - 1) {
+        Ordering::Less => theirs,
+        Ordering::Equal => LastRow {
+            bytes: saturating_add(ours.bytes, theirs.bytes),
+            j: j - 1,
+            ..ours
         },
-        Order::Equal => LastRow {
-            id: ids[ours],
-            epoch: epochs[ours],
-            bytes: saturating_add(bytes[ours], rhs_bytes[theirs]),
-            i: ours,
-            j: theirs,
-        },
-        Order::Greater => LastRow {
-            id: ids[ours],
-            epoch: epochs[ours],
-            bytes: bytes[ours],
-            i: ours,
-            j,
-        },
+        Ordering::Greater => ours,
     }
 }
 
@@ -89,6 +77,7 @@ pub fn count_joined(
     let mut i = n;
     let mut j = m;
     let mut count: usize = 0;
+    // A `while`: a step moves either place, or both.
     while 0 < j {
         let last = last_row(ids, epochs, bytes, i, rhs_ids, rhs_epochs, rhs_bytes, j);
         i = last.i;
@@ -123,12 +112,12 @@ pub fn join_in_place(
     let mut i = n;
     let mut j = m;
     let mut k = count;
+    // A `while`: a step moves either place, or both.
     while 0 < j {
         let last = last_row(ids, epochs, bytes, i, rhs_ids, rhs_epochs, rhs_bytes, j);
         i = last.i;
         j = last.j;
         k -= 1;
-        let id = last.id;
-        rows::put_row(ids, epochs, bytes, k, id, last.epoch, last.bytes);
+        rows::put_row(ids, epochs, bytes, k, last.id, last.epoch, last.bytes);
     }
 }
