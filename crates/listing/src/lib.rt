@@ -16,9 +16,6 @@ pub use lines::{put_number_line, put_text};
 use listing_spec::{MOST_LISTED, RECORD_PLACES};
 use records_spec::{Counted, Refusal};
 
-// What is listed of too many bytes.
-const TOO_LONG: &[u8] = b"too long\n";
-
 // Lists bytes that are not too many, by way of two tables that have room for the records of so many bytes.
 fn list_flags(src: &[u8], epochs: &mut [u16], counts: &mut [u32], out: &mut [u8]) -> Counted
     requires src_len_bound { length src.now ≤ most_listed }
@@ -32,15 +29,23 @@ fn list_flags(src: &[u8], epochs: &mut [u16], counts: &mut [u32], out: &mut [u8]
     Counted::Count(put_answer(out, answered, epochs, counts))
 }
 
+// Writes a text at the start of `out`, where it has room.
+fn write(text: &[u8], out: &mut [u8]) -> Counted
+    ensures { after (counted result) out.new ≡ writing text.now out.old }
+{
+    if out.len() < text.len() {
+        return Counted::Refused(Refusal::NoRoom);
+    }
+    Counted::Count(put_text(out, 0, text))
+}
+
 // Lists flag bytes at the start of `out`; answers the text's length.
+#[tactic(auto, using(listing_spec::proofs::Bounds::listed_long))]
 pub fn list(src: &[u8], out: &mut [u8]) -> Counted
     ensures { after (counted result) out.new ≡ writing (listed src.now) out.old }
 {
     if MOST_LISTED < src.len() {
-        if out.len() < TOO_LONG.len() {
-            return Counted::Refused(Refusal::NoRoom);
-        }
-        return Counted::Count(put_text(out, 0, TOO_LONG));
+        return write(b"too long\n", out);
     }
     let mut epochs = [0u16; RECORD_PLACES];
     let mut counts = [0u32; RECORD_PLACES];
