@@ -2,41 +2,45 @@
 #![tactic(auto)]
 
 ghost use Rattle.std.specs.Prelude.{◌+◌, ◌≤◌, ◌≡◌, length};
-ghost use Rattle.fields_spec.specs.Writing.{Put};
 ghost use Rattle.repair_spec.specs.Changes.{line};
 ghost use Rattle.change_lines_spec.specs.Text.{words, change_of};
-ghost use Rattle.change_lines_spec.specs.Inner.Chunks.{longest_words, longest_line, OneLine, Chunked};
+ghost use Rattle.change_lines_spec.specs.Inner.Chunks.{longest_line, OneLine, Chunked};
 
 use change_lines_spec::Chunk;
 use listing::{put_decimal, put_text};
+use repair_spec::Change;
 
 // The most bytes of a line: `longest_line`, by the proof of `put_lines`.
 const LONGEST_LINE: usize = 36;
 
-// Writes the words of the change with a number at `at`; answers the place behind them.
-fn put_words(out: &mut [u8], at: usize, change: u8) -> usize
-    requires { at + longest_words ≤ length out.old }
-    ensures { Put (words (change_of change)) at result out.old out.new }
+// The change that a number names; 7 is left where the others do not fit.
+fn change_of(number: u8) -> Change
+    ensures { result ≡ change_of number }
 {
-    if change == 1 {
-        return put_text(out, at, b"re-encoded");
+    match number {
+        1 => Change::ReEncoded,
+        2 => Change::TooLarge,
+        3 => Change::NotAboveBase,
+        4 => Change::Replaced,
+        5 => Change::TailCut,
+        6 => Change::Moved,
+        _ => Change::KindChanged,
     }
-    if change == 2 {
-        return put_text(out, at, b"too large");
+}
+
+// A change's words.
+fn words(change: Change) -> &'static [u8]
+    ensures { result.now ≡ words change }
+{
+    match change {
+        Change::ReEncoded => b"re-encoded",
+        Change::TooLarge => b"too large",
+        Change::NotAboveBase => b"not above base",
+        Change::Replaced => b"replaced",
+        Change::TailCut => b"tail cut",
+        Change::Moved => b"moved",
+        Change::KindChanged => b"kind changed",
     }
-    if change == 3 {
-        return put_text(out, at, b"not above base");
-    }
-    if change == 4 {
-        return put_text(out, at, b"replaced");
-    }
-    if change == 5 {
-        return put_text(out, at, b"tail cut");
-    }
-    if change == 6 {
-        return put_text(out, at, b"moved");
-    }
-    put_text(out, at, b"kind changed")
 }
 
 // Writes a line at `at`; answers the place behind it.
@@ -45,8 +49,8 @@ fn put_change_line(out: &mut [u8], at: usize, offset: usize, change: u8) -> usiz
     ensures { OneLine (line offset (change_of change)) at result out.old out.new }
 {
     let blank = put_decimal(out, at, offset as u64);
-    let words = put_text(out, blank, b" ");
-    let end = put_words(out, words, change);
+    let behind = put_text(out, blank, b" ");
+    let end = put_text(out, behind, words(change_of(change)));
     put_text(out, end, b"\n")
 }
 
@@ -56,14 +60,15 @@ pub fn put_lines(offsets: &[usize], changes: &[u8], from: usize, out: &mut [u8])
     requires longest_line_in_bounds { longest_line ≤ length out.old }
     ensures { Chunked offsets.now changes.now from result out.old out.new }
 {
-    let mut size: usize = 0;
-    let mut next = from;
-    while next < offsets.len() {
+    let mut size = 0;
+    for next in from..offsets.len() {
         if out.len() - size < LONGEST_LINE {
             return Chunk { next, size };
         }
         size = put_change_line(out, size, offsets[next], changes[next]);
-        next += 1;
     }
-    Chunk { next, size }
+    Chunk {
+        next: offsets.len(),
+        size,
+    }
 }
