@@ -1,14 +1,15 @@
 // The sizes of flag bytes.
 ghost use Rattle.std.specs.Prelude.{◌≡◌, ◌+◌, ◌*◌, ◌≤◌, leb, length};
 ghost use Rattle.records_spec.specs.Flags.{owner_of};
-ghost use Rattle.records_spec.specs.Answers.{counted, flags_were};
+ghost use Rattle.records_spec.specs.Answers.{flags_were};
+ghost use Rattle.records_spec.specs.Outcomes.{answered};
 ghost use Rattle.codec_spec.specs.Bytes.{owner_bytes, unowned_head, owned_head};
 ghost use Rattle.codec_spec.specs.Sizes.{changes_size, approximate, longest_record, largest_changes};
 ghost use Rattle.codec_spec.specs.Inner.Sizes.{counts_size};
 ghost use Rattle.codec_spec.specs.Calls.{size_of};
 
 use codec_spec::{Changes, LONGEST_RECORD, OWNED_HEAD, UNOWNED_HEAD};
-use records_spec::{Counted, Head, Refusal};
+use records_spec::{Head, Refusal};
 
 // The bytes of a head without an owner, as the 32 bits that document 01 asks for.
 const UNOWNED_32: u32 = UNOWNED_HEAD as u32;
@@ -17,17 +18,17 @@ const UNOWNED_32: u32 = UNOWNED_HEAD as u32;
 const OWNED_32: u32 = OWNED_HEAD as u32;
 
 // The size of so many changes.
-fn changes_size(changes: Changes) -> u32
+fn changes_size(changes: Option<Changes>) -> u32
     ensures { (result ≡ changes_size changes) × (result ≤ largest_changes) }
 {
     match changes {
-        Changes::NotGiven => 0,
-        Changes::Given(count, bytes) => u32::from(count) * (2 + u32::from(bytes)),
+        Some(changes) => u32::from(changes.count) * (2 + u32::from(changes.size)),
+        None => 0,
     }
 }
 
 // The size of flags before they are made.
-pub fn approximate_size(has_owner_id: bool, changes: Changes) -> u32
+pub fn approximate_size(has_owner_id: bool, changes: Option<Changes>) -> u32
     ensures { result ≡ approximate has_owner_id changes }
 {
     let head = if has_owner_id { OWNED_32 } else { UNOWNED_32 };
@@ -80,13 +81,13 @@ pub fn bytes_fit(size: usize, counts: &[u32], room: usize) -> bool
 }
 
 // The number of bytes of flags.
-pub fn serialized_size(flags: Head, epochs: &[u16], counts: &[u32]) -> Counted
-    ensures { counted result ≡ size_of (flags_were flags epochs.now counts.now) }
+pub fn serialized_size(flags: Head, epochs: &[u16], counts: &[u32]) -> Result<usize, Refusal>
+    ensures { answered result ≡ size_of (flags_were flags epochs.now counts.now) }
 {
     if records::is_proper(flags, epochs, counts) {
         let n = flags.records;
-        Counted::Count(head_bytes_size(flags) + records_size(&counts[..n]))
+        Ok(head_bytes_size(flags) + records_size(&counts[..n]))
     } else {
-        Counted::Refused(Refusal::BadTable)
+        Err(Refusal::BadTable)
     }
 }

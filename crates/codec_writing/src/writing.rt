@@ -5,12 +5,12 @@ ghost use Rattle.records_spec.specs.Flags.{owner_of};
 ghost use Rattle.codec_spec.specs.Bytes.{owner_bytes, head_bytes, records_bytes, unowned_head};
 ghost use Rattle.codec_spec.specs.Inner.Sizes.{counts_size};
 ghost use Rattle.codec_spec.specs.Calls.{serialized};
-ghost use Rattle.records_spec.specs.Outcomes.{after};
-ghost use Rattle.records_spec.specs.Answers.{counted, flags_were, records_were};
+ghost use Rattle.records_spec.specs.Outcomes.{after, answered};
+ghost use Rattle.records_spec.specs.Answers.{flags_were, records_were};
 
 use crate::sizes::{bytes_fit, head_bytes_size};
 use codec_spec::BEHIND_KIND;
-use records_spec::{Counted, Head, OWNER_LENGTH, OwnerId, Refusal};
+use records_spec::{Head, OWNER_LENGTH, OwnerId, Refusal};
 
 // Writes the owner's bytes at `at`; answers the place behind them.
 fn put_owner(out: &mut [u8], at: usize, owner: OwnerId) -> usize
@@ -27,7 +27,7 @@ fn put_head(out: &mut [u8], head: Head) -> usize
     requires { unowned_head + length (owner_bytes (owner_of head)) ≤ length out.old }
     ensures { Put (head_bytes head.kind (owner_of head) head.base) 0 result out.old out.new }
 {
-    out[0] = records::kind_byte(head.kind);
+    out[0] = u8::from(head.kind);
     let at = if records::is_owned(head.kind) {
         put_owner(out, BEHIND_KIND, head.owner)
     } else {
@@ -51,16 +51,21 @@ fn put_records(out: &mut [u8], at: usize, epochs: &[u16], counts: &[u32]) -> usi
 }
 
 // Writes proper flags at the start of `out`.
-pub fn serialize(flags: Head, epochs: &[u16], counts: &[u32], out: &mut [u8]) -> Counted
-    ensures { after (counted result) out.new ≡ serialized (flags_were flags epochs.now counts.now) out.old }
+pub fn serialize(
+    flags: Head,
+    epochs: &[u16],
+    counts: &[u32],
+    out: &mut [u8],
+) -> Result<usize, Refusal>
+    ensures { after (answered result) out.new ≡ serialized (flags_were flags epochs.now counts.now) out.old }
 {
     if !records::is_proper(flags, epochs, counts) {
-        return Counted::Refused(Refusal::BadTable);
+        return Err(Refusal::BadTable);
     }
     let n = flags.records;
     if !bytes_fit(head_bytes_size(flags), &counts[..n], out.len()) {
-        return Counted::Refused(Refusal::NoRoom);
+        return Err(Refusal::NoRoom);
     }
     let at = put_head(out, flags);
-    Counted::Count(put_records(out, at, &epochs[..n], &counts[..n]))
+    Ok(put_records(out, at, &epochs[..n], &counts[..n]))
 }
