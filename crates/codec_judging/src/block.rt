@@ -3,8 +3,8 @@ ghost use Rattle.std.specs.Prelude.{◌≡◌, ◌≤◌, length, drop};
 ghost use Rattle.codec_spec.specs.Reading.{parse};
 ghost use Rattle.codec_spec.specs.Inner.Blocks.{block_records, Blocked, scan_of};
 
-use crate::record::read_record;
-use codec_spec::{BLOCK_RECORDS, Block, GotRecord, Scan};
+use crate::record::{fault, read_record};
+use codec_spec::{BLOCK_RECORDS, Block, Fault};
 use records_spec::Refusal;
 
 // Reads records from `start` on, at most those of a block, and puts them at the start of the two tables.
@@ -14,40 +14,28 @@ pub fn read_block(
     base: u16,
     epochs: &mut [u16],
     counts: &mut [u32],
-) -> Block
+) -> Result<Block, Fault>
     requires start_in_bounds { start ≤ length src.now }
     requires block_records_in_bounds { (block_records ≤ length epochs.old) × (block_records ≤ length counts.old) }
     ensures { Blocked src.now start base result epochs.old counts.old epochs.new counts.new }
 {
-    let mut at = start;
-    let mut prev = base;
-    let mut n: usize = 0;
-    while n < BLOCK_RECORDS {
-        if src.len() <= at {
-            return Block::Read {
-                n,
-                next: at,
-                last: prev,
-            };
-        }
-        match read_record(src, at, prev) {
-            GotRecord::Bad(refusal) => {
-                return Block::Faulty(refusal, at);
-            }
-            GotRecord::Good { epoch, count, next } => {
-                epochs[n] = epoch;
-                counts[n] = count;
-                at = next;
-                prev = epoch;
-                n += 1;
-            }
-        }
+    let mut block = Block {
+        n: 0,
+        next: start,
+        last: base,
+    };
+    // The block grows by a record a turn, and may end before it is full.
+    while block.n < BLOCK_RECORDS && block.next < src.len() {
+        let record = read_record(src, block.next, block.last)?;
+        epochs[block.n] = record.epoch;
+        counts[block.n] = record.count;
+        block = Block {
+            n: block.n + 1,
+            next: record.next,
+            last: record.epoch,
+        };
     }
-    Block::Read {
-        n,
-        next: at,
-        last: prev,
-    }
+    Ok(block)
 }
 
 // Judges all records from `start` to the end, block by block. The two tables are room for a block; what they are left with says nothing.
@@ -57,7 +45,7 @@ pub fn judge_records(
     base: u16,
     epochs: &mut [u16],
     counts: &mut [u32],
-) -> Scan
+) -> Result<usize, Fault>
     requires start_in_bounds { start ≤ length src.now }
     requires block_records_in_bounds { (block_records ≤ length epochs.old) × (block_records ≤ length counts.old) }
     ensures { let parsed = parse start 0 base (drop start src.now) in
@@ -65,25 +53,16 @@ pub fn judge_records(
 {
     let mut at = start;
     let mut prev = base;
-    let mut n: usize = 0;
+    let mut n = 0;
+    // The place moves by the bytes of a block.
     while at < src.len() {
-        match read_block(src, at, prev, epochs, counts) {
-            Block::Faulty(refusal, place) => {
-                return Scan::Faulty(refusal, place);
-            }
-            Block::Read {
-                n: more,
-                next,
-                last,
-            } => {
-                at = next;
-                prev = last;
-                n += more;
-            }
-        }
+        let block = read_block(src, at, prev, epochs, counts)?;
+        at = block.next;
+        prev = block.last;
+        n += block.n;
     }
     if n == 0 {
-        return Scan::Faulty(Refusal::WrongSize, src.len());
+        return Err(fault(Refusal::WrongSize, src.len()));
     }
-    Scan::Records(n)
+    Ok(n)
 }

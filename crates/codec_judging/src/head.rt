@@ -12,9 +12,10 @@ pub fn head_size(kind: Kind) -> usize
     ensures { result ≡ head_size kind }
 {
     if records::is_owned(kind) {
-        return OWNED_HEAD;
+        OWNED_HEAD
+    } else {
+        UNOWNED_HEAD
     }
-    UNOWNED_HEAD
 }
 
 // The base epoch of flags of a kind.
@@ -22,10 +23,14 @@ pub fn base_in(kind: Kind, src: &[u8]) -> u16
     requires { head_size kind ≤ length src.now }
     ensures { result ≡ base_in kind src.now }
 {
-    if records::is_owned(kind) {
-        return fields::be16_at(src, BEHIND_OWNER);
-    }
-    fields::be16_at(src, BEHIND_KIND)
+    fields::be16_at(
+        src,
+        if records::is_owned(kind) {
+            BEHIND_OWNER
+        } else {
+            BEHIND_KIND
+        },
+    )
 }
 
 // The owner's bytes, behind the kind.
@@ -33,12 +38,8 @@ fn owner_bytes(src: &[u8]) -> OwnerId
     requires { behind_owner ≤ length src.now }
     ensures { result ≡ take owner_length (drop behind_kind src.now) }
 {
-    let mut owner = [0u8; OWNER_LENGTH];
-    let mut k: usize = 0;
-    while k < OWNER_LENGTH {
-        owner[k] = src[k + BEHIND_KIND];
-        k += 1;
-    }
+    let mut owner = [0; OWNER_LENGTH];
+    owner.copy_from_slice(&src[BEHIND_KIND..BEHIND_OWNER]);
     owner
 }
 
@@ -48,9 +49,10 @@ fn owner_in(kind: Kind, src: &[u8]) -> OwnerId
     ensures { result ≡ id_of (owner_in kind src.now) }
 {
     if records::is_owned(kind) {
-        return owner_bytes(src);
+        owner_bytes(src)
+    } else {
+        [0; OWNER_LENGTH]
     }
-    [0u8; OWNER_LENGTH]
 }
 
 // The head of flags of a kind with a number of records that goes with it.

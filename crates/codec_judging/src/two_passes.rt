@@ -5,7 +5,8 @@ ghost use Rattle.codec_spec.specs.Reading.{parse};
 ghost use Rattle.codec_spec.specs.Inner.Blocks.{block_records, Sound, filled, filled_from};
 
 use crate::block::judge_records;
-use codec_spec::Scan;
+use crate::record::fault;
+use codec_spec::Fault;
 use records_spec::Refusal;
 
 // Puts the n records from `start` on into the two tables from the place k on; answers the place behind them.
@@ -24,16 +25,14 @@ fn fill_records(
 {
     let end = k + n;
     let mut at = start;
-    let mut i = k;
-    while i < end {
+    for i in k..end {
         let epoch = fields::be16_at(src, at);
         let varint = fields::varint_at(src, at + 2);
         epochs[i] = epoch;
         counts[i] = varint.count;
         at = varint.next;
-        i += 1;
     }
-    i
+    end
 }
 
 // Reads the records from `at` on, after one at the epoch `prev`, and puts them into the lent tables from the place k on. The last two
@@ -47,19 +46,16 @@ pub fn read_twice(
     counts: &mut [u32],
     block_epochs: &mut [u16],
     block_counts: &mut [u32],
-) -> Scan
+) -> Result<usize, Fault>
     requires k_le_at { (k ≤ at) × (at < length src.now) }
     requires block_records_in_bounds { (block_records ≤ length block_epochs.old) × (block_records ≤ length block_counts.old) }
     ensures { let parsed = parse at 0 prev (drop at src.now) in
         filled result epochs.new counts.new ≡ filled_from (length src.now) k parsed.fault parsed.records epochs.old counts.old }
 {
-    match judge_records(src, at, prev, block_epochs, block_counts) {
-        Scan::Faulty(refusal, place) => Scan::Faulty(refusal, place),
-        Scan::Records(n) => {
-            if records::fit(k + n, epochs.len(), counts.len()) {
-                return Scan::Records(fill_records(src, at, n, epochs, counts, k));
-            }
-            Scan::Faulty(Refusal::NoRoom, src.len())
-        }
+    let n = judge_records(src, at, prev, block_epochs, block_counts)?;
+    if records::fit(k + n, epochs.len(), counts.len()) {
+        Ok(fill_records(src, at, n, epochs, counts, k))
+    } else {
+        Err(fault(Refusal::NoRoom, src.len()))
     }
 }

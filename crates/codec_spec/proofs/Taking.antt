@@ -43,8 +43,10 @@ module _ {d : List ℕ} {at prev n j e : ℕ} {es₀ cs₀ es cs : List ℕ} (t 
 
   module _ (inside : j < length d) where
     -- the next record is at fault
-    pub taken_bad : (r : Refusal) → got_of j (next e (drop j d)) ≡ Err r → (rest d at prev).fault ≡ Some (fault_at r j)
-    taken_bad r q = t.fault_on ∙ ap (λ (p : Parsed). p.fault) (rest_bad d j e r inside (got_bad j (next e (drop j d)) r q))
+    pub taken_bad : (f : Fault) → got_of j (next e (drop j d)) ≡ Err f → (rest d at prev).fault ≡ Some f
+    taken_bad f q =
+        let bad = got_bad j (next e (drop j d)) f q in
+        t.fault_on ∙ ap (λ (p : Parsed). p.fault) (rest_bad d j e f.refusal inside bad.0) ∙ ap Some (sym bad.1)
 
     -- the next record is read too
     pub taken_more : (y : GotRecord) → got_of j (next e (drop j d)) ≡ Ok y

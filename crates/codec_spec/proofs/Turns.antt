@@ -1,5 +1,5 @@
 -- A record that was read, and records that were scanned, as the code tells it. Assumes nothing.
-use Rattle.std.specs.Prelude.{Ok, Err}
+use Rattle.std.specs.Prelude.{Result, Ok, Err}
 use Prim.Native.Nat.{ℕ, ◌+◌}
 use native.Mathlib.Omega.{arith}
 use mathlib.Core.Path.{◌≡◌, sym, ap, ap₂, ◌∙◌}
@@ -14,15 +14,23 @@ use Rattle.codec_spec.specs.Reading.{Next, bad, good, fault_at}
 use Rattle.codec_spec.specs.Inner.Blocks.{scan_of, got_of}
 
 -- a record that was read
-pub got_bad : (at : ℕ) (n : Next) (r : Refusal) → got_of at n ≡ Err r → n ≡ bad r
-got_bad at (bad s) r e = cc
-got_bad at (good a u) r e = cc
+pub got_bad : (at : ℕ) (n : Next) (f : Fault) → got_of at n ≡ Err f → (n ≡ bad f.refusal) × (f ≡ fault_at f.refusal at)
+got_bad at (bad r) f e =
+    let is : fault_at r at ≡ f = cc in
+    let why = ap (λ (g : Fault). g.refusal) is in
+    (ap bad why, sym is ∙ ap (λ (s : Refusal). fault_at s at) why)
+got_bad at (good a u) f e = let z : ◌≡◌ {A = ℕ} 0 1 = cc in absurd (omega arith)
 
 pub got_good : (at : ℕ) (n : Next) (g : GotRecord) → got_of at n ≡ Ok g → (u : ℕ) × (n ≡ good (g.epoch ⦂ g.count) u) × (g.next ≡ at + u)
 got_good at (bad s) g q = let z : ◌≡◌ {A = ℕ} 0 1 = cc in absurd (omega arith)
 got_good at (good a u) g q =
     let s : record { epoch = a.epoch; count = a.bytes; next = at + u } ≡ g = cc in
     (u, ap (λ (y : GotRecord). good (y.epoch ⦂ y.count) u) s, sym (ap (λ (y : GotRecord). y.next) s))
+
+-- a record that was got ends where it ends
+pub got_here : (e k i j : ℕ) → i ≡ j
+    → ◌≡◌ {A = Result GotRecord Fault} (Ok (record { epoch = e; count = k; next = i })) (Ok (record { epoch = e; count = k; next = j }))
+got_here e k i j q = λ z. Ok (record { epoch = e; count = k; next = q z })
 
 -- no record, and one or more
 pub scan_none : (end n : ℕ) (f : Option Fault) → f ≡ None → n ≡ 0 → Err (fault_at WrongSize end) ≡ scan_of end f n

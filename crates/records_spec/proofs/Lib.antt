@@ -15,3 +15,4 @@ pub mod Merged
 pub mod Runs
 pub mod Expected
 pub mod Guarded
+pub mod Naming

@@ -16,8 +16,8 @@ use Rattle.records_spec.specs.declared.head.Kind.{Kind}
 use Rattle.codec_spec.specs.Bytes.{head_size}
 
 -- a record at a place, as reading answers it
-abbrev pub got_of : ℕ → Next → Result GotRecord Refusal
-got_of at (bad r) = Err r
+abbrev pub got_of : ℕ → Next → Result GotRecord Fault
+got_of at (bad r) = Err (fault_at r at)
 got_of at (good r used) = Ok (record { epoch = r.epoch; count = r.bytes; next = at + used })
 
 -- the first n records from the place at on, after one at the epoch prev, were put at the start of two tables; they end before the place
