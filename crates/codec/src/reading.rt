@@ -22,13 +22,8 @@ fn read_multi(kind: Kind, src: &[u8], epochs: &mut [u16], counts: &mut [u32]) ->
     let base = base_in(kind, src);
     match read_blocks(src, size, base, 0, epochs, counts) {
         Scan::Faulty(refusal, _) => records::refused(refusal),
-        Scan::Records(n) => {
-            if n == 0 {
-                return records::refused(Refusal::WrongSize);
-            }
-            let head = head_in(kind, src, n);
-            records::present(head)
-        }
+        Scan::Records(0) => records::refused(Refusal::WrongSize),
+        Scan::Records(n) => records::present(head_in(kind, src, n)),
     }
 }
 
@@ -38,10 +33,10 @@ fn read_single(kind: Kind, src: &[u8]) -> Answered
     ensures { (es cs : List ℕ) → shown result (lending es cs) ≡ deserialized_as kind src.now (lending es cs) }
 {
     if src.len() == head_size(kind) {
-        let head = head_in(kind, src, 0);
-        return records::present(head);
+        records::present(head_in(kind, src, 0))
+    } else {
+        records::refused(Refusal::WrongSize)
     }
-    records::refused(Refusal::WrongSize)
 }
 
 // Reads flags of a kind, without a look at byte 0.
@@ -49,9 +44,10 @@ fn read_as(kind: Kind, src: &[u8], epochs: &mut [u16], counts: &mut [u32]) -> An
     ensures { shown result (tables_left epochs.new counts.new) ≡ deserialized_as kind src.now (tables_were epochs.old counts.old) }
 {
     if records::is_multi(kind) {
-        return read_multi(kind, src, epochs, counts);
+        read_multi(kind, src, epochs, counts)
+    } else {
+        read_single(kind, src)
     }
-    read_single(kind, src)
 }
 
 // Reads flags of kind 0, whatever byte 0 says.
@@ -90,10 +86,10 @@ pub fn deserialize_multi_epoch_owned(src: &[u8], epochs: &mut [u16], counts: &mu
 pub fn deserialize(src: &[u8], epochs: &mut [u16], counts: &mut [u32]) -> Answered
     ensures { shown result (tables_left epochs.new counts.new) ≡ deserialized src.now (tables_were epochs.old counts.old) }
 {
-    if src.len() == 0 {
+    let Some(byte) = src.first() else {
         return records::absent();
-    }
-    match records::kind_of_byte(src[0]) {
+    };
+    match records::kind_of_byte(*byte) {
         KindByte::Known(kind) => read_as(kind, src, epochs, counts),
         KindByte::Unknown => records::refused(Refusal::UnknownType),
     }
