@@ -9,7 +9,7 @@ use native.Mathlib.Omega.{arith}
 use lib.ListN.{length}
 use Rattle.records_spec.specs.Outcomes.{leaving, refusing}
 use Rattle.records_spec.specs.declared.refusal.Refusal.TheVariants.{NoRoom}
-use Rattle.rows_spec.specs.Calls.{placing_removal}
+use Rattle.rows_spec.specs.Calls.{RemovalAfter, placing_removal}
 use Rattle.rows_spec.specs.Rows.{Row, Tables, rows_in, room_in, over_rows, Room}
 use Rattle.rows_spec.specs.Removals.{Removal, nothing, basic, sectioned, removal_in, proper_in, rows_of_removal, state_of}
 use Rattle.rows_spec.specs.Theorems.{done, StandsFor}
@@ -50,6 +50,11 @@ module _ (rs : List Row) (count : ℕ) (t : Tables) (e : count ≡ length rs) wh
 
   pub placing_short : room_in count t ≡ false → refusing NoRoom t ≡ placing_removal (sectioned rs) t
   placing_short = counted_short (sectioned rs) count t e
+
+-- the same rows, said otherwise
+pub placed_rows : (t : Tables) {r : RemovalAfter} {rs ss : List Row}
+    → r ≡ placing_removal (sectioned rs) t → rs ≡ ss → r ≡ placing_removal (sectioned ss) t
+placed_rows t e f = e ∙ ap (λ (l : List Row). placing_removal (sectioned l) t) f
 
 -- ---- a removal that stands in the tables stays
 

@@ -142,7 +142,8 @@ asc_drop [] (suc i) h = h
 asc_drop (a ∷ l) (suc i) h = asc_drop l i (asc_tail a l h)
 
 module _ {n : ℕ} {t : Tables} (r : Room n t) (i : ℕ) where
-  pub asc_at : i + 1 < n → ascends (drop i (rows_in n t)) ≡ (is_less (compared (row_at t i) (row_at t (i + 1))) && ascends (drop (i + 1) (rows_in n t)))
+  pub asc_at : i + 1 < n
+      → ascends (drop i (rows_in n t)) ≡ (is_less (compared (row_at t i) (row_at t (i + 1))) && ascends (drop (i + 1) (rows_in n t)))
   unfolding ascends
   asc_at h = rw (rows_on r i (omega arith), rows_on r (i + 1) h)
 

@@ -94,7 +94,8 @@ pub add_fused : (a x : Row) (m : List Row) → compared a x ≡ Equal → add_ro
 add_fused a x [] e = ap (add_row a) (add_none x) ∙ add_at a x [] Equal e ∙ sym (add_none (plus a x))
 add_fused a x (y ∷ m) e = go (compared x y) refl (add_fused a x m e)
   where
-    go : (p : Ordering) → compared x y ≡ p → add_row a (add_row x m) ≡ add_row (plus a x) m → add_row a (add_row x (y ∷ m)) ≡ add_row (plus a x) (y ∷ m)
+    go : (p : Ordering) → compared x y ≡ p → add_row a (add_row x m) ≡ add_row (plus a x) m
+        → add_row a (add_row x (y ∷ m)) ≡ add_row (plus a x) (y ∷ m)
     go Less p ih =
         ap (add_row a) (add_at x y m Less p) ∙ add_at a x (y ∷ m) Equal e ∙ sym (add_at (plus a x) y m Less (left_same y a x e ∙ p))
     go Equal p ih =

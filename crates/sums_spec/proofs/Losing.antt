@@ -1,21 +1,28 @@
 -- The rows of the zero identifier stand first, since no identifier of 32 bytes is less; what is lost of them at version 0.
 -- Assumes nothing.
-use mathlib.Core.Path.{◌≡◌, refl, sym, ap, ◌∙◌}
-use mathlib.Core.Bool.{Bool, true, false, cond}
+use mathlib.Core.Path.{◌≡◌, refl, sym, ap, ◌∙◌, subst}
+use mathlib.Core.Bool.{Bool, true, false, cond, ◌&&◌}
 use mathlib.Core.List.{List, [], ◌∷◌}
-use Prim.Native.Nat.{ℕ, ◌+◌, ◌≤◌, ◌<◌}
+use Prim.Native.Nat.{ℕ, suc, ◌+◌, ◌≤◌, ◌<◌}
 use native.Mathlib.Omega.{arith}
 use lib.Dec.{leb, ltb}
-use lib.ListN.{length, drop, get_or}
+use lib.ListN.{length, take, drop, get_or}
+use lib.Seq.{length-take-le, get_or-take}
 use borrow.Author.Tests.{lt-ltb, le-ltb, le-leb, lt-leb}
 use Rattle.records_spec.specs.Flags.{owner_length, zeros, same}
 use Rattle.records_spec.proofs.Owners.{same_self, same_equal}
 use Rattle.rows_spec.specs.Order.{order}
-use Rattle.rows_spec.specs.Rows.{Row, compared, ascends, Tables, rows_in, row_at}
+use Rattle.rows_spec.specs.Rows.{Row, compared, ascends, ids_of, Tables, rows_in}
 use Rattle.rows_spec.specs.Inner.Rows.{Proper}
+use Rattle.std.specs.Prelude.{nat_eq}
+use Rattle.std.specs.Cmp.Lexicographic.{pointwise}
+use Rattle.std.specs.List.{prefix_len}
+use Rattle.std.proofs.lemmas.List.Sums.{prefix_len-le-length}
+use Rattle.std.specs.declared.cmp.Ordering.{Ordering}
 use Rattle.std.specs.declared.cmp.Ordering.TheVariants.{Less, Equal, Greater}
-use Rattle.rows_spec.proofs.Comparing.{order_same, order_self, compared_parts}
-use Rattle.rows_spec.proofs.Rows.{rows_on, rows_end, asc_drop}
+use Rattle.rows_spec.proofs.Comparing.{order_same, compared_parts, zeros_least}
+use Rattle.rows_spec.proofs.Rows.{length_rows, asc_tail}
+use Rattle.rows_spec.proofs.Columns.{length_ids, columns}
 use Rattle.sums_spec.specs.Joins.{add_row}
 use Rattle.sums_spec.specs.Sums.{unknown, of_zeros, any_of_zeros, without_zeros, basic_plus}
 use Rattle.sums_spec.specs.Inner.Sums.{Lost}
@@ -25,13 +32,6 @@ use Rattle.sums_spec.proofs.Joining.{AllAfter, all_after}
 
 pub zero_same : (i : List ℕ) → order i zeros ≡ Equal → same i zeros ≡ true
 zero_same i h = ap (λ (x : List ℕ). same x zeros) (order_same i zeros h) ∙ same_self zeros
-
-pub zero_other : (i : List ℕ) → order i zeros ≡ Greater → same i zeros ≡ false
-zero_other i h = go (same i zeros) refl
-  where
-    go : (b : Bool) → same i zeros ≡ b → b ≡ false
-    go true e = let f : Greater ≡ Equal = sym h ∙ ap (λ (x : List ℕ). order x zeros) (same_equal i zeros e) ∙ order_self zeros in cc
-    go false e = refl
 
 -- behind a row above the zeros none has the zero identifier
 later_other : (a b : Row) → length a.identifier ≡ owner_length → order a.identifier zeros ≡ Greater → compared a b ≡ Less → of_zeros b ≡ false
@@ -75,56 +75,78 @@ module _ (a : Row) (l : length a.identifier ≡ owner_length) (h : order a.ident
   none_there [] k = refl
   none_there (b ∷ rs) k = any_other b rs (later_other a b l h k.0) ∙ none_there rs k.1
 
--- the first k of n rows have the zero identifier
-pub record Losing (rs : List Row) (k : ℕ) : Type 0 where
-  pub others : without_zeros rs ≡ without_zeros (drop k rs)
-  pub some_lost : any_of_zeros rs ≡ cond (ltb 0 k) true (any_of_zeros (drop k rs))
+-- whether an identifier is zero, as `==` tells it
+abbrev pub is_zero : List ℕ → Bool
+is_zero i = pointwise nat_eq i zeros
 
-pub losing_start : (rs : List Row) → Losing rs 0
-losing_start rs = record { others = refl; some_lost = refl }
+same_is : (xs ys : List ℕ) → same xs ys ≡ pointwise nat_eq xs ys
+unfolding same
+same_is [] [] = refl
+same_is [] (y ∷ ys) = refl
+same_is (x ∷ xs) [] = refl
+same_is (x ∷ xs) (y ∷ ys) = ap (λ (b : Bool). nat_eq x y && b) (same_is xs ys)
 
-or_false : (b : Bool) → cond b true false ≡ b
-or_false true = refl
-or_false false = refl
+module _ (a : Row) (rs : List Row) where
+  first_zero : of_zeros a ≡ true → prefix_len is_zero (ids_of (a ∷ rs)) ≡ 1 + prefix_len is_zero (ids_of rs)
+  unfolding ids_of
+  first_zero z = rw (sym (same_is a.identifier zeros) ∙ z)
 
-or_true : (b : Bool) → cond b true true ≡ true
-or_true true = refl
-or_true false = refl
+  first_other : of_zeros a ≡ false → prefix_len is_zero (ids_of (a ∷ rs)) ≡ 0
+  unfolding ids_of
+  first_other z = rw (sym (same_is a.identifier zeros) ∙ z)
 
-module _ {n : ℕ} {t : Tables} (p : Proper n t) (k : ℕ) (w : Losing (rows_in n t) k) where
-  pub losing_more : k < n → order (get_or t.ids k []) zeros ≡ Equal → Losing (rows_in n t) (k + 1)
-  losing_more h e =
-      let z = zero_same (get_or t.ids k []) e in
-      let on = rows_on p.room k h in
-      let rest = drop (k + 1) (rows_in n t) in
-      record {
-        others = w.others ∙ ap without_zeros on ∙ without_zero (row_at t k) rest z;
-        some_lost = w.some_lost ∙ ap (cond (ltb 0 k) true) (ap any_of_zeros on ∙ any_zero (row_at t k) rest z) ∙ or_true (ltb 0 k)
-            ∙ sym (ap (λ (b : Bool). cond b true (any_of_zeros rest)) (lt-ltb 0 (k + 1) (omega arith)));
-      }
+-- an identifier of 32 bytes that is not zero is above zero
+above_zero : (i : List ℕ) → length i ≡ owner_length → same i zeros ≡ false → order i zeros ≡ Greater
+above_zero i l z = go (order i zeros) refl
+  where
+    go : (o : Ordering) → order i zeros ≡ o → o ≡ Greater
+    go Less e = absurd (zeros_least owner_length i l e)
+    go Equal e = let f = zero_same i e in cc
+    go Greater e = refl
 
-  pub losing_stop : k < n → length (get_or t.ids k []) ≡ owner_length → order (get_or t.ids k []) zeros ≡ Greater → Lost (rows_in n t) n k
-  losing_stop h l e =
-      let a = row_at t k in
-      let z = zero_other (get_or t.ids k []) e in
-      let on = rows_on p.room k h in
-      let rest = drop (k + 1) (rows_in n t) in
-      let after = all_after a rest (ap ascends (sym on) ∙ asc_drop (rows_in n t) k p.rises) in
-      record {
-        within = omega arith;
-        others = w.others ∙ ap without_zeros on ∙ without_other a rest z ∙ ap (λ (m : List Row). a ∷ m) (none_lost a l e rest after) ∙ sym on;
-        some_lost = w.some_lost ∙ ap (cond (ltb 0 k) true) (ap any_of_zeros on ∙ any_other a rest z ∙ none_there a l e rest after)
-            ∙ or_false (ltb 0 k);
-      }
+-- every identifier has 32 bytes
+abbrev pub AllLong : List (List ℕ) → Type 0
+AllLong is = (i : ℕ) → i < length is → length (get_or is i []) ≡ owner_length
 
-  pub losing_end : k ≤ n → n ≤ k → Lost (rows_in n t) n k
-  unfolding without_zeros any_of_zeros
-  losing_end g h = record {
-    within = g;
-    others = w.others ∙ rw (rows_end p.room k h);
-    some_lost = w.some_lost
-        ∙ rw (rows_end p.room k h) (or_false (ltb 0 k));
-  }
+-- the rows of the zero identifier are the first
+abbrev ZerosFirst : List Row → Type 0
+ZerosFirst rs =
+    let k = prefix_len is_zero (ids_of rs) in (without_zeros rs ≡ drop k rs) × (any_of_zeros rs ≡ ltb 0 k)
+
+-- those of ascending rows are
+zeros_first : (rs : List Row) → AllLong (ids_of rs) → ascends rs ≡ true → ZerosFirst rs
+unfolding without_zeros any_of_zeros ids_of
+zeros_first [] long s = (refl, refl)
+zeros_first (a ∷ rs) long s = go (of_zeros a) refl (zeros_first rs (λ i h. long (suc i) (omega arith)) (asc_tail a rs s))
+  where
+    go : (b : Bool) → of_zeros a ≡ b → ZerosFirst rs → ZerosFirst (a ∷ rs)
+    go true z ih =
+        let k = prefix_len is_zero (ids_of rs) in
+        let e : suc k ≡ prefix_len is_zero (ids_of (a ∷ rs)) = omega (arith, first_zero a rs z) in
+        (without_zero a rs z ∙ ih.0 ∙ ap (λ (m : ℕ). drop m (a ∷ rs)) e, any_zero a rs z ∙ sym (lt-ltb 0 _ (omega (arith, e))))
+    go false z ih =
+        let l = long 0 (omega arith) in
+        let g = above_zero a.identifier l z in
+        let after = all_after a rs s in
+        let e = sym (first_other a rs z) in (
+          without_other a rs z ∙ ap (λ (m : List Row). a ∷ m) (none_lost a l g rs after) ∙ ap (λ (m : ℕ). drop m (a ∷ rs)) e,
+          any_other a rs z ∙ none_there a l g rs after ∙ ap (ltb 0) e,
+        )
+
+-- how many are lost of the first n rows
+pub lost_first : {n : ℕ} {t : Tables} {k : ℕ} → Proper n t → AllLong t.ids → k ≡ prefix_len is_zero (take n t.ids) → Lost (rows_in n t) n k
+lost_first {n} {t} p long e =
+    let l = length-take-le n t.ids p.room.ids_long in
+    let column = (columns p.room).ids_first in
+    let first : AllLong (take n t.ids) = λ i h.
+    ap (length {A = ℕ}) (get_or-take n t.ids i [] (omega (arith, l))) ∙ long i (omega (arith, l, p.room.ids_long)) in
+    let z = zeros_first (rows_in n t) (subst AllLong (sym column) first) p.rises in
+    subst (Lost (rows_in n t) n) (ap (prefix_len is_zero) column ∙ sym e)
+    (record {
+      within = omega (arith, prefix_len-le-length is_zero (ids_of (rows_in n t)), length_ids (rows_in n t), length_rows p.room);
+      others = z.0;
+      some_lost = z.1;
+    })
 
 -- ---- a basic number plus rows
 

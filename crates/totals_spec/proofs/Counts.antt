@@ -30,7 +30,8 @@ unfolding count_at
 count_none k = refl
 
 -- by how it stands to the first
-pub count_cons : (k r : Row) (rs : List Row) (o : Ordering) → compared k r ≡ o → count_at k (r ∷ rs) ≡ cond (is_equal o) r.part.bytes 0 + count_at k rs
+pub count_cons : (k r : Row) (rs : List Row) (o : Ordering) → compared k r ≡ o
+    → count_at k (r ∷ rs) ≡ cond (is_equal o) r.part.bytes 0 + count_at k rs
 unfolding count_at
 count_cons k r rs o h = ap (λ (p : Ordering). cond (is_equal p) r.part.bytes 0 + count_at k rs) h
 

@@ -169,7 +169,8 @@ pub put_back : (r : Row) (l : List Row) → ascends l ≡ true → all_positive 
 put_back r [] s a = ap (λ (n : ℕ). put_total (with_total r n) []) (total_none r) ∙ put_none (with_total r 0)
 put_back r (b ∷ l) s a = go (compared r b) refl (put_back r l (asc_tail b l s) (above_tail b l a))
   where
-    go : (o : Ordering) → compared r b ≡ o → put_total (with_total r (total_at r l)) l ≡ l → put_total (with_total r (total_at r (b ∷ l))) (b ∷ l) ≡ b ∷ l
+    go : (o : Ordering) → compared r b ≡ o → put_total (with_total r (total_at r l)) l ≡ l
+        → put_total (with_total r (total_at r (b ∷ l))) (b ∷ l) ≡ b ∷ l
     go Less e ih = ap (λ (n : ℕ). put_total (with_total r n) (b ∷ l)) (total_before r (b ∷ l) e s) ∙ put_at (with_total r 0) b l Less e
     go Equal e ih =
         ap (λ (n : ℕ). put_total (with_total r n) (b ∷ l)) (total_at_lem r b l Equal e) ∙ put_at (with_total r b.part.bytes) b l Equal e
