@@ -10,7 +10,6 @@ ghost use Rattle.flags_spec.specs.Calls.{handed_on, combined_added, optional_com
 
 use crate::owners::combine_owners;
 use crate::placing::{hand_on, place_around, place_union};
-use fields::LARGEST;
 use flags_spec::MergingOwnersStrategy;
 use records_spec::{Answered, Head, MaybeOwner, Refusal};
 
@@ -36,10 +35,9 @@ fn combine_with_higher_base_epoch(
         shown result (tables_left epochs.new counts.new) ≡ placing (raised epoch added_bytes joined_flags) tables_lent }
 {
     let spot = records::look_up(our_epochs, our_counts, epoch);
-    let held = spot.count;
-    if LARGEST - added_bytes < held {
+    let Some(count) = spot.count.checked_add(added_bytes) else {
         return records::refused(Refusal::Overflow);
-    }
+    };
     place_around(
         owner,
         base,
@@ -47,7 +45,7 @@ fn combine_with_higher_base_epoch(
         our_counts,
         spot,
         epoch,
-        held + added_bytes,
+        count,
         their_epochs,
         their_counts,
         epochs,
@@ -77,7 +75,7 @@ fn combine_tables(
         shown result (tables_left epochs.new counts.new) ≡ placing (raised_above base epoch added_bytes joined_flags) tables_lent }
 {
     if base == epoch {
-        return place_union(
+        place_union(
             owner,
             base,
             our_epochs,
@@ -86,20 +84,21 @@ fn combine_tables(
             their_counts,
             epochs,
             counts,
-        );
+        )
+    } else {
+        combine_with_higher_base_epoch(
+            owner,
+            base,
+            our_epochs,
+            our_counts,
+            epoch,
+            added_bytes,
+            their_epochs,
+            their_counts,
+            epochs,
+            counts,
+        )
     }
-    combine_with_higher_base_epoch(
-        owner,
-        base,
-        our_epochs,
-        our_counts,
-        epoch,
-        added_bytes,
-        their_epochs,
-        their_counts,
-        epochs,
-        counts,
-    )
 }
 
 // Merges proper flags: the bases decide first, then the owners.
@@ -122,27 +121,22 @@ fn combine_added_proper(
         let tables_lent = tables_were epochs.old counts.old in
         shown result (tables_left epochs.new counts.new) ≡ placing (added strategy added_bytes (flags_of our_flags) (flags_of their_flags)) tables_lent }
 {
-    let our_base = ours.base;
-    let their_base = theirs.base;
-    if their_base < our_base {
+    if theirs.base < ours.base {
         return records::refused(Refusal::DifferentBaseEpoch);
     }
     let chosen = combine_owners(ours, theirs, strategy);
     if chosen.refused {
         return records::refused(Refusal::DifferentOwners);
     }
-    let owner = chosen.owner;
-    let n = ours.records;
-    let m = theirs.records;
     combine_tables(
-        owner,
-        our_base,
-        &our_epochs[..n],
-        &our_counts[..n],
-        their_base,
+        chosen.owner,
+        ours.base,
+        &our_epochs[..ours.records],
+        &our_counts[..ours.records],
+        theirs.base,
         added_bytes,
-        &their_epochs[..m],
-        &their_counts[..m],
+        &their_epochs[..theirs.records],
+        &their_counts[..theirs.records],
         epochs,
         counts,
     )
@@ -166,24 +160,24 @@ pub fn combine_added_bytes(
         let tables_lent = tables_were epochs.old counts.old in
         shown result (tables_left epochs.new counts.new) ≡ combined_added our_flags their_flags added_bytes strategy tables_lent }
 {
-    if records::is_proper(ours, our_epochs, our_counts) {
-        if records::is_proper(theirs, their_epochs, their_counts) {
-            return combine_added_proper(
-                ours,
-                our_epochs,
-                our_counts,
-                theirs,
-                their_epochs,
-                their_counts,
-                added_bytes,
-                strategy,
-                epochs,
-                counts,
-            );
-        }
-        return records::refused(Refusal::BadTable);
+    if records::is_proper(ours, our_epochs, our_counts)
+        && records::is_proper(theirs, their_epochs, their_counts)
+    {
+        combine_added_proper(
+            ours,
+            our_epochs,
+            our_counts,
+            theirs,
+            their_epochs,
+            their_counts,
+            added_bytes,
+            strategy,
+            epochs,
+            counts,
+        )
+    } else {
+        records::refused(Refusal::BadTable)
     }
-    records::refused(Refusal::BadTable)
 }
 
 // Hands the incoming flags on, where ours is absent.
@@ -197,9 +191,10 @@ pub fn combine_absent(
     ensures { shown result (tables_left epochs.new counts.new) ≡ handed_on (flags_were theirs their_epochs.now their_counts.now) (tables_were epochs.old counts.old) }
 {
     if records::is_proper(theirs, their_epochs, their_counts) {
-        return hand_on(theirs, their_epochs, their_counts, epochs, counts);
+        hand_on(theirs, their_epochs, their_counts, epochs, counts)
+    } else {
+        records::refused(Refusal::BadTable)
     }
-    records::refused(Refusal::BadTable)
 }
 
 // `combine_added_bytes` where ours may be absent: then ours is not looked at, and the incoming flags are handed on.
@@ -222,7 +217,7 @@ pub fn optional_combine_added_bytes(
         shown result (tables_left epochs.new counts.new) ≡ optional_combined_added present our_flags their_flags added_bytes strategy tables_lent }
 {
     if present {
-        return combine_added_bytes(
+        combine_added_bytes(
             ours,
             our_epochs,
             our_counts,
@@ -233,7 +228,8 @@ pub fn optional_combine_added_bytes(
             strategy,
             epochs,
             counts,
-        );
+        )
+    } else {
+        combine_absent(theirs, their_epochs, their_counts, epochs, counts)
     }
-    combine_absent(theirs, their_epochs, their_counts, epochs, counts)
 }

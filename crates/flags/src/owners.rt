@@ -25,23 +25,13 @@ fn dispute(strategy: MergingOwnersStrategy) -> Choice
 pub fn choose_owner(ours: Head, theirs: Head, strategy: MergingOwnersStrategy) -> Choice
     ensures { result ≡ choice strategy (owner_of ours) (owner_of theirs) }
 {
-    let our_kind = ours.kind;
-    let their_kind = theirs.kind;
-    if records::is_owned(our_kind) {
-        if records::is_owned(their_kind) {
-            let our_owner = ours.owner;
-            let their_owner = theirs.owner;
-            if records::same_owner(our_owner, their_owner) {
-                return Choice::Ours;
-            }
-            return dispute(strategy);
-        }
-        return Choice::Ours;
+    match (records::is_owned(ours.kind), records::is_owned(theirs.kind)) {
+        (true, true) if records::same_owner(ours.owner, theirs.owner) => Choice::Ours,
+        (true, true) => dispute(strategy),
+        (true, false) => Choice::Ours,
+        (false, true) => Choice::Theirs,
+        (false, false) => Choice::Neither,
     }
-    if records::is_owned(their_kind) {
-        return Choice::Theirs;
-    }
-    Choice::Neither
 }
 
 // The owner rule, with the owner that it chose.
@@ -73,12 +63,9 @@ fn choose_beside(ours: Head, theirs: &[u8], strategy: MergingOwnersStrategy) -> 
     ensures { result ≡ unless_refused (read theirs.now) (choice strategy (owner_of ours) (owner_read (read theirs.now))) }
 {
     let judged = codec::judge(theirs);
-    let verdict = judged.verdict;
-    let head = judged.head;
-    match verdict {
+    match judged.verdict {
         Verdict::Refused(refusal, _) => Choice::Refused(refusal),
-        Verdict::Absent => choose_owner(ours, head, strategy),
-        Verdict::Present => choose_owner(ours, head, strategy),
+        Verdict::Absent | Verdict::Present => choose_owner(ours, judged.head, strategy),
     }
 }
 
@@ -87,12 +74,9 @@ pub fn choose_owner_id(ours: &[u8], theirs: &[u8], strategy: MergingOwnersStrate
     ensures { result ≡ owner_choice strategy ours.now theirs.now }
 {
     let judged = codec::judge(ours);
-    let verdict = judged.verdict;
-    let head = judged.head;
-    match verdict {
+    match judged.verdict {
         Verdict::Refused(refusal, _) => Choice::Refused(refusal),
-        Verdict::Absent => choose_beside(head, theirs, strategy),
-        Verdict::Present => choose_beside(head, theirs, strategy),
+        Verdict::Absent | Verdict::Present => choose_beside(judged.head, theirs, strategy),
     }
 }
 
@@ -107,7 +91,6 @@ pub fn combine_owner_id<'a>(
     match choose_owner_id(ours, theirs, strategy) {
         Choice::Ours => &ours[BEHIND_KIND..BEHIND_OWNER],
         Choice::Theirs => &theirs[BEHIND_KIND..BEHIND_OWNER],
-        Choice::Neither => &ours[..0],
-        Choice::Refused(_) => &ours[..0],
+        Choice::Neither | Choice::Refused(_) => &ours[..0],
     }
 }

@@ -30,11 +30,12 @@ fn union_fits(
         result ≡ room_for (before + length (union (drop i our_records) their_records)) epochs_len counts_len }
 {
     let most = before + (our_epochs.len() - i) + their_epochs.len();
-    if fit(most, epochs_len, counts_len) {
-        return true;
-    }
-    let n = records::union_len(our_epochs, our_counts, i, their_epochs, their_counts, 0);
-    fit(before + n, epochs_len, counts_len)
+    fit(most, epochs_len, counts_len)
+        || fit(
+            before + records::union_len(our_epochs, our_counts, i, their_epochs, their_counts, 0),
+            epochs_len,
+            counts_len,
+        )
 }
 
 // Flags with the union of ours and theirs.
@@ -56,7 +57,7 @@ pub fn place_union(
         let joined_flags = flags base (owner_if owner.owned owner.id) (union our_records their_records) in
         shown result (tables_left epochs.new counts.new) ≡ placing (ok joined_flags) tables_lent }
 {
-    if union_fits(
+    if !union_fits(
         0,
         our_epochs,
         our_counts,
@@ -66,20 +67,20 @@ pub fn place_union(
         epochs.len(),
         counts.len(),
     ) {
-        let n = records::union_into(
-            our_epochs,
-            our_counts,
-            0,
-            their_epochs,
-            their_counts,
-            0,
-            epochs,
-            counts,
-            0,
-        );
-        return records::present(records::new_head(base, owner, n));
+        return records::refused(Refusal::NoRoom);
     }
-    records::refused(Refusal::NoRoom)
+    let n = records::union_into(
+        our_epochs,
+        our_counts,
+        0,
+        their_epochs,
+        their_counts,
+        0,
+        epochs,
+        counts,
+        0,
+    );
+    records::present(records::new_head(base, owner, n))
 }
 
 // Flags with the union of ours, one record, and theirs, which are above its epoch: ours below it are copied, the record is
@@ -105,9 +106,8 @@ pub fn place_around(
         let joined_flags = flags base (owner_if owner.owned owner.id) (union our_records their_records) in
         shown result (tables_left epochs.new counts.new) ≡ placing (ok joined_flags) (tables_were epochs.old counts.old) }
 {
-    let below = spot.below;
-    let upto = spot.upto;
-    if union_fits(
+    let Spot { below, upto, .. } = spot;
+    if !union_fits(
         below + 1,
         our_epochs,
         our_counts,
@@ -117,23 +117,23 @@ pub fn place_around(
         epochs.len(),
         counts.len(),
     ) {
-        records::copy_records(our_epochs, our_counts, below, epochs, counts);
-        epochs[below] = epoch;
-        counts[below] = count;
-        let n = records::union_into(
-            our_epochs,
-            our_counts,
-            upto,
-            their_epochs,
-            their_counts,
-            0,
-            epochs,
-            counts,
-            below + 1,
-        );
-        return records::present(records::new_head(base, owner, n));
+        return records::refused(Refusal::NoRoom);
     }
-    records::refused(Refusal::NoRoom)
+    records::copy_records(our_epochs, our_counts, below, epochs, counts);
+    epochs[below] = epoch;
+    counts[below] = count;
+    let n = records::union_into(
+        our_epochs,
+        our_counts,
+        upto,
+        their_epochs,
+        their_counts,
+        0,
+        epochs,
+        counts,
+        below + 1,
+    );
+    records::present(records::new_head(base, owner, n))
 }
 
 // Proper flags handed on as they are.
@@ -150,10 +150,9 @@ pub fn hand_on(
         shown result (tables_left epochs.new counts.new) ≡ placing (ok (flags_of from_flags)) tables_lent }
 {
     let n = flags.records;
-    if fit(n, epochs.len(), counts.len()) {
-        records::copy_records(from_epochs, from_counts, n, epochs, counts);
-        let owner = records::owner_id(flags);
-        return records::present(records::new_head(flags.base, owner, n));
+    if !fit(n, epochs.len(), counts.len()) {
+        return records::refused(Refusal::NoRoom);
     }
-    records::refused(Refusal::NoRoom)
+    records::copy_records(from_epochs, from_counts, n, epochs, counts);
+    records::present(records::new_head(flags.base, records::owner_id(flags), n))
 }

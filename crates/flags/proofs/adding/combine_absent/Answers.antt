@@ -1,17 +1,13 @@
--- `flags::adding::combine_absent` meets its contract: theirs are proper, or not. Assumes nothing.
-use mathlib.Core.Path.{sym, ◌∙◌}
-use Rattle.records_spec.proofs.Answers.{refused_left}
+-- Theirs are proper and handed on, or they are refused.
+use Rattle.std.proofs.Common.{sym, ◌∙◌}
 use Rattle.records_spec.specs.Flags.{lending}
+use Rattle.records_spec.proofs.Answers.{refused_left}
 use Rattle.flags_spec.proofs.Merging.{handed_proper, handed_bad}
 use Rattle.flags.proofs.adding.combine_absent.Goals as goal
 
 pub returns-then-is_proper : goal.returns-then-is_proper
-returns-then-is_proper c =
-    c.hand_on.ensures ∙ sym (handed_proper _ _ (sym c.is_proper.ensures ∙ c.if-is_proper.true))
+returns-then-is_proper c = c.hand_on.ensures ∙ sym (handed_proper _ _ (sym c.if-is_proper.ensures))
 
-pub returns : goal.returns
-returns c = refused_left _ (lending _ _) _ c.refused.ensures
-    ∙ sym (handed_bad _ _ (sym c.is_proper.ensures ∙ c.if-is_proper.false))
-
-pub hand_on-requires : goal.hand_on-requires
-hand_on-requires c = sym c.is_proper.ensures ∙ c.if-is_proper.true
+pub returns-else-is_proper : goal.returns-else-is_proper
+returns-else-is_proper c =
+    refused_left _ (lending _ _) _ c.refused.ensures ∙ sym (handed_bad _ _ (sym c.if-is_proper.ensures))

@@ -1,27 +1,20 @@
--- `flags::adding::combine_added_bytes` meets its contract: both sides are proper, or one is not. Assumes nothing.
-use mathlib.Core.Path.{sym, ◌∙◌}
-use Rattle.records_spec.proofs.Answers.{refused_left}
+-- Both sides are proper and merged, or one of them is not.
+use Rattle.std.proofs.Common.{sym, ◌∙◌}
 use Rattle.records_spec.specs.Flags.{lending}
+use Rattle.records_spec.proofs.Answers.{refused_left}
 use Rattle.flags_spec.proofs.Merging.{combined_proper, combined_theirs_bad, combined_ours_bad}
 use Rattle.flags.proofs.adding.combine_added_bytes.Goals as goal
+use Rattle.flags.proofs.adding.combine_added_bytes.Goals.{else-is_proper-via-then-is_proper+else-is_proper-2, else-is_proper-via-else-is_proper}
 
 pub returns-then-is_proper-2 : goal.returns-then-is_proper-2
 returns-then-is_proper-2 c =
     c.combine_added_proper.ensures
-    ∙ sym (combined_proper _ _ _ _ _ (sym c.is_proper.ensures ∙ c.if-is_proper.true)
-    (sym c.is_proper-then-is_proper.ensures ∙ c.if-is_proper-2.true))
+    ∙ sym (combined_proper _ _ _ _ _ (sym c.if-is_proper.ensures) (sym c.if-is_proper-2.ensures))
 
-pub returns-then-is_proper : goal.returns-then-is_proper
-returns-then-is_proper c = refused_left _ (lending _ _) _ c.refused.ensures
-    ∙ sym (combined_theirs_bad _ _ _ _ _ (sym c.is_proper-then-is_proper.ensures ∙ c.if-is_proper-2.false))
-
-pub returns : goal.returns
-returns c = refused_left _ (lending _ _) _ c.refused-2.ensures
-    ∙ sym (combined_ours_bad _ _ _ _ _ (sym c.is_proper.ensures ∙ c.if-is_proper.false))
-
-pub combine_added_proper-requires : goal.combine_added_proper-requires
-combine_added_proper-requires c = record {
-  our_counts_value = sym c.is_proper.ensures ∙ c.if-is_proper.true;
-  their_counts_value = sym c.is_proper-then-is_proper.ensures
-      ∙ c.if-is_proper-2.true;
-}
+pub returns-else-is_proper : goal.returns-else-is_proper
+returns-else-is_proper c =
+    let refused = refused_left _ (lending _ _) _ c.refused.ensures in
+    elim c.else-is_proper.branch [
+      | else-is_proper-via-then-is_proper+else-is_proper-2 w ↦ refused ∙ sym (combined_theirs_bad _ _ _ _ _ (sym w.if-is_proper-2.ensures))
+      | else-is_proper-via-else-is_proper w ↦ refused ∙ sym (combined_ours_bad _ _ _ _ _ (sym w.if-is_proper.ensures))
+    ]

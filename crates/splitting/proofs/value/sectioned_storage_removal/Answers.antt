@@ -34,8 +34,9 @@ turn c =
     let cs = c.args.counts.now in
     let l = c.loop-epoch in
     let pairs = YieldsList-from_zip (YieldsList-from_rev_slice es cc) (YieldsList-from_rev_slice cs cc) in
-    let item = YieldsList-turn pairs l.yielded _ l.yielded_by _ c.next.new.self (c.in-Some.epoch, c.in-Some.count) c.in-Some.is c.next.ensures.steps in
-    let pair = pair_from_back es cs (length l.yielded) l.invariant.j c.in-Some.epoch.now c.in-Some.count.now c.requires.epochs_len l.invariant.turns item in
+    let s = c.in-Some in
+    let item = YieldsList-turn pairs l.yielded _ l.yielded_by _ c.next.new.self (s.epoch, s.count) s.is c.next.ensures.steps in
+    let pair = pair_from_back es cs (length l.yielded) l.invariant.j s.epoch.now s.count.now c.requires.epochs_len l.invariant.turns item in
     (pair.0, pair.1, c.gives-given.ensures ∙ ap (λ count. min l.left (count - minimum)) pair.2)
 
 pub overflow_sub-k : goal.overflow_sub-k

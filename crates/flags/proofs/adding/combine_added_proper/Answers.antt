@@ -1,0 +1,71 @@
+-- The bases decide, then the owner; then the tables are merged, which are proper ones.
+use Rattle.std.proofs.Common.{arith}
+use Rattle.std.proofs.lemmas.List.{length-take}
+use Rattle.records_spec.specs.Flags.{Flags, owner_of, flags_of, holding, lending}
+use Rattle.records_spec.proofs.Proper.{IsProper, proper_inv, proper_table_lem, proper_above}
+use Rattle.records_spec.proofs.Answers.{refused_placing}
+use Rattle.flags_spec.specs.Owners.{combined_owner}
+use Rattle.flags_spec.proofs.Choosing.{answered_owner, refused_owner}
+use Rattle.flags_spec.proofs.Merging.{added_lower, added_disputed, added_owned}
+use Rattle.flags.proofs.adding.combine_added_proper.Goals as goal
+use Rattle.flags.proofs.adding.combine_added_proper.Goals.{Start}
+
+module _ (c : Start) where
+  abbrev ours : Flags
+  ours = flags_of (holding c.args.ours c.args.our_epochs.now c.args.our_counts.now)
+
+  abbrev theirs : Flags
+  theirs = flags_of (holding c.args.theirs c.args.their_epochs.now c.args.their_counts.now)
+
+  our-proper : IsProper c.args.ours c.args.our_epochs.now c.args.our_counts.now
+  our-proper = proper_inv c.args.ours c.args.our_epochs.now c.args.our_counts.now c.requires.our_counts_value
+
+  their-proper : IsProper c.args.theirs c.args.their_epochs.now c.args.their_counts.now
+  their-proper = proper_inv c.args.theirs c.args.their_epochs.now c.args.their_counts.now c.requires.their_counts_value
+
+pub returns-then-theirs-ours : goal.returns-then-theirs-ours
+returns-then-theirs-ours c =
+    let a = c.args in
+    let s = (goal.at.returns-then-theirs-ours c).Start in
+    refused_placing _ (lending _ _) _ _ c.refused.ensures (added_lower a.strategy a.added_bytes (ours s) (theirs s) c.if-theirs-ours.true)
+
+pub returns-then-chosen : goal.returns-then-chosen
+returns-then-chosen c =
+    let a = c.args in
+    let s = (goal.at.returns-then-chosen c).Start in
+    let disputed = refused_owner _ a.strategy (owner_of a.ours) (owner_of a.theirs) c.combine_owners-chosen.ensures c.if-chosen.true in
+    refused_placing _ (lending _ _) _ _ c.refused-then-chosen.ensures
+    (added_disputed a.strategy a.added_bytes (ours s) (theirs s) c.if-theirs-ours.false disputed)
+
+pub slice_bounds-combine_tables-end : goal.slice_bounds-combine_tables-end
+slice_bounds-combine_tables-end c =
+    let p = our-proper (goal.at.slice_bounds-combine_tables-end c).Start in
+    simp length-take (omega arith)
+
+pub slice_bounds-combine_tables-end-2 : goal.slice_bounds-combine_tables-end-2
+slice_bounds-combine_tables-end-2 c =
+    let p = our-proper (goal.at.slice_bounds-combine_tables-end-2 c).Start in
+    simp length-take (omega arith)
+
+pub slice_bounds-combine_tables-end-3 : goal.slice_bounds-combine_tables-end-3
+slice_bounds-combine_tables-end-3 c =
+    let p = their-proper (goal.at.slice_bounds-combine_tables-end-3 c).Start in
+    simp length-take (omega arith)
+
+pub slice_bounds-combine_tables-end-4 : goal.slice_bounds-combine_tables-end-4
+slice_bounds-combine_tables-end-4 c =
+    let p = their-proper (goal.at.slice_bounds-combine_tables-end-4 c).Start in
+    simp length-take (omega arith)
+
+pub combine_tables-requires-clause-table : goal.combine_tables-requires-clause-table
+combine_tables-requires-clause-table c = proper_table_lem (our-proper (goal.at.combine_tables-requires-clause-table c).Start)
+
+pub combine_tables-requires-clause-above : goal.combine_tables-requires-clause-above
+combine_tables-requires-clause-above c = proper_above (their-proper (goal.at.combine_tables-requires-clause-above c).Start)
+
+pub returns : goal.returns
+returns c =
+    let a = c.args in
+    let s = (goal.at.returns c).Start in
+    let owner = answered_owner _ (combined_owner a.strategy (owner_of a.ours) (owner_of a.theirs)) c.combine_owners-chosen.ensures c.if-chosen.false in
+    rw (added_owned a.strategy a.added_bytes (ours s) (theirs s) c.if-theirs-ours.false _ owner) c.combine_tables.ensures
