@@ -16,7 +16,7 @@ pub fn gives(asked: u32, count: u32) -> u32
     asked.min(count.saturating_sub(MINIMUM_NON_BASE_FLAGS_SIZE))
 }
 
-// Visits the records from the latest down, while bytes are left. Nothing is written.
+// Visits the records from the latest down, while bytes are left. Only their counts are read, and nothing is written.
 pub fn visit(epochs: &[u16], counts: &[u32], amount: u32) -> Visited
     requires { length epochs.now ≡ length counts.now }
     ensures { result ≡ visits (records_were epochs.now counts.now) amount }

@@ -67,5 +67,6 @@ pub returns : goal.returns
 returns c =
     let a = c.args in
     let s = (goal.at.returns c).Start in
-    let owner = answered_owner _ (combined_owner a.strategy (owner_of a.ours) (owner_of a.theirs)) c.combine_owners-chosen.ensures c.if-chosen.false in
+    let rule = combined_owner a.strategy (owner_of a.ours) (owner_of a.theirs) in
+    let owner = answered_owner _ rule c.combine_owners-chosen.ensures c.if-chosen.false in
     rw (added_owned a.strategy a.added_bytes (ours s) (theirs s) c.if-theirs-ours.false _ owner) c.combine_tables.ensures
