@@ -1,18 +1,13 @@
--- The first section at fault: what one section's tests tell, and how the first one decides of all.
+-- The first section at fault: a section that is not, and how the first one decides of all.
 -- Assumes nothing.
 use mathlib.Core.Path.{◌≡◌, refl, ap}
 use mathlib.Core.List.{List, [], ◌∷◌}
-use Prim.Native.Nat.{ℕ, ◌≤◌, ◌<◌}
-use borrow.Author.Tests.{le-leb, lt-leb, eq-eqb, ne_eqb}
-use Rattle.std.specs.Prelude.{Some, None, ◌⊎◌}
-use Rattle.std.proofs.Common.{inl, inr}
-use Rattle.records_spec.specs.Tables.{At, ◌⦂◌, records_of}
+use Prim.Native.Nat.{ℕ, ◌≤◌}
+use borrow.Author.Tests.{le-leb, eq-eqb, ne_eqb}
+use Rattle.std.proofs.Common.{true, ◌⊎◌, inl, inr}
+use Rattle.records_spec.specs.Tables.{At, ◌⦂◌, records_of, has, held}
 use Rattle.removal_spec.specs.Removing.{fine, all_fine}
-use Rattle.removal_spec.specs.Inner.Findings.{standing_at}
-use Rattle.removal_spec.proofs.Finding.{stands_count, stands_not}
-use Rattle.records_spec.specs.Refusals.{number}
 use Rattle.records_spec.specs.Outcomes.{Answer, ok, refused, ◌>>=◌}
-use Rattle.records_spec.specs.declared.refusal.Refusal.TheVariants.{Overflow, NoStorageAtEpoch}
 
 -- ---- one section
 
@@ -21,16 +16,9 @@ module _ (base : ℕ) (rs : List At) (e n : ℕ) where
   pub fault_base : e ≡ base → fine base rs (e ⦂ n) ≡ ok tt
   fault_base p = rw (eq-eqb e base p)
 
-  module _ (d : e ≡ base → ⊥) where
-    -- what stands at the epoch decides: nothing, less, or as much
-    pub fault_lacks : standing_at e rs ≡ None → fine base rs (e ⦂ n) ≡ refused (number NoStorageAtEpoch)
-    fault_lacks h = simp (ne_eqb e base d, stands_not e rs h)
-
-    pub fault_over : (k : ℕ) → standing_at e rs ≡ Some k → k < n → fine base rs (e ⦂ n) ≡ refused (number Overflow)
-    fault_over k h p = let s = stands_count e rs k h in simp (ne_eqb e base d, s.0, s.1, lt-leb n k p)
-
-    pub fault_within : (k : ℕ) → standing_at e rs ≡ Some k → n ≤ k → fine base rs (e ⦂ n) ≡ ok tt
-    fault_within k h p = let s = stands_count e rs k h in simp (ne_eqb e base d, s.0, s.1, le-leb n k p)
+  -- a record stands at the epoch, and holds as much
+  pub fault_within : (e ≡ base → ⊥) → has e rs ≡ true → n ≤ held e rs → fine base rs (e ⦂ n) ≡ ok tt
+  fault_within d h p = simp (ne_eqb e base d, h, le-leb n (held e rs) p)
 
 -- ---- all sections
 

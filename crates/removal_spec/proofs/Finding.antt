@@ -5,7 +5,7 @@ use mathlib.Core.Bool.{Bool, true, false, cond}
 use mathlib.Core.List.{List}
 use Prim.Native.Nat.{ℕ}
 use lib.Dec.{ltb}
-use Rattle.std.specs.Prelude.{Option, Some, None}
+use Rattle.std.specs.Prelude.{Some, None}
 use Rattle.std.specs.Bool.{then_some}
 use Rattle.std.specs.Option.{option_or}
 use Rattle.records_spec.specs.Tables.{At, records_of, has, held, union}
@@ -36,20 +36,3 @@ found_union e os ts = rw (has_union e os ts, held_union e os ts) (by (has e ts) 
         ≡ cond (cond b true (has e os)) (Some (cond b n (held e os))) None
     by true n = refl
     by false n = refl
-
--- ---- what was found, read back
-
-module _ (e : ℕ) (rs : List At) where
-  pub stands_count : (n : ℕ) → standing_at e rs ≡ Some n → (has e rs ≡ true) × (held e rs ≡ n)
-  stands_count n h = by (has e rs) (held e rs) h
-    where
-      by : (b : Bool) (k : ℕ) → cond b (Some k) None ≡ Some n → (b ≡ true) × (k ≡ n)
-      by true k h = (refl, cc)
-      by false k h = absurd cc
-
-  pub stands_not : standing_at e rs ≡ None → has e rs ≡ false
-  stands_not h = by (has e rs) (held e rs) h
-    where
-      by : (b : Bool) (k : ℕ) → ◌≡◌ {A = Option ℕ} (cond b (Some k) None) None → b ≡ false
-      by true k h = absurd cc
-      by false k h = refl

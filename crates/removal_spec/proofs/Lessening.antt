@@ -1,47 +1,29 @@
--- Records less sections: a record by the tests of the code, and what remains of all, which is not more and ascends as they do.
+-- Records less sections: what remains of one record, and of all, which is not more and ascends as they do; and how a loop passes the records
+-- of a union.
 -- Assumes nothing.
 use mathlib.Core.Path.{◌≡◌, refl, sym, ap, ◌∙◌}
 use mathlib.Core.Bool.{Bool, true, false, cond}
 use mathlib.Core.List.{List, [], ◌∷◌, ◌++◌}
 use Prim.Native.Nat.{ℕ, suc, ◌+◌, ◌-◌, ◌≤◌, ◌<◌}
 use native.Mathlib.Omega.{arith}
-use lib.Dec.{ltb, leb}
+use lib.Dec.{leb}
 use lib.ListN.{length, drop}
-use borrow.Author.Tests.{ltb-true, ltb-false, le-leb, lt-leb}
+use borrow.Author.Tests.{le-leb}
 use Rattle.std.specs.Prelude.{Option, Some, None, is_some}
-use Rattle.std.specs.Bool.{then_some}
 use Rattle.records_spec.specs.Tables.{At, ◌⦂◌, epochs_of, ascending, has, held, union}
 use Rattle.records_spec.specs.Inner.Unions.{Stepped}
 use Rattle.records_spec.specs.declared.table.NextRecord.{NextRecord}
 use Rattle.records_spec.proofs.Tables.{epochs_cons}
 use Rattle.records_spec.proofs.Rising.{asc_head, asc_tail, asc_cons, asc_lower}
 use Rattle.splitting_spec.specs.Sections.{minimum}
-use Rattle.removal_spec.specs.Removing.{remainder, lessened, minus}
-use Rattle.removal_spec.specs.Inner.Findings.{standing_at, rested}
-use Rattle.removal_spec.proofs.Finding.{stands_count, stands_not}
+use Rattle.removal_spec.specs.Removing.{lessened, minus}
+use Rattle.removal_spec.specs.Inner.Findings.{rested}
 
 -- ---- one record
 
--- what remains, by the code's test
-left_over : (e n : ℕ) → rested e (then_some (ltb minimum n) n) ≡ remainder e n
-left_over e n = by (ltb minimum n) refl
-  where
-    by : (b : Bool) → ltb minimum n ≡ b → rested e (then_some b n) ≡ remainder e n
-    by true q = rw (lt-leb n minimum (ltb-true minimum n q))
-    by false q = rw (le-leb n minimum (ltb-false minimum n q))
-
-module _ (ss : List At) (e c : ℕ) where
-  -- no section: the record stays whole
-  pub lessened_whole : standing_at e ss ≡ None → lessened ss (e ⦂ c) ≡ e ⦂ c ∷ []
-  lessened_whole h = rw (stands_not e ss h)
-
-  -- 3 or less remain, also where the section is 0: the record is dropped
-  pub lessened_gone : has e ss ≡ true → c - held e ss ≤ minimum → lessened ss (e ⦂ c) ≡ []
-  lessened_gone h p = simp (h, le-leb (c - held e ss) minimum p)
-
-  -- a section of n bytes: more than 3 remain, or the record is dropped
-  pub lessened_left : (n : ℕ) → standing_at e ss ≡ Some n → rested e (then_some (ltb minimum (c - n)) (c - n)) ≡ lessened ss (e ⦂ c)
-  lessened_left n h = let s = stands_count e ss n h in rw (s.0, s.1) (left_over e (c - n))
+-- 3 or less remain, also where the section is 0: the record is dropped
+lessened_gone : (ss : List At) (e c : ℕ) → has e ss ≡ true → c - held e ss ≤ minimum → lessened ss (e ⦂ c) ≡ []
+lessened_gone ss e c h p = simp (h, le-leb (c - held e ss) minimum p)
 
 -- a record is dropped, or stays with no more than it had
 pub lessened_cases : (P : List At → Type 0) (ss : List At) (r : At) → P [] → ((n : ℕ) → n ≤ r.bytes → P (r.epoch ⦂ n ∷ [])) → P (lessened ss r)

@@ -1,6 +1,6 @@
 -- The removing merge by the tests of the code: the bases, our records, the owner, the removal, and whether all is proper.
 -- Assumes nothing.
-use mathlib.Core.Path.{◌≡◌, refl}
+use mathlib.Core.Path.{◌≡◌, refl, ◌∙◌}
 use mathlib.Core.Bool.{Bool, true, false, and-false}
 use Rattle.std.specs.Prelude.{Option}
 use mathlib.Core.List.{List, [], ◌∷◌}
@@ -11,9 +11,9 @@ use borrow.Author.Tests.{lt-ltb, le-ltb, eq-eqb, ne_eqb}
 use Rattle.records_spec.specs.Tables.{At}
 use Rattle.records_spec.specs.Flags.{Flags, flags, id_of, flags_of, proper, blank, Lent, Held}
 use Rattle.records_spec.specs.Answers.{placing}
-use Rattle.records_spec.specs.Outcomes.{refused, ok, refusing, leaving}
+use Rattle.records_spec.specs.Outcomes.{refused, ok, ◌>>=◌, refusing, leaving}
 use Rattle.records_spec.specs.Refusals.{number}
-use Rattle.records_spec.specs.declared.refusal.Refusal.TheVariants.{DifferentOwners, BadTable, DifferentBaseEpoch}
+use Rattle.records_spec.specs.declared.refusal.Refusal.TheVariants.{BadTable, DifferentBaseEpoch}
 use Rattle.flags_spec.specs.Owners.{combined_owner}
 use Rattle.flags_spec.specs.Merging.{union_under}
 use Rattle.flags_spec.specs.Calls.{handed_on}
@@ -38,17 +38,6 @@ module _ (s : MergingOwnersStrategy) (x : Removal) (ours theirs : Flags) where
   unfolding removed
   removed_above_lem p = simp (le-ltb theirs.base ours.base (omega arith), ne_eqb ours.base theirs.base (λ e. omega arith))
 
--- ---- equal bases
-
-module _ (s : MergingOwnersStrategy) (ours theirs : Flags) where
-  pub beside_disputed : combined_owner s ours.owner theirs.owner ≡ refused (number DifferentOwners)
-      → removed_beside s ours theirs ≡ refused (number DifferentOwners)
-  beside_disputed e = rw e
-
-  pub beside_owned : (owner : Option (List ℕ)) → combined_owner s ours.owner theirs.owner ≡ ok owner
-      → removed_beside s ours theirs ≡ ok (union_under ours theirs owner)
-  beside_owned owner e = rw e
-
 -- ---- incoming base higher
 
 module _ (s : MergingOwnersStrategy) (x : Removal) (ours theirs : Flags) where
@@ -57,32 +46,25 @@ module _ (s : MergingOwnersStrategy) (x : Removal) (ours theirs : Flags) where
   above_single [] e = refl
   above_single (r ∷ rs) e = absurd (omega arith)
 
-  pub above_disputed : (rs : List At) → 0 < length rs → combined_owner s ours.owner theirs.owner ≡ refused (number DifferentOwners)
-      → removed_above s x ours theirs rs ≡ refused (number DifferentOwners)
-  above_disputed [] p e = absurd (omega arith)
-  above_disputed (r ∷ rs) p e = rw e
+  -- else the owner rule decides first
+  pub above_some : (rs : List At) → 0 < length rs → removed_above s x ours theirs rs
+      ≡ ◌>>=◌ (combined_owner s ours.owner theirs.owner) (λ owner. taken (id_of ours.owner) x (union_under ours theirs owner))
+  above_some [] p = absurd (omega arith)
+  above_some (r ∷ rs) p = refl
 
   pub above_owned : (rs : List At) → 0 < length rs → (owner : Option (List ℕ)) → combined_owner s ours.owner theirs.owner ≡ ok owner
       → removed_above s x ours theirs rs ≡ taken (id_of ours.owner) x (union_under ours theirs owner)
-  above_owned [] p owner e = absurd (omega arith)
-  above_owned (r ∷ rs) p owner e = rw e
+  above_owned rs p owner e = above_some rs p ∙ rw e
 
 -- ---- the removal
 
-module _ (i : List ℕ) (rows : List Row) (f : Flags) where
-  -- rows that are not this identifier's alone
-  pub taken_others : only_under_lem i rows ≡ false → taken i (sectioned rows) f ≡ refused (number DifferentOwners)
-  taken_others h = rw h
+pub taken_under : (i : List ℕ) (rows : List Row) (f : Flags) (ss : List At) → only_under_lem i rows ≡ true → parts_of rows ≡ ss
+    → taken i (sectioned rows) f ≡ less_sections ss f
+taken_under i rows f ss h e = rw (h, e)
 
-  pub taken_under : (ss : List At) → only_under_lem i rows ≡ true → parts_of rows ≡ ss → taken i (sectioned rows) f ≡ less_sections ss f
-  taken_under ss h e = rw (h, e)
-
-module _ (ss : List At) (f : Flags) where
-  pub less_fault : (n : ℕ) → all_fine f.base f.records ss ≡ refused n → less_sections ss f ≡ refused n
-  less_fault n e = rw e
-
-  pub less_fine : all_fine f.base f.records ss ≡ ok tt → less_sections ss f ≡ ok (flags f.base f.owner (minus f.records ss))
-  less_fine e = rw e
+pub less_fine : (ss : List At) (f : Flags) → all_fine f.base f.records ss ≡ ok tt
+    → less_sections ss f ≡ ok (flags f.base f.owner (minus f.records ss))
+less_fine ss f e = rw e
 
 -- ---- whether all is proper
 
@@ -105,10 +87,6 @@ module _ (ours theirs : Held) (removal : HeldRemoval) (s : MergingOwnersStrategy
   combined_ours_bad p = simp p
 
   module _ (present : Bool) where
-    pub optional_present : present ≡ true
-        → optional_combined_removed present ours theirs removal s out ≡ combined_removed ours theirs removal s out
-    optional_present e = rw e
-
     pub optional_absent : present ≡ false → proper_removal removal ≡ true
         → optional_combined_removed present ours theirs removal s out ≡ handed_on theirs out
     unfolding handed_on_beside handed_on

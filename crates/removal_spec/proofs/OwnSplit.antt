@@ -9,8 +9,7 @@ use Prim.Native.Nat.{ℕ, zero, suc, ◌≤◌, ◌<◌, min}
 use native.Mathlib.Omega.{arith}
 use native.Mathlib.Decide.{dec_lt}
 use lib.ListN.{length}
-use Rattle.std.specs.Prelude.{Some}
-use Rattle.records_spec.specs.Tables.{At, ◌⦂◌, epochs_of, ascending, held, union}
+use Rattle.records_spec.specs.Tables.{At, ◌⦂◌, epochs_of, ascending, union}
 use Rattle.records_spec.specs.Flags.{Flags, flags, id_of, flags_of, head_of, proper, Lent, Held}
 use Rattle.records_spec.specs.Answers.{placing, in_tables}
 use Rattle.records_spec.specs.Outcomes.{after, Answer, ok}
@@ -35,7 +34,6 @@ use Rattle.splitting_spec.proofs.Sums.{split_sum}
 use Rattle.splitting_spec.proofs.Accepted.{flags_proper, value_stands, value_removes}
 use Rattle.removal_spec.specs.Removing.{only_under_lem, all_fine, minus, taken, removed_above, removed}
 use Rattle.removal_spec.specs.Calls.{combined_removed}
-use Rattle.removal_spec.specs.Inner.Findings.{standing_at}
 use Rattle.removal_spec.specs.Theorems.{less_own_split, Incoming}
 use Rattle.removal_spec.proofs.Faults.{fault_base, fault_within, fault_none, fault_on}
 use Rattle.removal_spec.proofs.Lessening.{minus_none, minus_cons, minus_long}
@@ -50,8 +48,7 @@ within_fine base b rs [] p h w = fault_none base rs
 within_fine base b rs (s ∷ ss) p h w =
     let k : ascending b (s.epoch ∷ epochs_of ss) ≡ true = rw (epochs_cons s ss) at h in
     let q : b < s.epoch = asc_head b s.epoch (epochs_of ss) k in
-    let stands : standing_at s.epoch rs ≡ Some (held s.epoch rs) = rw w.0 in
-    fault_on base rs s ss (fault_within base rs s.epoch s.bytes (λ e. omega arith) (held s.epoch rs) stands w.1)
+    fault_on base rs s ss (fault_within base rs s.epoch s.bytes (λ e. omega arith) w.0 w.1)
     ∙ within_fine base s.epoch rs ss (omega arith) (asc_tail b s.epoch (epochs_of ss) k) w.2
 
 -- a section at the base before them

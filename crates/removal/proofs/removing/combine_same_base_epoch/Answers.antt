@@ -1,15 +1,13 @@
 -- The owner rule refuses, or the union is placed; ours and theirs are proper, so their records stand in the tables.
-use Rattle.std.proofs.Common.{sym, ap, ◌∙◌}
+use Rattle.std.proofs.Common.{refl, sym}
 use Rattle.std.proofs.Math.Seq.{length-take-le}
-use Rattle.records_spec.specs.Flags.{Flags, owner_of, flags_of, lending, holding}
-use Rattle.records_spec.specs.Answers.{placing}
-use Rattle.records_spec.specs.Outcomes.{Answer}
+use Rattle.records_spec.specs.Flags.{owner_of, lending}
+use Rattle.records_spec.specs.Outcomes.{refused}
+use Rattle.records_spec.specs.declared.refusal.Refusal.TheVariants.{DifferentOwners}
 use Rattle.records_spec.proofs.Proper.{proper_inv, proper_table_lem}
 use Rattle.records_spec.proofs.Answers.{refused_placing}
 use Rattle.flags_spec.specs.Owners.{combined_owner}
 use Rattle.flags_spec.proofs.Choosing.{answered_owner, refused_owner}
-use Rattle.removal_spec.specs.Removing.{removed_beside}
-use Rattle.removal_spec.proofs.Merging.{beside_disputed, beside_owned}
 use Rattle.removal.proofs.removing.combine_same_base_epoch.Goals as goal
 
 pub slice_bounds-place_union-end : goal.slice_bounds-place_union-end
@@ -33,18 +31,11 @@ place_union-requires-clause-table_2 c = proper_table_lem (proper_inv _ _ _ c.req
 pub returns-then-chosen : goal.returns-then-chosen
 returns-then-chosen c =
     let a = c.args in
-    let ours = flags_of (holding a.ours a.our_epochs.now a.our_counts.now) in
-    let theirs = flags_of (holding a.theirs a.their_epochs.now a.their_counts.now) in
     let disputed = refused_owner _ a.strategy (owner_of a.ours) (owner_of a.theirs) c.combine_owners-chosen.ensures c.if-chosen.true in
-    refused_placing c.refused.result (lending a.epochs.now a.counts.now) (removed_beside a.strategy ours theirs) _ c.refused.ensures
-    (beside_disputed a.strategy ours theirs disputed)
+    rw disputed (refused_placing c.refused.result (lending _ _) (refused _) DifferentOwners c.refused.ensures refl)
 
 pub returns : goal.returns
 returns c =
     let a = c.args in
-    let ours = flags_of (holding a.ours a.our_epochs.now a.our_counts.now) in
-    let theirs = flags_of (holding a.theirs a.their_epochs.now a.their_counts.now) in
     let merged = combined_owner a.strategy (owner_of a.ours) (owner_of a.theirs) in
-    let owned = answered_owner _ merged c.combine_owners-chosen.ensures c.if-chosen.false in
-    c.place_union.ensures
-    ∙ sym (ap (λ (x : Answer Flags). placing x (lending a.epochs.now a.counts.now)) (beside_owned a.strategy ours theirs _ owned))
+    rw (answered_owner _ merged c.combine_owners-chosen.ensures c.if-chosen.false) c.place_union.ensures
