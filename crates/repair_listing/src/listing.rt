@@ -1,7 +1,7 @@
 // The list of changes. Lines that have no room are counted and not written, so that one pass tells how many there are and another
 // writes them.
-ghost use Rattle.std.specs.Prelude.{◌≡◌, cond, not, [], ◌∷◌, ◌+◌, ◌≤◌, ◌<◌, ltb, eqb, length, set};
-ghost use Rattle.repair_spec.specs.Changes.{change_number, line, line_if, kept_lines, record_lines, dropped};
+ghost use Rattle.std.specs.Prelude.{◌≡◌, not, [], ◌∷◌, ◌+◌, ◌≤◌, ◌<◌, ltb, eqb, length, set};
+ghost use Rattle.repair_spec.specs.Changes.{line, line_if, kept_lines, record_lines, dropped};
 ghost use Rattle.repair_spec.specs.Repairing.{lines_of};
 ghost use Rattle.repair_spec.specs.Inner.Steps.{old_of, higher, lines_from, Listed, Settled};
 ghost use Rattle.repair_spec.specs.Limits.{all_epochs};
@@ -11,24 +11,13 @@ use records_spec::Kind;
 use repair_reading::read_old;
 use repair_spec::{Behind, Change, GotOld};
 
-// Puts an offset at the place k, if there is room.
-fn put_offset(offsets: &mut [usize], k: usize, at: usize)
-    ensures { offsets.new ≡ set offsets.old k at }
+// Puts a value at the place k of a column, if there is room.
+fn put<T: Copy>(column: &mut [T], k: usize, value: T)
+    ensures { column.new ≡ set column.old k value }
 {
-    if offsets.len() <= k {
-        return;
+    if k < column.len() {
+        column[k] = value;
     }
-    offsets[k] = at;
-}
-
-// Puts a change's number at the place k, if there is room.
-fn put_change(changes: &mut [u8], k: usize, change: Change)
-    ensures { changes.new ≡ set changes.old k (change_number change) }
-{
-    if changes.len() <= k {
-        return;
-    }
-    changes[k] = change_number(change);
 }
 
 // Lists a line at the place k; answers the place behind it.
@@ -42,8 +31,8 @@ fn list_line(
     requires { k + 1 < 18446744073709551616 }
     ensures { Listed (line at change ∷ []) k result offsets.old changes.old offsets.new changes.new }
 {
-    put_offset(offsets, k, at);
-    put_change(changes, k, change);
+    put(offsets, k, at);
+    put(changes, k, change_number(change));
     k + 1
 }
 
@@ -60,9 +49,10 @@ fn list_line_if(
     ensures { Listed (line_if there at change) k result offsets.old changes.old offsets.new changes.new }
 {
     if there {
-        return list_line(at, change, offsets, changes, k);
+        list_line(at, change, offsets, changes, k)
+    } else {
+        k
     }
-    k
 }
 
 // Lists the lines of a kept record: it ends before the place `next`, and kept ones before it have epochs up to `highest`.
@@ -86,16 +76,6 @@ fn list_kept(
     list_line_if(is_moved, at, Change::Moved, offsets, changes, behind)
 }
 
-// The higher of two epochs.
-fn higher_of(epoch: u16, highest: u16) -> u16
-    ensures { result ≡ cond (ltb epoch highest) highest epoch }
-{
-    if epoch < highest {
-        return highest;
-    }
-    epoch
-}
-
 // Lists the lines of a record whose count fits; the one that stands at its epoch is at `standing`.
 fn list_fitting(
     at: usize,
@@ -117,17 +97,17 @@ fn list_fitting(
 {
     if epoch <= base {
         let behind = list_line(at, Change::NotAboveBase, offsets, changes, k);
-        return Behind { k: behind, highest };
-    }
-    if standing == at {
+        Behind { k: behind, highest }
+    } else if standing == at {
         let behind = list_kept(at, epoch, count, next, highest, offsets, changes, k);
-        return Behind {
+        Behind {
             k: behind,
-            highest: higher_of(epoch, highest),
-        };
+            highest: epoch.max(highest),
+        }
+    } else {
+        let behind = list_line(at, Change::Replaced, offsets, changes, k);
+        Behind { k: behind, highest }
     }
-    let behind = list_line(at, Change::Replaced, offsets, changes, k);
-    Behind { k: behind, highest }
 }
 
 // Lists the lines of all records from `start` on, and the tail where it is cut; `places` has the record that stands at each epoch.
@@ -144,13 +124,12 @@ fn list_records(
     ensures { Listed (lines_from base places.now 0 start src.now) from result offsets.old changes.old offsets.new changes.new }
 {
     let mut at = start;
-    let mut highest: u16 = 0;
+    let mut highest = 0;
     let mut k = from;
+    // No `for`: the place moves by the bytes that were read.
     while at < src.len() {
         match read_old(src, at) {
-            GotOld::Cut => {
-                return list_line(at, Change::TailCut, offsets, changes, k);
-            }
+            GotOld::Cut => return list_line(at, Change::TailCut, offsets, changes, k),
             GotOld::TooLarge { next } => {
                 k = list_line(at, Change::TooLarge, offsets, changes, k);
                 at = next;
@@ -186,8 +165,9 @@ pub fn list_changes(
         let base = codec::base_in(kind, src);
         let is_empty = records == 0;
         let from = list_line_if(is_empty, 0, Change::KindChanged, offsets, changes, 0);
-        return list_records(src, start, base, places, offsets, changes, from);
+        list_records(src, start, base, places, offsets, changes, from)
+    } else {
+        let is_longer = start < src.len();
+        list_line_if(is_longer, start, Change::TailCut, offsets, changes, 0)
     }
-    let is_longer = start < src.len();
-    list_line_if(is_longer, start, Change::TailCut, offsets, changes, 0)
 }

@@ -2,9 +2,5 @@
 use Rattle.repair_spec.proofs.Columns.{listed_none}
 use Rattle.repair_listing.proofs.listing.list_line_if.Goals as goal
 
-pub returns-then-there : goal.returns-then-there
-returns-then-there c =
-    rw c.if-there.true c.list_line.ensures
-
-pub returns : goal.returns
-returns c = rw c.if-there.false (listed_none _ _ _)
+pub returns-else-there : goal.returns-else-there
+returns-else-there c = rw c.if-there.false (listed_none _ _ _)
