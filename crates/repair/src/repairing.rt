@@ -31,22 +31,17 @@ fn settle(
     ensures { let repair_lent = repair_was out.old offsets.old changes.old in
         after (told_repair result) (repair_left out.new offsets.new changes.new) ≡ placing_repair (repaired_as kind src.now) repair_lent }
 {
-    let records = head.records;
-    let mut no_offsets = [0usize; 1];
-    let mut no_changes = [0u8; 1];
-    let lines = list_changes(kind, src, places, records, &mut no_offsets, &mut no_changes);
-    if records::fit(lines, offsets.len(), changes.len()) {
-        match codec::serialize(head, epochs, counts, out) {
-            Counted::Refused(refusal) => {
-                return AnsweredRepair::Refused(refusal);
-            }
-            Counted::Count(bytes) => {
-                list_changes(kind, src, places, records, offsets, changes);
-                return AnsweredRepair::Done { bytes, lines };
-            }
+    let lines = list_changes(kind, src, places, head.records, &mut [], &mut []);
+    if !records::fit(lines, offsets.len(), changes.len()) {
+        return AnsweredRepair::Refused(Refusal::NoRoom);
+    }
+    match codec::serialize(head, epochs, counts, out) {
+        Counted::Refused(refusal) => AnsweredRepair::Refused(refusal),
+        Counted::Count(bytes) => {
+            list_changes(kind, src, places, head.records, offsets, changes);
+            AnsweredRepair::Done { bytes, lines }
         }
     }
-    AnsweredRepair::Refused(Refusal::NoRoom)
 }
 
 // Repairs bytes of kind 0 or 2.
@@ -62,12 +57,7 @@ fn repair_single(
         after (told_repair result) (repair_left out.new offsets.new changes.new) ≡ placing_repair (repaired_as kind src.now) repair_lent }
 {
     let head = codec::head_in(kind, src, 0);
-    let places = [0usize; 1];
-    let epochs = [0u16; 1];
-    let counts = [0u32; 1];
-    settle(
-        kind, src, &places, head, &epochs, &counts, out, offsets, changes,
-    )
+    settle(kind, src, &[], head, &[], &[], out, offsets, changes)
 }
 
 // The kind of flags with so many records: kind 0 or 2 where nothing is left.
@@ -76,12 +66,12 @@ fn kind_left(kind: Kind, records: usize) -> Kind
     ensures { result ≡ kind_left kind records }
 {
     if 0 < records {
-        return kind;
+        kind
+    } else if records::is_owned(kind) {
+        Kind::SingleEpochOwned
+    } else {
+        Kind::SingleEpoch
     }
-    if records::is_owned(kind) {
-        return Kind::SingleEpochOwned;
-    }
-    Kind::SingleEpoch
 }
 
 // Repairs bytes of kind 1 or 3 with tables by epoch, which come as zeros.
@@ -149,12 +139,12 @@ fn repair_as(
         after (told_repair result) (repair_left out.new offsets.new changes.new) ≡ placing_repair (repaired_as kind src.now) repair_lent }
 {
     if src.len() < codec::head_size(kind) {
-        return AnsweredRepair::Refused(Refusal::WrongSize);
+        AnsweredRepair::Refused(Refusal::WrongSize)
+    } else if records::is_multi(kind) {
+        repair_multi(kind, src, out, offsets, changes)
+    } else {
+        repair_single(kind, src, out, offsets, changes)
     }
-    if records::is_multi(kind) {
-        return repair_multi(kind, src, out, offsets, changes);
-    }
-    repair_single(kind, src, out, offsets, changes)
 }
 
 // Repairs bytes that reading refuses, by the kind that byte 0 names.
@@ -181,12 +171,11 @@ fn keep(src: &[u8], out: &mut [u8]) -> AnsweredRepair
     if out.len() < src.len() {
         return AnsweredRepair::Refused(Refusal::NoRoom);
     }
-    let mut k: usize = 0;
-    while k < src.len() {
-        out[k] = src[k];
-        k += 1;
+    out[..src.len()].copy_from_slice(src);
+    AnsweredRepair::Done {
+        bytes: src.len(),
+        lines: 0,
     }
-    AnsweredRepair::Done { bytes: k, lines: 0 }
 }
 
 // Repairs old flag bytes: canonical ones go to the start of `out`, and the changes, each with its input offset, to the start of
@@ -199,9 +188,7 @@ pub fn repair(
 ) -> AnsweredRepair
     ensures { after (told_repair result) (repair_left out.new offsets.new changes.new) ≡ repaired_into src.now (repair_was out.old offsets.old changes.old) }
 {
-    let judged = codec::judge(src);
-    let verdict = judged.verdict;
-    match verdict {
+    match codec::judge(src).verdict {
         Verdict::Absent => AnsweredRepair::Done { bytes: 0, lines: 0 },
         Verdict::Present => keep(src, out),
         Verdict::Refused(_, _) => repair_faulty(src, out, offsets, changes),

@@ -74,9 +74,6 @@ pub record Going (all : List Line) (at : ℕ) (os₀ cs₀ : List ℕ) (left : L
   pub offsets_long : length os ≡ length os₀
   pub changes_long : length cs ≡ length cs₀
 
-pub going_start : (all : List Line) (at : ℕ) (os cs : List ℕ) → Going all at os cs all at os cs
-going_start all at os cs = record { then = λ n os' cs' l. l; offsets_long = refl; changes_long = refl }
-
 module _ {all left : List Line} {at k : ℕ} {os₀ cs₀ os cs : List ℕ} (g : Going all at os₀ cs₀ left k os cs) where
   -- some lines more
   pub going_more : (ls rest : List Line) (j : ℕ) (os' cs' : List ℕ) → left ≡ ls ++ rest → Listed ls k j os cs os' cs'

@@ -39,18 +39,7 @@ use Rattle.repair_spec.proofs.MapByTables.{canonical_ascends, drawn_left}
 
 -- ---- the kind of what is left
 
-pub single_agrees : (k : Kind) → multi k ≡ false → agrees k 0 ≡ true
-single_agrees k m = rw m
-
 module _ (k : Kind) (m : multi k ≡ true) where
-  pub left_agrees : (n : ℕ) → agrees (kind_left k n) n ≡ true
-  left_agrees zero = by (owned k)
-    where
-      by : (b : Bool) → agrees (cond b SingleEpochOwned SingleEpoch) 0 ≡ true
-      by true = refl
-      by false = refl
-  left_agrees (suc n) = rw (lt-ltb 0 (suc n) (omega arith), m)
-
   left_owned : (n : ℕ) → owned (kind_left k n) ≡ owned k
   left_owned n = by (ltb 0 n) (owned k) refl
     where
@@ -58,9 +47,6 @@ module _ (k : Kind) (m : multi k ≡ true) where
       by true c q = q
       by false true q = refl
       by false false q = refl
-
-  pub left_head : (n : ℕ) → head_size (kind_left k n) ≡ head_size k
-  left_head n = ap (λ (b : Bool). cond b owned_head unowned_head) (left_owned n)
 
   -- base and owner stand where they stood
   pub left_for : (xs : List ℕ) (n : ℕ) → head_for (base_in (kind_left k n) xs) (owner_in (kind_left k n) xs) n ≡ head_for (base_in k xs) (owner_in k xs) n
@@ -178,11 +164,11 @@ module _ (k : Kind) (xs : List ℕ) (m : multi k ≡ true) (bs : Bytes xs) (long
     head_is =
         eh ∙ ap (λ (x : Kind). head_for (base_in x xs) (owner_in x xs) n) ek ∙ left_for k m xs n ∙ ap (head_for (base_in k xs) (owner_in k xs)) counted
 
-    pub multi_ready : Ready k xs h es' cs'
+    multi_ready : Ready k xs h es' cs'
     multi_ready =
         placed_ready k xs h head_is es' cs' es₀ cs n (left_canonical k xs bs) (omega (arith, few))
         (omega (arith, few, ap length counts_are, marks_long (λ (o : Old). o.count) (base_in k xs) cs₀ (olds_in k xs).records, bc.wide))
         (rw drawn_is at p)
 
-    pub standing_ready : Settled k xs ps h.records
-    standing_ready = multi_standing h.records (ap (λ (x : Head). x.records) head_is)
+    pub settled_ready : Settled k xs ps h.records × Ready k xs h es' cs'
+    settled_ready = (multi_standing h.records (ap (λ (x : Head). x.records) head_is), multi_ready)

@@ -1,5 +1,5 @@
 -- `repair::repairing::repair` meets its contract: what reading finds leads on. Assumes nothing.
-use mathlib.Core.Path.{sym, ap, ◌∙◌}
+use Rattle.std.proofs.Common.{sym, ap, ◌∙◌}
 use Rattle.fields_spec.specs.Theorems.{Bytes}
 use Rattle.codec_spec.specs.Reading.{read}
 use Rattle.codec_spec.specs.declared.judging.Judgement.{Judgement}
@@ -9,21 +9,20 @@ use Rattle.repair.proofs.repairing.repair.Goals as goal
 
 pub repair_faulty-requires : goal.repair_faulty-requires
 repair_faulty-requires c =
-    let d = c.args.src.now in
-    refused_some d _ _ (judged_refused (read d) _ _
-    (sym (ap (λ (j : Judgement). j.verdict) c.judge-judged.ensures) ∙ c.in-Refused.is))
+    let src = c.args.src.now in
+    let verdict = sym (ap (λ (j : Judgement). j.verdict) c.judge.ensures) ∙ c.in-Refused.is in
+    refused_some src _ _ (judged_refused (read src) _ _ verdict)
 
 pub returns-in-Absent : goal.returns-in-Absent
 returns-in-Absent c =
     let a = c.args in
-    call_nothing a.src.now a.out.now a.offsets.now a.changes.now
-    (judged_absent (read a.src.now) (sym (ap (λ (j : Judgement). j.verdict) c.judge-judged.ensures) ∙ c.in-Absent.is))
+    let verdict = sym (ap (λ (j : Judgement). j.verdict) c.judge.ensures) ∙ c.in-Absent.is in
+    call_nothing a.src.now a.out.now a.offsets.now a.changes.now (judged_absent (read a.src.now) verdict)
 
 pub returns-in-Present : goal.returns-in-Present
 returns-in-Present c =
     let a = c.args in
     let bytes : Bytes a.src.now = λ i. (c.type_inv.src i).fits in
-    let f = judged_present (read a.src.now)
-    (sym (ap (λ (j : Judgement). j.verdict) c.judge-judged.ensures) ∙ c.in-Present.is) in
-    c.keep.ensures a.offsets.now a.changes.now ∙ call_canonical a.src.now a.out.now a.offsets.now
-    a.changes.now f.0 bytes f.1
+    let verdict = sym (ap (λ (j : Judgement). j.verdict) c.judge.ensures) ∙ c.in-Present.is in
+    let flags = judged_present (read a.src.now) verdict in
+    c.keep.ensures a.offsets.now a.changes.now ∙ call_canonical a.src.now a.out.now a.offsets.now a.changes.now flags.0 bytes flags.1

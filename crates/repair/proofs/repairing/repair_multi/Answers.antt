@@ -1,9 +1,10 @@
 -- `repair::repairing::repair_multi` meets its contract: the tables come as zeros. Assumes nothing.
-use native.Mathlib.Omega.{arith}
+use Rattle.std.proofs.Common.{arith}
 use Rattle.repair_spec.specs.Limits.{all_epochs}
 use Rattle.repair_spec.proofs.Readying.{blank_zeros}
 use Rattle.repair.proofs.repairing.repair_multi.Goals as goal
 
-pub repair_by-requires : goal.repair_by-requires
-repair_by-requires c =
-    record { kind_value = c.requires; blank = (blank_zeros all_epochs (omega arith), blank_zeros all_epochs (omega arith), (blank_zeros all_epochs (omega arith)).wide) }
+pub repair_by-requires-clause-blank : goal.repair_by-requires-clause-blank
+repair_by-requires-clause-blank c =
+    let zeros = blank_zeros all_epochs (omega arith) in
+    (zeros, zeros, zeros.wide)
