@@ -13,7 +13,7 @@ ghost use Rattle.sums_spec.specs.Sums.{unknown, basic_plus, sum};
 ghost use Rattle.sums_spec.specs.Calls.{summed};
 
 use records_spec::{OWNER_LENGTH, Refusal};
-use rows_spec::{AnsweredRemoval, Removed, StorageRemovedBytes};
+use rows_spec::{Removed, StorageRemovedBytes};
 
 // The epoch of bytes of which none is known.
 const UNKNOWN_EPOCH: u16 = 65535;
@@ -28,7 +28,7 @@ fn add_rows(
     rhs_epochs: &[u16],
     rhs_bytes: &[u32],
     m: usize,
-) -> AnsweredRemoval
+) -> Result<StorageRemovedBytes, Refusal>
     requires proper { Proper n (tables ids.old epochs.old bytes.old) }
     requires proper_2 { Proper m (tables rhs_ids.now rhs_epochs.now rhs_bytes.now) }
     ensures { let rows_lent = rows_were ids.old epochs.old bytes.old in
@@ -40,7 +40,7 @@ fn add_rows(
         ids, epochs, bytes, n, rhs_ids, rhs_epochs, rhs_bytes, m,
     );
     if !rows::rows_fit(count, ids, epochs, bytes) {
-        return AnsweredRemoval::Refused(Refusal::NoRoom);
+        return Err(Refusal::NoRoom);
     }
     sums_joining::join_in_place(
         ids, epochs, bytes, n, rhs_ids, rhs_epochs, rhs_bytes, m, count,
@@ -49,10 +49,10 @@ fn add_rows(
 }
 
 // A state as an answer.
-fn done(removed: Removed) -> AnsweredRemoval
+fn done(removed: Removed) -> Result<StorageRemovedBytes, Refusal>
     ensures { told_removal result ≡ ok removed }
 {
-    AnsweredRemoval::Done(StorageRemovedBytes { removed })
+    Ok(StorageRemovedBytes { removed })
 }
 
 // Adds a number to our first n rows, at 32 zero bytes and epoch 65,535.
@@ -62,7 +62,7 @@ fn add_basic(
     bytes: &mut [u32],
     n: usize,
     removed_bytes: u32,
-) -> AnsweredRemoval
+) -> Result<StorageRemovedBytes, Refusal>
     requires { Proper n (tables ids.old epochs.old bytes.old) }
     ensures { let rows_lent = rows_were ids.old epochs.old bytes.old in
         after (told_removal result) (rows_left ids.new epochs.new bytes.new)
@@ -100,7 +100,7 @@ fn add_rows_to_basic(
     rhs_epochs: &[u16],
     rhs_bytes: &[u32],
     m: usize,
-) -> AnsweredRemoval
+) -> Result<StorageRemovedBytes, Refusal>
     requires { Proper m (tables rhs_ids.now rhs_epochs.now rhs_bytes.now) }
     ensures { let rhs_rows = rows_were rhs_ids.now rhs_epochs.now rhs_bytes.now in
         let rows_lent = rows_were ids.old epochs.old bytes.old in
@@ -114,7 +114,7 @@ fn add_rows_to_basic(
         rhs_ids, rhs_epochs, rhs_bytes, m, &row_id, &row_epoch, &row_bytes, 1,
     );
     if !rows::rows_fit(count, ids, epochs, bytes) {
-        return AnsweredRemoval::Refused(Refusal::NoRoom);
+        return Err(Refusal::NoRoom);
     }
     sums_joining::join_in_place(ids, epochs, bytes, 0, rhs_ids, rhs_epochs, rhs_bytes, m, m);
     sums_joining::join_in_place(
@@ -134,7 +134,7 @@ fn add_rows_to_basic_for_version(
     rhs_bytes: &[u32],
     m: usize,
     version: u16,
-) -> AnsweredRemoval
+) -> Result<StorageRemovedBytes, Refusal>
     requires { Proper m (tables rhs_ids.now rhs_epochs.now rhs_bytes.now) }
     ensures { let rhs_rows = rows_were rhs_ids.now rhs_epochs.now rhs_bytes.now in
         let rows_lent = rows_were ids.old epochs.old bytes.old in
@@ -179,7 +179,7 @@ fn add_proper(
     rhs_epochs: &[u16],
     rhs_bytes: &[u32],
     version: u16,
-) -> AnsweredRemoval
+) -> Result<StorageRemovedBytes, Refusal>
     requires bytes_value { proper_in lhs (tables ids.old epochs.old bytes.old) ≡ true }
     requires rhs_bytes_value { proper_in rhs (tables rhs_ids.now rhs_epochs.now rhs_bytes.now) ≡ true }
     ensures { let rows_lent = rows_were ids.old epochs.old bytes.old in
@@ -217,7 +217,7 @@ pub fn add_assign(
     rhs_epochs: &[u16],
     rhs_bytes: &[u32],
     version: u16,
-) -> AnsweredRemoval
+) -> Result<StorageRemovedBytes, Refusal>
     ensures { let rows_lent = rows_were ids.old epochs.old bytes.old in
         let rhs_rows = rows_were rhs_ids.now rhs_epochs.now rhs_bytes.now in
         let removal_given = holding_rows lhs.removed rows_lent in
@@ -239,6 +239,6 @@ pub fn add_assign(
             version,
         )
     } else {
-        AnsweredRemoval::Refused(Refusal::BadTable)
+        Err(Refusal::BadTable)
     }
 }

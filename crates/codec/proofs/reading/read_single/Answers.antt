@@ -15,7 +15,7 @@ returns-then-src-head_size c = λ es cs.
     let k = c.args.kind in
     let d = c.args.src.now in
     let head = flags (base_in k d) (owner_in k d) [] in
-    placed_left c.present.result (lending es cs) head _ 0 es cs c.present.ensures c.head_in.ensures
+    placed_left _ (lending es cs) head _ 0 es cs refl c.head_in.ensures
     (filling_done (filling_start [] 0 es cs) refl) (omega arith) (omega arith)
     ∙ sym (placing_some head (lending es cs))
     ∙ sym (ap (λ (x : Read). placing_if (answer x) (lending es cs)) (single_right k d c.requires (c.if-src-head_size.true ∙ c.head_size.ensures)))
@@ -24,5 +24,5 @@ pub returns-else-src-head_size : goal.returns-else-src-head_size
 returns-else-src-head_size c = λ es cs.
     let k = c.args.kind in
     let d = c.args.src.now in
-    left_refused (read_as k d) es cs c.refused.result _ (length d) c.refused.ensures
+    left_refused (read_as k d) es cs _ _ (length d) refl
     (single_wrong k d c.requires (λ e. c.if-src-head_size.false (e ∙ sym c.head_size.ensures)))
