@@ -14,7 +14,7 @@ use Rattle.fields_spec.specs.Big.{said}
 use Rattle.fields_spec.specs.Varint.{found, whole}
 use Rattle.fields_spec.specs.Inner.Varints.{is_whole, read_at}
 use Rattle.fields_spec.specs.declared.varint.Varint.{Varint}
-use Rattle.fields_spec.specs.declared.varint.Reading.TheVariants.{Whole}
+use Rattle.std.proofs.Common.{Ok}
 use Rattle.fields_spec.proofs.Told.{told_read}
 use Rattle.records_spec.specs.Tables.{At, ◌⦂◌}
 use Rattle.records_spec.specs.Inner.Tables.{Placed}
@@ -55,7 +55,7 @@ module _ (d : List ℕ) (at prev : ℕ) (a : Ahead d at prev) where
   ahead_whole = ap is_whole ahead_found
 
   -- what the code reads there
-  pub ahead_read : (e : ℕ) (v : Varint) → e ≡ said (take 2 (drop at d)) → Whole v ≡ read_at (at + 2) (found (drop (at + 2) d))
+  pub ahead_read : (e : ℕ) (v : Varint) → e ≡ said (take 2 (drop at d)) → Ok v ≡ read_at (at + 2) (found (drop (at + 2) d))
       → (e ⦂ v.count ≡ a.item) × (v.next ≡ at + a.size)
   ahead_read e v ee ev =
       let t = told_read (at + 2) v.count v.next (found (drop (at + 2) d)) ev in
@@ -84,7 +84,7 @@ module _ {all : List At} {d es₀ cs₀ es cs : List ℕ} {k at i : ℕ} (g : Go
       let f = g.filling in
       (omega (arith, f.epochs.long), omega (arith, f.counts.long))
 
-  pub going_more : (h : i < k + length all) (e : ℕ) (v : Varint) → e ≡ said (take 2 (drop at d)) → Whole v ≡ read_at (at + 2) (found (drop (at + 2) d))
+  pub going_more : (h : i < k + length all) (e : ℕ) (v : Varint) → e ≡ said (take 2 (drop at d)) → Ok v ≡ read_at (at + 2) (found (drop (at + 2) d))
       → Going all d k es₀ cs₀ (set es i e) (set cs i v.count) v.next (i + 1)
   going_more h e v ee ev =
       let a = going_ahead h in

@@ -8,7 +8,7 @@ pub fn be16_at(src: &[u8], at: usize) -> u16
     requires { at + 2 ≤ length src.now }
     ensures { result ≡ said (take 2 (drop at src.now)) }
 {
-    (src[at] as u16) * 256 + src[at + 1] as u16
+    u16::from_be_bytes([src[at], src[at + 1]])
 }
 
 // Writes a number in two bytes at `at`; answers the place behind them.
@@ -16,7 +16,8 @@ pub fn put_be16(out: &mut [u8], at: usize, n: u16) -> usize
     requires { at + 2 ≤ length out.old }
     ensures { Put (big 2 n) at result out.old out.new }
 {
-    out[at] = (n / 256) as u8;
-    out[at + 1] = (n % 256) as u8;
+    let [high, low] = n.to_be_bytes();
+    out[at] = high;
+    out[at + 1] = low;
     at + 2
 }

@@ -1,11 +1,10 @@
 // Varints: minimal ones of counts up to 32 bits.
-ghost use Rattle.std.specs.Prelude.{◌≡◌, true, ◌&&◌, ◌+◌, ◌*◌, ◌≤◌, ◌<◌, ltb, length, take, drop};
-ghost use Rattle.fields_spec.specs.Inner.Selects.{Selected};
-ghost use Rattle.fields_spec.specs.Varint.{varint, value, found};
-ghost use Rattle.fields_spec.specs.Inner.Varints.{Ending, is_whole, judged_at, read_at, Passed};
+ghost use Rattle.std.specs.Prelude.{◌≡◌, true, ◌+◌, ◌≤◌, ◌<◌, nat_lt, length, take, drop, position, Ok};
+ghost use Rattle.fields_spec.specs.Varint.{varint, found};
+ghost use Rattle.fields_spec.specs.Inner.Varints.{Begun, Ending, is_whole, judged_at, read_at};
 ghost use Rattle.fields_spec.specs.Writing.{Put};
 
-use fields_spec::{Judged, Reading, Varint};
+use fields_spec::{Varint, VarintFault};
 
 // The largest count and the largest number of bytes: 32 bits.
 pub const LARGEST: u32 = 4294967295;
@@ -20,7 +19,7 @@ const LENGTHS: [usize; 33] = [
 pub fn varint_len(count: u32) -> usize
     ensures { result ≡ length (varint count) }
 {
-    let bits = 32 - u32::leading_zeros(count);
+    let bits = 32 - count.leading_zeros();
     LENGTHS[bits as usize]
 }
 
@@ -55,65 +54,47 @@ pub fn put_varint(out: &mut [u8], at: usize, count: u32) -> usize
 
 // Judges the varint at `at` that ends `k` bytes behind its first: it is longer than minimal where its last byte is 0, and five bytes hold
 // 32 bits where the fifth is below 16.
-fn end_at(src: &[u8], at: usize, k: usize) -> Judged
+fn end_at(src: &[u8], at: usize, k: usize) -> Result<usize, VarintFault>
     requires { Ending src.now at k }
     ensures { result ≡ judged_at at (found (drop at src.now)) }
 {
     let last = src[at + k];
-    if last == 0 {
-        return Judged::NotCanonical(at);
+    if last != 0 && (k < 4 || k == 4 && last < 16) {
+        Ok(at + k + 1)
+    } else {
+        Err(VarintFault::NotCanonical(at))
     }
-    if k < 4 {
-        return Judged::Ends(at + k + 1);
-    }
-    if 4 < k {
-        return Judged::NotCanonical(at);
-    }
-    if last < 16 {
-        return Judged::Ends(at + 5);
-    }
-    Judged::NotCanonical(at)
 }
 
-// Judges the varint at `at`, byte by byte and without what it says: it is incomplete where it does not end within ten bytes.
-pub fn judge_varint(src: &[u8], at: usize) -> Judged
+// The place of the first byte without the top bit, among the first ten.
+fn first_low(src: &[u8]) -> Option<usize>
+    ensures { result ≡ position (λ b. nat_lt b 128) (take 10 src.now) }
+{
+    src.iter().take(10).position(|byte| *byte < 128)
+}
+
+// Judges the varint at `at` without what it says, and answers the place behind it: it is incomplete where it does not end within ten bytes.
+pub fn judge_varint(src: &[u8], at: usize) -> Result<usize, VarintFault>
     ensures { result ≡ judged_at at (found (drop at src.now)) }
 {
     if src.len() <= at {
-        return Judged::Incomplete(at);
+        return Err(VarintFault::Incomplete(at));
     }
-    if src[at] < 128 {
-        return Judged::Ends(at + 1);
+    match first_low(&src[at..]) {
+        None => Err(VarintFault::Incomplete(at)),
+        Some(0) => Ok(at + 1),
+        Some(k) => end_at(src, at, k),
     }
-    let mut k: usize = 1;
-    while k < 10 {
-        let i = at + k;
-        if src.len() <= i {
-            return Judged::Incomplete(at);
-        }
-        if src[i] < 128 {
-            return end_at(src, at, k);
-        }
-        k += 1;
-    }
-    Judged::Incomplete(at)
-}
-
-// The same number in 32 bits.
-fn wide(byte: u8) -> u32
-    ensures { result ≡ byte }
-{
-    byte as u32
 }
 
 // What the whole varint at `at` says, of which two bytes are passed, that say `two`.
 fn varint_third(src: &[u8], at: usize, two: u32) -> Varint
     requires src_value { is_whole (found (drop at src.now)) ≡ true }
-    requires passed { Passed src.now at 2 × (two ≡ value (take 2 (drop at src.now))) }
-    ensures { Reading.Whole result ≡ read_at at (found (drop at src.now)) }
+    requires begun { Begun src.now at 2 two }
+    ensures { Ok result ≡ read_at at (found (drop at src.now)) }
 {
     let third = src[at + 2];
-    let three = two + wide(third % 128) * 16384;
+    let three = two + (third % 128) as u32 * 16384;
     if third < 128 {
         return Varint {
             count: three,
@@ -121,7 +102,7 @@ fn varint_third(src: &[u8], at: usize, two: u32) -> Varint
         };
     }
     let fourth = src[at + 3];
-    let four = three + wide(fourth % 128) * 2097152;
+    let four = three + (fourth % 128) as u32 * 2097152;
     if fourth < 128 {
         return Varint {
             count: four,
@@ -130,7 +111,7 @@ fn varint_third(src: &[u8], at: usize, two: u32) -> Varint
     }
     let fifth = src[at + 4];
     Varint {
-        count: four + wide(fifth % 16) * 268435456,
+        count: four + (fifth % 16) as u32 * 268435456,
         next: at + 5,
     }
 }
@@ -138,17 +119,17 @@ fn varint_third(src: &[u8], at: usize, two: u32) -> Varint
 // What the varint at `at` says, where judging found a whole one.
 pub fn varint_at(src: &[u8], at: usize) -> Varint
     requires { is_whole (found (drop at src.now)) ≡ true }
-    ensures { Reading.Whole result ≡ read_at at (found (drop at src.now)) }
+    ensures { Ok result ≡ read_at at (found (drop at src.now)) }
 {
     let first = src[at];
     if first < 128 {
         return Varint {
-            count: wide(first),
+            count: first as u32,
             next: at + 1,
         };
     }
     let second = src[at + 1];
-    let two = wide(first % 128) + wide(second % 128) * 128;
+    let two = (first % 128) as u32 + (second % 128) as u32 * 128;
     if second < 128 {
         return Varint {
             count: two,
@@ -159,78 +140,37 @@ pub fn varint_at(src: &[u8], at: usize) -> Varint
 }
 
 // Reads the varint at `at` byte by byte, as judging found it: where the bytes end soon, and where it is refused.
-fn read_judged(src: &[u8], at: usize) -> Reading
+fn read_judged(src: &[u8], at: usize) -> Result<Varint, VarintFault>
     ensures { result ≡ read_at at (found (drop at src.now)) }
 {
-    match judge_varint(src, at) {
-        Judged::Incomplete(place) => Reading::Incomplete(place),
-        Judged::NotCanonical(place) => Reading::NotCanonical(place),
-        Judged::Ends(_) => Reading::Whole(varint_at(src, at)),
-    }
-}
-
-// Whether both bytes have the top bit set: one test, so that nothing is guessed of the first alone.
-fn both_high(x: u8, y: u8) -> bool
-    ensures { result ≡ ltb 127 x && ltb 127 y }
-{
-    (127 < x) & (127 < y)
-}
-
-// The last byte of three or four: the third, where that has no top bit. This and the next two are chosen without a jump, since of mixed
-// counts it cannot be guessed which it is.
-fn last_of(third: u8, fourth: u8) -> u8
-    ensures { Selected 127 third fourth third result }
-{
-    if 127 < third {
-        return fourth;
-    }
-    third
-}
-
-// What the fourth byte adds, where it belongs to the varint and is its last.
-fn fourth_part(third: u8, fourth: u8) -> u32
-    ensures { Selected 127 third (fourth * 2097152) 0 result × (result ≤ 534773760) }
-{
-    if 127 < third {
-        return wide(fourth) * 2097152;
-    }
-    0
-}
-
-// The place behind three or four bytes, of which the one behind three is `next`.
-fn behind_third(third: u8, next: usize) -> usize
-    requires { next + 1 < 18446744073709551616 }
-    ensures { Selected 127 third (next + 1) next result }
-{
-    if 127 < third {
-        return next + 1;
-    }
-    next
+    judge_varint(src, at)?;
+    Ok(varint_at(src, at))
 }
 
 // Reads the varint at `at`, of which four bytes are passed, that say `four`.
-fn read_fifth(src: &[u8], at: usize, four: u32) -> Reading
+fn read_fifth(src: &[u8], at: usize, four: u32) -> Result<Varint, VarintFault>
     requires at_in_bounds { at + 4 < length src.now }
-    requires passed { Passed src.now at 4 × (four ≡ value (take 4 (drop at src.now))) }
+    requires begun { Begun src.now at 4 four }
     ensures { result ≡ read_at at (found (drop at src.now)) }
 {
     let fifth = src[at + 4];
-    if fifth < 16 {
-        if fifth == 0 {
-            return Reading::NotCanonical(at);
-        }
-        return Reading::Whole(Varint {
-            count: four + wide(fifth) * 268435456,
+    if fifth == 0 {
+        Err(VarintFault::NotCanonical(at))
+    } else if fifth < 16 {
+        Ok(Varint {
+            count: four + fifth as u32 * 268435456,
             next: at + 5,
-        });
+        })
+    } else {
+        read_judged(src, at)
     }
-    read_judged(src, at)
 }
 
-// Reads the varint at `at`, of which two bytes are passed, that say `two`.
-fn read_third(src: &[u8], at: usize, two: u32) -> Reading
+// Reads the varint at `at`, of which two bytes are passed, that say `two`. One test is for both bytes, so that nothing is guessed of the first
+// alone. Which of them is the last is chosen without a jump, since of mixed counts it cannot be guessed.
+fn read_third(src: &[u8], at: usize, two: u32) -> Result<Varint, VarintFault>
     requires at_in_bounds { at + 2 ≤ length src.now }
-    requires passed { Passed src.now at 2 × (two ≡ value (take 2 (drop at src.now))) }
+    requires begun { Begun src.now at 2 two }
     ensures { result ≡ read_at at (found (drop at src.now)) }
 {
     if src.len() - at < 5 {
@@ -238,45 +178,50 @@ fn read_third(src: &[u8], at: usize, two: u32) -> Reading
     }
     let third = src[at + 2];
     let fourth = src[at + 3];
-    let three = two + wide(third % 128) * 16384;
-    if both_high(third, fourth) {
-        return read_fifth(src, at, three + wide(fourth % 128) * 2097152);
+    let three = two + (third % 128) as u32 * 16384;
+    if (127 < third) & (127 < fourth) {
+        return read_fifth(src, at, three + (fourth % 128) as u32 * 2097152);
     }
-    if last_of(third, fourth) == 0 {
-        return Reading::NotCanonical(at);
+    let (last, part, used) = if 127 < third {
+        (fourth, fourth as u32 * 2097152, 4)
+    } else {
+        (third, 0, 3)
+    };
+    if last == 0 {
+        return Err(VarintFault::NotCanonical(at));
     }
-    Reading::Whole(Varint {
-        count: three + fourth_part(third, fourth),
-        next: behind_third(third, at + 3),
+    Ok(Varint {
+        count: three + part,
+        next: at + used,
     })
 }
 
 // Reads the varint at `at`. One and two bytes are the most frequent, and have tests of their own.
-pub fn read_varint(src: &[u8], at: usize) -> Reading
+pub fn read_varint(src: &[u8], at: usize) -> Result<Varint, VarintFault>
     ensures { result ≡ read_at at (found (drop at src.now)) }
 {
     if src.len() <= at {
-        return Reading::Incomplete(at);
+        return Err(VarintFault::Incomplete(at));
     }
     let first = src[at];
     if first < 128 {
-        return Reading::Whole(Varint {
-            count: wide(first),
+        return Ok(Varint {
+            count: first as u32,
             next: at + 1,
         });
     }
     if src.len() - at < 2 {
-        return Reading::Incomplete(at);
+        return Err(VarintFault::Incomplete(at));
     }
     let second = src[at + 1];
-    let two = wide(first % 128) + wide(second % 128) * 128;
+    let two = (first % 128) as u32 + (second % 128) as u32 * 128;
     if 127 < second {
         return read_third(src, at, two);
     }
     if second == 0 {
-        return Reading::NotCanonical(at);
+        return Err(VarintFault::NotCanonical(at));
     }
-    Reading::Whole(Varint {
+    Ok(Varint {
         count: two,
         next: at + 2,
     })

@@ -1,11 +1,8 @@
 -- Numbers written in a base b, group by group: a bound on the steps that is large enough makes no difference, and a number below
 -- b ^ k has k groups at most. Assumes nothing.
-use Prim.Native.Nat.{ℕ, zero, suc, ◌*◌, ◌/◌, ◌^◌, ◌≤◌, ◌<◌}
-use native.Mathlib.Nat.{div-lt_self, div-lt_iff_lt-mul, pow-succ', pow-zero, mul_comm, le_refl}
-use native.Mathlib.Decide.{dec_lt}
-use native.Mathlib.Omega.{arith}
-use mathlib.Core.Path.{◌≡◌, ap, sym, ◌∙◌}
-use mathlib.Core.List.{List}
+use Rattle.std.proofs.Common.{ℕ, zero, suc, ◌*◌, ◌/◌, ◌^◌, ◌≤◌, ◌<◌, div-lt_iff_lt-mul, mul_comm, le_refl, arith, ◌≡◌, ap, sym, ◌∙◌, List}
+use Rattle.std.proofs.Math.Nat.{div-lt_self, pow-succ', pow-zero}
+use Rattle.std.proofs.Math.Decide.{dec_lt}
 
 module _ (b : ℕ) (base : 1 < b) where
   -- a group less is a step less

@@ -1,13 +1,8 @@
 -- Big-endian fields, once over their width: what is written is read back, and what is read is what would be written.
 -- Assumes nothing.
-use Prim.Native.Nat.{ℕ, zero, suc, ◌+◌, ◌*◌, ◌/◌, ◌%◌, ◌^◌, ◌≤◌, ◌<◌}
-use native.Mathlib.Nat.{pow-succ', pow-zero, add-zero, mul_assoc, one-mul}
-use mathlib.Core.Path.{◌≡◌, refl, ap, ap₂, sym, ◌∙◌}
-use mathlib.Core.List.{List, [], ◌∷◌, ◌++◌, append_assoc, append-nil}
-use native.Mathlib.Omega.{arith}
-use native.Mathlib.Numerals.{add-one}
-use lib.ListN.{length, get_or, take, drop, set, length-append}
-use lib.Seq.{drop-cons}
+use Rattle.std.proofs.Common.{ℕ, zero, suc, ◌+◌, ◌*◌, ◌/◌, ◌%◌, ◌^◌, ◌≤◌, ◌<◌, add-zero, mul_assoc, one-mul, ◌≡◌, refl, ap, ap₂, sym, ◌∙◌, List}
+use Rattle.std.proofs.Common.{[], ◌∷◌, ◌++◌, append_assoc, append-nil, arith, add-one, length, get_or, take, drop, set, length-append, drop-cons}
+use Rattle.std.proofs.Math.Nat.{pow-succ', pow-zero}
 use Rattle.fields_spec.specs.Big.{big, said, said_after}
 use Rattle.fields_spec.specs.Writing.{Put}
 
@@ -67,8 +62,6 @@ unfolding said_after
 two_at d at h =
     rw (drop-cons d at 0 (omega arith), add-one, drop-cons d (suc at) 0 (omega arith)) (omega arith)
 
-pub put_two : (out : List ℕ) (at n : ℕ) → n < 65536 → Put (big 2 n) at (at + 2) out (set (set out at (n / 256)) (at + 1) (n % 256))
+pub put_two : (out : List ℕ) (at n : ℕ) → Put (big 2 n) at (at + 2) out (set (set out at (n / 256 % 256)) (at + 1) (n % 256))
 unfolding big
-put_two out at n h =
-    let e : n / 256 % 256 ≡ n / 256 = omega arith in
-    record { behind = refl; wrote = rw (add-one, e) refl }
+put_two out at n = record { behind = refl; wrote = rw add-one refl }

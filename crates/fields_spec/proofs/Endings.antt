@@ -1,88 +1,74 @@
--- The byte that ends a varint, as reading answers it: the bytes end first, the last byte is 0, or the varint is whole. Three and four bytes
--- are one case: what is chosen by the third byte. By the laws of `Places`.
--- Assumes nothing.
-use mathlib.Core.Path.{◌≡◌, refl, sym, ap}
-use mathlib.Core.Bool.{true, false, ◌&&◌, and-eq-true_iff}
-use mathlib.Core.List.{List}
-use Prim.Native.Nat.{ℕ, suc, ◌+◌, ◌*◌, ◌%◌, ◌^◌, ◌≤◌, ◌<◌}
-use native.Mathlib.Decide.{dec_lt}
-use native.Mathlib.Omega.{arith}
-use lib.Dec.{ltb}
-use borrow.Author.Tests.{lt-ltb, ltb-true, ltb-false}
-use lib.ListN.{length, get_or, take, drop, length-take}
-use Rattle.fields_spec.specs.Inner.Selects.{Selected}
-use Rattle.fields_spec.specs.Varint.{largest, value, found}
-use Rattle.fields_spec.specs.Inner.Varints.{is_whole, read_at, Passed}
-use Rattle.fields_spec.specs.declared.varint.Reading.TheVariants.{Incomplete, NotCanonical, Whole}
-use Rattle.fields_spec.proofs.Places.{value_below, value_on, passed_cut, passed_more, passed_zero, passed_whole, passed_small, passed_read}
+-- The byte that ends a varint, as judging and reading answer it: the bytes end first, the last byte is 0, or the varint is whole. `Begun` says
+-- what is known of the bytes before it. By the laws of `Places`.
+use Rattle.std.proofs.Common.{ℕ, suc, ◌+◌, ◌*◌, ◌%◌, ◌^◌, ◌≤◌, ◌<◌, ◌≡◌, ◌⊎◌, inl, inr, true, List, length, get_or, take, drop, Ok, Err}
+use Rattle.std.proofs.Common.{sym, ap, ◌∙◌, arith, length-take}
+use Rattle.std.proofs.Math.Decide.{dec_lt}
+use Rattle.fields_spec.specs.Varint.{largest, value, found, notCanonical}
+use Rattle.fields_spec.specs.Inner.Varints.{is_whole, judged_at, read_at, Passed, Begun, Ending}
+use Rattle.fields_spec.specs.declared.varint.VarintFault.TheVariants.{Incomplete, NotCanonical}
+use Rattle.fields_spec.proofs.Places.{value_below, value_on, first_more, first_value, passed_cut, passed_more, passed_zero, passed_whole}
+use Rattle.fields_spec.proofs.Places.{passed_small, passed_read, passed_long, fifth_fits, fifth_large}
 
--- k groups are below 128 ^ k
-pub groups_below : (d : List ℕ) (at k : ℕ) → value (take k (drop at d)) < 128 ^ k
-groups_below d at k = value_below k (take k (drop at d)) (simp length-take (omega arith))
+-- ---- as judging answers it
 
--- two tests that both hold
-pub both_true : (x y : ℕ) → (ltb 127 x && ltb 127 y) ≡ true → (127 < x) × (127 < y)
-both_true x y e = let p = (and-eq-true_iff (ltb 127 x) (ltb 127 y)).0 e in (ltb-true 127 x p.0, ltb-true 127 y p.1)
+module _ {d : List ℕ} {at k : ℕ} (e : Ending d at k) where
+  -- the last byte is not 0, and what the bytes say fits 32 bits
+  pub ending_whole : 1 ≤ get_or d (at + k) 0 → (k < 4) ⊎ ((4 ≤ k) × (k ≡ 4) × (get_or d (at + k) 0 < 16))
+      → Ok (at + k + 1) ≡ judged_at at (found (drop at d))
+  ending_whole some fits =
+      let small : value (take (suc k) (drop at d)) ≤ largest =
+      elim fits [ inl h ↦ passed_small d at k e.passed h | inr h ↦ fifth_fits d at k h.1 e.passed e.inside h.2 ] in
+      let next : at + k + 1 ≡ at + suc k = omega arith in
+      ap Ok next ∙ ap (judged_at at) (sym (passed_whole d at k e.passed e.inside e.low e.ten some small))
 
--- ---- k bytes passed
+  -- it is 0, or there are too many bytes, or the fifth is too large
+  pub ending_strange : (1 ≤ get_or d (at + k) 0 → k < 5 → (k ≡ 4) × (16 ≤ get_or d (at + k) 0))
+      → Err (NotCanonical at) ≡ judged_at at (found (drop at d))
+  ending_strange h =
+      let strange : found (drop at d) ≡ notCanonical =
+      elim (dec_lt 0 (get_or d (at + k) 0)) [
+        | no z ↦ passed_zero d at k e.passed e.inside e.low e.ten e.some (omega arith)
+        | yes n ↦
+            elim (dec_lt k 5) [
+              | no l ↦ passed_long d at k e.passed e.inside e.low e.ten (omega arith)
+              | yes s ↦ fifth_large d at k (h n s).0 e.passed e.inside e.low (h n s).1
+            ]
+      ] in
+      ap (judged_at at) (sym strange)
 
-module _ (d : List ℕ) (at k : ℕ) (p : Passed d at k) where
-  pub read_cut : length d ≤ at + k → Incomplete at ≡ read_at at (found (drop at d))
-  read_cut h = ap (read_at at) (sym (passed_cut d at k p h))
+-- ---- as reading answers it
 
-  module _ (inside : at + k < length d) (low : get_or d (at + k) 0 < 128) (ten : k < 10) where
-    pub read_zero : 1 ≤ k → get_or d (at + k) 0 ≡ 0 → NotCanonical at ≡ read_at at (found (drop at d))
-    read_zero some e = ap (read_at at) (sym (passed_zero d at k p inside low ten some e))
+-- the bytes end
+pub read_cut : (d : List ℕ) (at k : ℕ) → Passed d at k → length d ≤ at + k → Err (Incomplete at) ≡ read_at at (found (drop at d))
+read_cut d at k p h = ap (read_at at) (sym (passed_cut d at k p h))
 
-    pub read_ended : (count next : ℕ) → 1 ≤ get_or d (at + k) 0 → value (take (suc k) (drop at d)) ≤ largest
-        → count ≡ value (take (suc k) (drop at d)) → next ≡ at + suc k → Whole (record { count = count; next = next }) ≡ read_at at (found (drop at d))
-    read_ended count next pos fits ec en =
-        passed_read d at k p inside low ten count next (ap is_whole (passed_whole d at k p inside low ten pos fits)) ec en
+pub begun_first : (d : List ℕ) (at : ℕ) → at < length d → 128 ≤ get_or d at 0 → Begun d at 1 (get_or d at 0 % 128)
+begun_first d at inside h = record { passed = first_more d at inside h; says = first_value d at inside }
 
--- ---- two bytes passed, and five there
+module _ {d : List ℕ} {at k v : ℕ} (b : Begun d at k v) where
+  -- they say less than k groups can
+  pub begun_below : v < 128 ^ k
+  begun_below = omega (arith, b.says, value_below k (take k (drop at d)) (simp length-take (omega arith)))
 
-module _ (d : List ℕ) (at two : ℕ) (p : Passed d at 2) (e : two ≡ value (take 2 (drop at d))) (long : at + 5 ≤ length d) where
-  -- what three and four bytes say
-  pub three_say : two + get_or d (at + 2) 0 % 128 * 16384 ≡ value (take 3 (drop at d))
-  three_say = value_on d at 2 two (omega arith) e
+  module _ (inside : at + k < length d) where
+    pub begun_more : (j w : ℕ) → j ≡ k + 1 → w ≡ v + get_or d (at + k) 0 % 128 * 128 ^ k → 128 ≤ get_or d (at + k) 0 → Begun d at j w
+    begun_more j w ej ew h =
+        let z : j ≡ suc k = omega arith in
+        record { passed = passed_more d at k b.passed inside j ej h; says = rw z (ew ∙ value_on d at k v inside b.says) }
 
-  pub four_say : two + get_or d (at + 2) 0 % 128 * 16384 + get_or d (at + 3) 0 % 128 * 2097152 ≡ value (take 4 (drop at d))
-  four_say = value_on d at 3 (two + get_or d (at + 2) 0 % 128 * 16384) (omega arith) three_say
+    module _ (low : get_or d (at + k) 0 < 128) (ten : k < 10) where
+      pub begun_zero : 1 ≤ k → get_or d (at + k) 0 ≡ 0 → Err (NotCanonical at) ≡ read_at at (found (drop at d))
+      begun_zero some e = ap (read_at at) (sym (passed_zero d at k b.passed inside low ten some e))
 
-  pub third_passed : 127 < get_or d (at + 2) 0 → Passed d at 3
-  third_passed h = passed_more d at 2 p (omega arith) 3 refl (omega arith)
+      -- the varint ends here: it is known to be whole, or is by what its last byte says
+      module _ {count next : ℕ} (all : count ≡ v + get_or d (at + k) 0 * 128 ^ k) (behind : next ≡ at + suc k) where
+        of_all : count ≡ value (take (suc k) (drop at d))
+        of_all =
+            let m : get_or d (at + k) 0 % 128 ≡ get_or d (at + k) 0 = omega arith in
+            all ∙ ap (λ (x : ℕ). v + x * 128 ^ k) (sym m) ∙ value_on d at k v inside b.says
 
-  pub fourth_passed : 127 < get_or d (at + 2) 0 → 127 < get_or d (at + 3) 0 → Passed d at 4
-  fourth_passed h i = passed_more d at 3 (third_passed h) (omega arith) 4 refl (omega arith)
+        pub begun_whole : is_whole (found (drop at d)) ≡ true → Ok (record { count = count; next = next }) ≡ read_at at (found (drop at d))
+        begun_whole w = passed_read d at k b.passed inside low ten count next w of_all behind
 
-  -- they are not both high, so the third ends the varint, or the fourth
-  module _ (one : (ltb 127 (get_or d (at + 2) 0) && ltb 127 (get_or d (at + 3) 0)) ≡ false) where
-    fourth_low : 127 < get_or d (at + 2) 0 → get_or d (at + 3) 0 < 128
-    fourth_low h =
-        let f : ltb 127 (get_or d (at + 3) 0) ≡ false = rw (lt-ltb 127 (get_or d (at + 2) 0) h) at one in
-        omega (arith, ltb-false 127 (get_or d (at + 3) 0) f)
-
-    module _ (last : ℕ) (l : Selected 127 (get_or d (at + 2) 0) (get_or d (at + 3) 0) (get_or d (at + 2) 0) last) where
-      pub chosen_zero : last ≡ 0 → NotCanonical at ≡ read_at at (found (drop at d))
-      chosen_zero z =
-          elim (dec_lt 127 (get_or d (at + 2) 0)) [
-            | yes h ↦ read_zero d at 3 (third_passed h) (omega arith) (fourth_low h) (omega arith) (omega arith) (omega (arith, l.below h))
-            | no h ↦
-                let i : get_or d (at + 2) 0 ≤ 127 = omega arith in
-                read_zero d at 2 p (omega arith) (omega arith) (omega arith) (omega arith) (omega (arith, l.from i))
-          ]
-
-      pub chosen_read : (part next : ℕ) → Selected 127 (get_or d (at + 2) 0) (get_or d (at + 3) 0 * 2097152) 0 part
-          → Selected 127 (get_or d (at + 2) 0) (at + 3 + 1) (at + 3) next → (last ≡ 0 → ⊥)
-          → Whole (record { count = two + get_or d (at + 2) 0 % 128 * 16384 + part; next = next }) ≡ read_at at (found (drop at d))
-      chosen_read part next q n pos =
-          elim (dec_lt 127 (get_or d (at + 2) 0)) [
-            | yes h ↦
-                let f = fourth_low h in
-                read_ended d at 3 (third_passed h) (omega arith) f (omega arith) _ next (omega (arith, l.below h))
-                (passed_small d at 3 (third_passed h) (omega arith)) (omega (arith, four_say, q.below h)) (omega (arith, n.below h))
-            | no h ↦
-                let i : get_or d (at + 2) 0 ≤ 127 = omega arith in
-                read_ended d at 2 p (omega arith) (omega arith) (omega arith) _ next (omega (arith, l.from i)) (passed_small d at 2 p (omega arith))
-                (omega (arith, three_say, q.from i)) (n.from i)
-          ]
+        pub begun_ends : 1 ≤ get_or d (at + k) 0 → count ≤ largest → Ok (record { count = count; next = next }) ≡ read_at at (found (drop at d))
+        begun_ends some fits = begun_whole (ap is_whole (passed_whole d at k b.passed inside low ten some (omega (arith, of_all))))

@@ -1,11 +1,11 @@
 pub mod Marked
 pub mod Bigs
-pub mod Table
 pub mod Bases
 pub mod Varints
 pub mod Parts
 pub mod Putting
 pub mod Places
+pub mod Lows
 pub mod Endings
 pub mod Told
 pub mod RoundTrip

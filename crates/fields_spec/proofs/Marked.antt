@@ -1,9 +1,6 @@
 -- Varints and big-endian fields by examples: each length at its limit, one byte too long, 33 bits, and ten and eleven bytes. By computation.
 -- Assumes nothing.
-use Prim.Native.Nat.{ℕ}
-use mathlib.Core.Path.{◌≡◌, refl}
-use mathlib.Core.List.{List, [], ◌∷◌, ◌++◌, map}
-use lib.ListN.{replicate}
+use Rattle.std.proofs.Common.{ℕ, ◌≡◌, refl, List, [], ◌∷◌, ◌++◌, map, replicate}
 use Rattle.fields_spec.specs.Big.{big, said_after, said}
 use Rattle.fields_spec.specs.Varint.{groups, varint, high, value, Found, incomplete, notCanonical, whole, found}
 

@@ -1,20 +1,15 @@
 -- Varints at a place of a list: bytes with the top bit set are passed one by one, what they say is summed, and the byte that ends
 -- them decides what is found. Assumes nothing.
-use mathlib.Core.Path.{◌≡◌, refl, sym, ap, ◌∙◌}
-use mathlib.Core.Bool.{Bool, true, false, cond, ◌&&◌}
-use mathlib.Core.List.{List, [], ◌∷◌}
-use Prim.Native.Nat.{ℕ, zero, suc, ◌+◌, ◌-◌, ◌*◌, ◌/◌, ◌%◌, ◌^◌, ◌≤◌, ◌<◌}
-use native.Mathlib.Nat.{add-zero, mul_assoc, mul_comm, mul-le-mul_right, one-mul, zero-mul, pow-succ', pow-zero, one-le-pow}
-use native.Mathlib.Decide.{dec_lt}
-use native.Mathlib.Omega.{arith}
-use lib.Dec.{leb, eqb}
-use borrow.Author.Tests.{lt-ltb, le-ltb, le-leb, lt-leb, eq-eqb, ne_eqb}
-use lib.ListN.{length, get_or, take, drop, drop_of_length-le, length-drop, length-take}
-use lib.Seq.{drop-cons, get_or-drop}
+use Rattle.std.proofs.Common.{◌≡◌, refl, sym, ap, ◌∙◌, Bool, true, false, cond, ◌&&◌, List, [], ◌∷◌, ℕ, zero, suc, ◌+◌, ◌-◌, ◌*◌, ◌/◌, ◌%◌, ◌^◌}
+use Rattle.std.proofs.Common.{◌≤◌, ◌<◌, add-zero, mul_assoc, mul_comm, mul-le-mul_right, one-mul, zero-mul, arith, leb, eqb, lt-ltb, le-ltb}
+use Rattle.std.proofs.Common.{le-leb, eq-eqb, ne_eqb, length, get_or, take, drop, drop_of_length-le, length-drop, length-take, drop-cons}
+use Rattle.std.proofs.Common.{get_or-drop, Ok, Err}
+use Rattle.std.proofs.Math.Nat.{pow-succ', pow-zero, one-le-pow}
+use Rattle.std.proofs.Math.Decide.{dec_lt}
+use borrow.Author.Tests.{lt-leb}
 use Rattle.fields_spec.specs.Varint.{largest, varint, high, value, incomplete, notCanonical, whole, canonical, found}
 use Rattle.fields_spec.specs.Inner.Varints.{is_whole, judged_at, read_at, Passed}
-use Rattle.fields_spec.specs.declared.varint.Judged.TheVariants.{Incomplete}
-use Rattle.fields_spec.specs.declared.varint.Reading.TheVariants.{Whole}
+use Rattle.fields_spec.specs.declared.varint.VarintFault.TheVariants.{Incomplete}
 use Rattle.fields_spec.proofs.Bases.{size_below}
 use Rattle.fields_spec.proofs.Varints.{length_last, length_more, length_pos, length_five}
 
@@ -191,11 +186,11 @@ module _ (d : List ℕ) (at k : ℕ) (p : Passed d at k) where
 
       -- what is read of a whole varint that ends here
       pub passed_read : (count next : ℕ) → is_whole (found (drop at d)) ≡ true → count ≡ value (take (suc k) (drop at d)) → next ≡ at + suc k
-          → Whole (record { count = count; next = next }) ≡ read_at at (found (drop at d))
+          → Ok (record { count = count; next = next }) ≡ read_at at (found (drop at d))
       passed_read count next w ec en =
           let v : ℕ = value (take (suc k) (drop at d)) in
           let f : found (drop at d) ≡ whole v (suc k) = passed_end ∙ canonical_inv v (suc k) (sym (ap is_whole passed_end) ∙ w) in
-          (λ i. Whole (record { count = ec i; next = en i })) ∙ ap (read_at at) (sym f)
+          (λ i. Ok (record { count = ec i; next = en i })) ∙ ap (read_at at) (sym f)
 
   -- four bytes hold no more than 32 bits
   pub passed_small : k < 4 → value (take (suc k) (drop at d)) ≤ largest
@@ -204,7 +199,7 @@ module _ (d : List ℕ) (at k : ℕ) (p : Passed d at k) where
       omega arith
 
   -- as judging answers it
-  pub judged_cut : length d ≤ at + k → Incomplete at ≡ judged_at at (found (drop at d))
+  pub judged_cut : length d ≤ at + k → Err (Incomplete at) ≡ judged_at at (found (drop at d))
   judged_cut h = ap (judged_at at) (sym (passed_cut h))
 
   -- a whole varint goes on while its bytes have the top bit set

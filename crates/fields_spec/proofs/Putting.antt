@@ -1,10 +1,6 @@
 -- A varint that is written group by group: one more group, and the last. Assumes nothing.
-use mathlib.Core.Path.{◌≡◌, sym, ap, ◌∙◌}
-use mathlib.Core.List.{List}
-use Prim.Native.Nat.{ℕ, ◌+◌, ◌/◌, ◌%◌, ◌≤◌, ◌<◌}
-use native.Mathlib.Omega.{arith}
-use lib.ListN.{set}
-use lib.Seq.{sets}
+use Rattle.std.proofs.Common.{◌≡◌, sym, ap, ◌∙◌, List, ℕ, ◌+◌, ◌/◌, ◌%◌, ◌≤◌, ◌<◌, arith, set}
+use Rattle.std.proofs.Math.Seq.{sets}
 use Rattle.fields_spec.specs.Varint.{varint}
 use Rattle.fields_spec.specs.Writing.{Put}
 use Rattle.fields_spec.proofs.Varints.{varint_last, varint_more, length_last}

@@ -1,13 +1,8 @@
 -- A varint that is written is found again, and one that is found whole is the written one, byte for byte.
 -- Assumes nothing.
-use Prim.Native.Nat.{ℕ, suc, ◌+◌, ◌/◌, ◌%◌, ◌≤◌, ◌<◌}
-use native.Mathlib.Decide.{dec_lt, ℕ_discrete}
-use mathlib.Core.Path.{◌≡◌, refl, ap, ap₂, sym, ◌∙◌}
-use mathlib.Core.List.{List, [], ◌∷◌, ◌++◌}
-use native.Mathlib.Omega.{arith}
-use borrow.Author.Tests.{le-leb, ne_eqb}
-use lib.ListN.{length, take, length-append}
-use lib.Seq.{take_at}
+use Rattle.std.proofs.Common.{ℕ, suc, ◌+◌, ◌/◌, ◌%◌, ◌≤◌, ◌<◌, ◌≡◌, refl, ap, ap₂, sym, ◌∙◌, List, [], ◌∷◌, ◌++◌, arith, le-leb, ne_eqb, length}
+use Rattle.std.proofs.Common.{take, length-append, take_at}
+use Rattle.std.proofs.Math.Decide.{dec_lt, ℕ_discrete}
 use Rattle.fields_spec.specs.Varint.{largest, varint, high, value, whole, notCanonical, canonical, found}
 use Rattle.fields_spec.specs.Theorems.{Bytes}
 use Rattle.fields_spec.proofs.Varints.{varint_last, varint_more, length_last, length_more, length_five, by-groups}

@@ -1,15 +1,10 @@
 -- The minimal varint of a number: its two equations, and its length.
 -- Assumes nothing.
-use Prim.Native.Nat.{ℕ, zero, suc, ◌+◌, ◌/◌, ◌%◌, ◌≤◌, ◌<◌}
-use native.Mathlib.Nat.{le_refl}
-use native.Mathlib.Decide.{dec_lt}
-use mathlib.Core.Path.{◌≡◌, refl, ap}
-use mathlib.Core.List.{List, [], ◌∷◌}
-use native.Mathlib.Omega.{arith}
-use borrow.Author.Tests.{lt-ltb, le-ltb}
-use lib.ListN.{length}
+use Rattle.std.proofs.Common.{ℕ, zero, suc, ◌+◌, ◌/◌, ◌%◌, ◌≤◌, ◌<◌, le_refl, ◌≡◌, refl, ap, List, [], ◌∷◌, arith, lt-ltb, le-ltb, ltb, length}
+use Rattle.std.proofs.Math.Decide.{dec_lt}
+use Rattle.std.proofs.lemmas.Bool.Decides.{nat_tests}
+use Rattle.std.specs.Int.{from_bool}
 use Rattle.fields_spec.specs.Varint.{largest, groups, varint}
-use Rattle.fields_spec.specs.Inner.Selects.{Selected}
 use Rattle.fields_spec.proofs.Bases.{written_more}
 
 groups_last : (f n : ℕ) → n < 128 → groups f n ≡ n ∷ []
@@ -67,63 +62,13 @@ pub length_between : (lo hi n : ℕ) {l : ℕ} → lo ≤ n → n ≤ hi → len
 length_between lo hi n p q a b = omega (arith, length_mono lo n p, length_mono n hi q)
 
 -- one byte, and one more for each limit
-pub length_limits : (n : ℕ) {a b c d : ℕ} → n ≤ largest → Selected 127 n 1 0 a → Selected 16383 n 1 0 b → Selected 2097151 n 1 0 c
-    → Selected 268435455 n 1 0 d
-    → 1 + a + b + c + d ≡ length (varint n)
+pub length_limits : (n : ℕ) → n ≤ largest
+    → 1 + from_bool (ltb 127 n) + from_bool (ltb 16383 n) + from_bool (ltb 2097151 n) + from_bool (ltb 268435455 n) ≡ length (varint n)
 unfolding varint groups
-length_limits n h sa sb sc sd =
-    elim (dec_lt 127 n) [
-      | no p ↦
-          omega (
-            arith,
-            sa.from (omega arith),
-            sb.from (omega arith),
-            sc.from (omega arith),
-            sd.from (omega arith),
-            length_between 0 127 n {l = 1} (omega arith) (omega arith) refl refl,
-          )
-      | yes p ↦
-          elim (dec_lt 16383 n) [
-            | no q ↦
-                omega (
-                  arith,
-                  sa.below p,
-                  sb.from (omega arith),
-                  sc.from (omega arith),
-                  sd.from (omega arith),
-                  length_between 128 16383 n {l = 2} p (omega arith) refl refl,
-                )
-            | yes q ↦
-                elim (dec_lt 2097151 n) [
-                  | no r ↦
-                      omega (
-                        arith,
-                        sa.below p,
-                        sb.below q,
-                        sc.from (omega arith),
-                        sd.from (omega arith),
-                        length_between 16384 2097151 n {l = 3} q (omega arith) refl refl,
-                      )
-                  | yes r ↦
-                      elim (dec_lt 268435455 n) [
-                        | no s ↦
-                            omega (
-                              arith,
-                              sa.below p,
-                              sb.below q,
-                              sc.below r,
-                              sd.from (omega arith),
-                              length_between 2097152 268435455 n {l = 4} r (omega arith) refl refl,
-                            )
-                        | yes s ↦ omega (
-                          arith,
-                          sa.below p,
-                          sb.below q,
-                          sc.below r,
-                          sd.below s,
-                          length_between 268435456 largest n {l = 5} s h refl refl,
-                        )
-                      ]
-                ]
-          ]
-    ]
+length_limits n h =
+    let one : n ≤ 127 → length (varint n) ≡ 1 = λ q. length_between 0 127 n (omega arith) q refl refl in
+    let two : 127 < n → n ≤ 16383 → length (varint n) ≡ 2 = λ p q. length_between 128 16383 n p q refl refl in
+    let three : 16383 < n → n ≤ 2097151 → length (varint n) ≡ 3 = λ p q. length_between 16384 2097151 n p q refl refl in
+    let four : 2097151 < n → n ≤ 268435455 → length (varint n) ≡ 4 = λ p q. length_between 2097152 268435455 n p q refl refl in
+    let five : 268435455 < n → length (varint n) ≡ 5 = λ p. length_between 268435456 largest n p h refl refl in
+    grind (arith, nat_tests)

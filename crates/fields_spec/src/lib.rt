@@ -4,4 +4,4 @@
 
 mod varint;
 
-pub use varint::{Judged, Reading, Varint};
+pub use varint::{Varint, VarintFault};

@@ -1,22 +1,16 @@
--- `fields::varint::read_fifth` meets its contract: the fifth byte is 0, is the last and fits, or the varint is refused as judging says.
--- Assumes nothing.
-use mathlib.Core.Path.{refl}
-use native.Mathlib.Omega.{arith}
-use Rattle.fields_spec.proofs.Places.{value_on, fifth_fits}
-use Rattle.fields_spec.proofs.Endings.{groups_below, read_zero, read_ended}
+-- The fifth byte is 0, is the last and fits 32 bits, or the varint is refused as judging says.
+use Rattle.std.proofs.Common.{refl, arith}
+use Rattle.fields_spec.proofs.Endings.{begun_below, begun_zero, begun_ends}
 use Rattle.fields.proofs.varint.read_fifth.Goals as goal
+
+pub overflow_add-result : goal.overflow_add-result
+overflow_add-result c = omega (arith, begun_below c.requires.begun)
 
 pub returns-then-fifth-eq0 : goal.returns-then-fifth-eq0
 returns-then-fifth-eq0 c =
-    read_zero c.args.src.now c.args.at 4 c.requires.passed.0 c.requires.at_in_bounds (omega arith) (omega arith) (omega arith) c.if-fifth-eq0.true
-
-pub overflow_add-result : goal.overflow_add-result
-overflow_add-result c =
-    omega (arith, c.wide.ensures, c.requires.passed.1, groups_below c.args.src.now c.args.at 4)
+    begun_zero c.requires.begun c.requires.at_in_bounds (omega arith) (omega arith) (omega arith) c.if-fifth-eq0.true
 
 pub returns-then-fifth-lt16 : goal.returns-then-fifth-lt16
 returns-then-fifth-lt16 c =
-    let d = c.args.src.now in
-    let v = value_on d c.args.at 4 c.args.four c.requires.at_in_bounds c.requires.passed.1 in
-    read_ended d c.args.at 4 c.requires.passed.0 c.requires.at_in_bounds (omega arith) (omega arith) _ _ (omega arith)
-    (fifth_fits d c.args.at 4 refl c.requires.passed.0 c.requires.at_in_bounds (omega arith)) (omega (arith, c.wide.ensures)) refl
+    let s = begun_below c.requires.begun in
+    begun_ends c.requires.begun c.requires.at_in_bounds (omega arith) (omega arith) refl refl (omega arith) (omega arith)
