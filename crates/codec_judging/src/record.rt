@@ -4,7 +4,7 @@ ghost use Rattle.codec_spec.specs.Reading.{fault_at, next};
 ghost use Rattle.codec_spec.specs.Inner.Blocks.{got_of};
 
 use codec_spec::{Fault, GotRecord};
-use fields_spec::Reading;
+use fields_spec::VarintFault;
 use records_spec::Refusal;
 
 // A refusal at a place.
@@ -24,10 +24,10 @@ pub fn read_record(src: &[u8], at: usize, prev: u16) -> Result<GotRecord, Fault>
     }
     let epoch = fields::be16_at(src, at);
     match fields::read_varint(src, at + 2) {
-        Reading::Incomplete(_) => Err(fault(Refusal::WrongSize, at)),
-        Reading::NotCanonical(_) => Err(fault(Refusal::NonCanonical, at)),
-        Reading::Whole(_) if epoch <= prev => Err(fault(Refusal::NonCanonical, at)),
-        Reading::Whole(varint) => Ok(GotRecord {
+        Err(VarintFault::Incomplete(_)) => Err(fault(Refusal::WrongSize, at)),
+        Err(VarintFault::NotCanonical(_)) => Err(fault(Refusal::NonCanonical, at)),
+        Ok(_) if epoch <= prev => Err(fault(Refusal::NonCanonical, at)),
+        Ok(varint) => Ok(GotRecord {
             epoch,
             count: varint.count,
             next: varint.next,

@@ -1,5 +1,5 @@
 -- The epoch's length, the varint and the order of epochs lead to each case of `next`.
-use Rattle.std.proofs.Common.{ℕ, ◌+◌, Err, drop, length-drop, sym, ap, ◌∙◌, arith}
+use Rattle.std.proofs.Common.{◌≡◌, ℕ, ◌+◌, Err, drop, length-drop, sym, ap, ◌∙◌, arith}
 use Rattle.fields_spec.specs.Varint.{found}
 use Rattle.fields_spec.proofs.Told.{told_read, read_incomplete, read_strange}
 use Rattle.codec_spec.specs.Inner.Blocks.{got_of}
@@ -13,35 +13,37 @@ returns-then-src-at-lt2 c =
     let short = next_short a.prev (drop a.at a.src.now) (rw length-drop c.if-src-at-lt2.true) in
     ap Err c.fault.ensures ∙ sym (ap (got_of a.at) short)
 
-pub returns-in-Incomplete : goal.returns-in-Incomplete
-returns-in-Incomplete c =
+pub returns-in-Err-Incomplete : goal.returns-in-Err-Incomplete
+returns-in-Err-Incomplete c =
     let a = c.args in
-    let t = read_incomplete (a.at + 2) _ (found (drop (a.at + 2) a.src.now)) (sym c.read_varint.ensures ∙ c.in-Incomplete.is) in
-    ap Err c.fault-in-Incomplete.ensures
+    let told = sym c.read_varint.ensures ∙ c.in-Err-Incomplete.is ∙ ap Err c.in-Err-Incomplete.field-0-is in
+    let t = read_incomplete (a.at + 2) _ (found (drop (a.at + 2) a.src.now)) told in
+    ap Err c.fault-in-Err-Incomplete.ensures
     ∙ sym (ap (got_of a.at) (next_at a.src.now a.at a.prev _ _ c.if-src-at-lt2.false c.be16_at-epoch.ensures t))
 
-pub returns-in-NotCanonical : goal.returns-in-NotCanonical
-returns-in-NotCanonical c =
+pub returns-in-Err-NotCanonical : goal.returns-in-Err-NotCanonical
+returns-in-Err-NotCanonical c =
     let a = c.args in
-    let t = read_strange (a.at + 2) _ (found (drop (a.at + 2) a.src.now)) (sym c.read_varint.ensures ∙ c.in-NotCanonical.is) in
-    ap Err c.fault-in-NotCanonical.ensures
+    let told = sym c.read_varint.ensures ∙ c.in-Err-NotCanonical.is ∙ ap Err c.in-Err-NotCanonical.field-0-is in
+    let t = read_strange (a.at + 2) _ (found (drop (a.at + 2) a.src.now)) told in
+    ap Err c.fault-in-Err-NotCanonical.ensures
     ∙ sym (ap (got_of a.at) (next_at a.src.now a.at a.prev _ _ c.if-src-at-lt2.false c.be16_at-epoch.ensures t))
 
-pub returns-in-Whole : goal.returns-in-Whole
-returns-in-Whole c =
+pub returns-in-Ok : goal.returns-in-Ok
+returns-in-Ok c =
     let a = c.args in
-    let v = c.in-Whole.field-0 in
-    let t = told_read (a.at + 2) v.count v.next (found (drop (a.at + 2) a.src.now)) (sym c.in-Whole.is ∙ c.read_varint.ensures) in
-    ap Err c.fault-in-Whole.ensures
+    let v = c.in-Ok.field-0 in
+    let t = told_read (a.at + 2) v.count v.next (found (drop (a.at + 2) a.src.now)) (sym c.in-Ok.is ∙ c.read_varint.ensures) in
+    ap Err c.fault-in-Ok.ensures
     ∙ sym (ap (got_of a.at) (next_at a.src.now a.at a.prev _ _ c.if-src-at-lt2.false c.be16_at-epoch.ensures t.1
     ∙ with_count_low a.prev c.be16_at-epoch.result v.count t.0 c.if-epoch-prev.true))
 
-pub returns-in-Whole-2 : goal.returns-in-Whole-2
-returns-in-Whole-2 c =
+pub returns-in-Ok-2 : goal.returns-in-Ok-2
+returns-in-Ok-2 c =
     let a = c.args in
     let e : ℕ = c.be16_at-epoch.result in
-    let v = c.in-Whole.field-0 in
-    let t = told_read (a.at + 2) v.count v.next (found (drop (a.at + 2) a.src.now)) (sym c.in-Whole.is ∙ c.read_varint.ensures) in
+    let v = c.in-Ok.field-0 in
+    let t = told_read (a.at + 2) v.count v.next (found (drop (a.at + 2) a.src.now)) (sym c.in-Ok.is ∙ c.read_varint.ensures) in
     got_here e v.count v.next (a.at + (2 + t.0)) (omega (arith, t.2))
     ∙ sym (ap (got_of a.at) (next_at a.src.now a.at a.prev e _ c.if-src-at-lt2.false c.be16_at-epoch.ensures t.1
     ∙ with_count_above a.prev e v.count t.0 c.if-epoch-prev.false))
