@@ -10,8 +10,6 @@ ghost use Rattle.records_spec.specs.Outcomes.{after};
 
 use capi_spec::{CCount, CHead, CRemoval, CSum, CValueSplit};
 use records_spec::Refusal;
-use rows_spec::{AnsweredRemoval, HasRemoval, TotalBytes};
-use splitting_spec::Splitting;
 
 // Splits a removal of key bytes.
 pub fn split_key_removed_bytes(
@@ -28,7 +26,7 @@ pub fn split_key_removed_bytes(
         after result (rows_left ids.new row_epochs.new row_bytes.new) ≡ told_as sum_answer (split_key_c flags_given removed_key_bytes rows_lent) }
 {
     if capi_given::is_kind(flags.kind) {
-        return capi_told::sum_told(splitting::split_key_removed_bytes(
+        capi_told::sum_told(splitting::split_key_removed_bytes(
             capi_given::head_given(flags),
             epochs,
             counts,
@@ -36,9 +34,10 @@ pub fn split_key_removed_bytes(
             ids,
             row_epochs,
             row_bytes,
-        ));
+        ))
+    } else {
+        capi_told::sum_told(Err(Refusal::BadTable))
     }
-    capi_told::sum_told(AnsweredRemoval::Refused(Refusal::BadTable))
 }
 
 // Splits a removal of value bytes.
@@ -56,7 +55,7 @@ pub fn split_value_removed_bytes(
         after result (rows_left ids.new row_epochs.new row_bytes.new) ≡ told_as split_answer (split_value_c flags_given removed_value_bytes rows_lent) }
 {
     if capi_given::is_kind(flags.kind) {
-        return capi_told::split_told(splitting::split_value_removed_bytes(
+        capi_told::split_told(splitting::split_value_removed_bytes(
             capi_given::head_given(flags),
             epochs,
             counts,
@@ -64,9 +63,10 @@ pub fn split_value_removed_bytes(
             ids,
             row_epochs,
             row_bytes,
-        ));
+        ))
+    } else {
+        capi_told::split_told(Err(Refusal::BadTable))
     }
-    capi_told::split_told(Splitting::Refused(Refusal::BadTable))
 }
 
 // Adds the right removal to the left one, in the left one's tables.
@@ -88,7 +88,7 @@ pub fn add_assign(
         after result (rows_left ids.new epochs.new bytes.new) ≡ told_as sum_answer (summed_c version lhs_given rhs_given) }
 {
     if capi_given::can_sum(lhs, rhs) {
-        return capi_told::sum_told(sums::add_assign(
+        capi_told::sum_told(sums::add_assign(
             capi_given::removal_given(lhs),
             ids,
             epochs,
@@ -98,9 +98,10 @@ pub fn add_assign(
             rhs_epochs,
             rhs_bytes,
             version,
-        ));
+        ))
+    } else {
+        capi_told::sum_told(Err(Refusal::BadTable))
     }
-    capi_told::sum_told(AnsweredRemoval::Refused(Refusal::BadTable))
 }
 
 // Whether anything was removed: 1 or 0.
@@ -108,14 +109,15 @@ pub fn has_removal(removal: CRemoval, ids: &[[u8; 32]], epochs: &[u16], bytes: &
     ensures { result ≡ truth_told (has_removal_c (holding_rows_c removal (rows_were ids.now epochs.now bytes.now))) }
 {
     if capi_given::is_removal(removal.kind) {
-        return capi_told::has_told(rows::has_removal(
+        capi_told::has_told(rows::has_removal(
             capi_given::removal_given(removal),
             ids,
             epochs,
             bytes,
-        ));
+        ))
+    } else {
+        capi_told::has_told(Err(Refusal::BadTable))
     }
-    capi_told::has_told(HasRemoval::Refused(Refusal::BadTable))
 }
 
 // All bytes of a removal.
@@ -128,12 +130,13 @@ pub fn total_removed_bytes(
     ensures { result ≡ count_told (total_removed_c (holding_rows_c removal (rows_were ids.now epochs.now bytes.now))) }
 {
     if capi_given::is_removal(removal.kind) {
-        return capi_told::total_told(rows::total_removed_bytes(
+        capi_told::total_told(rows::total_removed_bytes(
             capi_given::removal_given(removal),
             ids,
             epochs,
             bytes,
-        ));
+        ))
+    } else {
+        capi_told::total_told(Err(Refusal::BadTable))
     }
-    capi_told::total_told(TotalBytes::Refused(Refusal::BadTable))
 }
