@@ -5,18 +5,7 @@ ghost use Rattle.rows_spec.specs.Rows.{row, compared, tables, rows_were};
 ghost use Rattle.totals_spec.specs.Inner.Steps.{place_in, rows_between, spot_in, Standing};
 
 use crate::words::is_less;
-use rows_spec::Order;
 use totals_spec::RowSpot;
-
-// How row i stands to an owner and epoch.
-fn compare_row(owners: &[[u8; 32]], epochs: &[u16], i: usize, owner: [u8; 32], epoch: u16) -> Order
-    requires { (i < length owners.now) × (i < length epochs.now) }
-    ensures { result ≡ compared (row (get_or owners.now i []) (get_or epochs.now i 0) 0) (row owner epoch 0) }
-{
-    let one_owner = [owner; 1];
-    let one_epoch = [epoch; 1];
-    rows::compare_rows(owners, epochs, i, &one_owner, &one_epoch, 0)
-}
 
 // Whether row i is below an owner and epoch.
 fn is_below(owners: &[[u8; 32]], epochs: &[u16], i: usize, owner: [u8; 32], epoch: u16) -> bool
@@ -27,7 +16,7 @@ fn is_below(owners: &[[u8; 32]], epochs: &[u16], i: usize, owner: [u8; 32], epoc
 }
 
 // The place of an owner and epoch among the rows from one place up to another: where their row stands, or where it would stand. Each
-// look at the middle leaves half of the `left` places from `at` on.
+// look at the middle leaves half of the `left` places from `at` on. `partition_point` sees one slice, and a row is in two.
 fn find_row(
     owners: &[[u8; 32]],
     epochs: &[u16],
@@ -49,12 +38,11 @@ fn find_row(
             at += half;
         }
     }
-    if at < upto {
-        if is_below(owners, epochs, at, owner, epoch) {
-            return at + 1;
-        }
+    if at < upto && is_below(owners, epochs, at, owner, epoch) {
+        at + 1
+    } else {
+        at
     }
-    at
 }
 
 // Looks up an owner and epoch among the rows from one place up to another.
@@ -71,15 +59,12 @@ pub fn look_up_row(
     ensures { result ≡ spot_in from (row owner epoch 0) (rows_between from upto (rows_were owners.now epochs.now totals.now)) }
 {
     let place = find_row(owners, epochs, totals, from, upto, owner, epoch);
-    if place < upto {
-        return match compare_row(owners, epochs, place, owner, epoch) {
-            Order::Less => RowSpot { place, total: 0 },
-            Order::Equal => RowSpot {
-                place,
-                total: totals[place],
-            },
-            Order::Greater => RowSpot { place, total: 0 },
-        };
+    if place < upto && owners[place] == owner && epochs[place] == epoch {
+        RowSpot {
+            place,
+            total: totals[place],
+        }
+    } else {
+        RowSpot { place, total: 0 }
     }
-    RowSpot { place, total: 0 }
 }

@@ -11,20 +11,7 @@ use crate::words::is_less;
 pub fn totals_fit(n: usize, owners: &[[u8; 32]], epochs: &[u16], totals: &[u64]) -> bool
     ensures { result ≡ room_in n (rows_were owners.now epochs.now totals.now) }
 {
-    if owners.len() < n {
-        return false;
-    }
-    records::fit(n, epochs.len(), totals.len())
-}
-
-// Whether row i stands before the next one.
-fn is_before(owners: &[[u8; 32]], epochs: &[u16], i: usize) -> bool
-    requires { (i + 1 < length owners.now) × (i + 1 < length epochs.now) }
-    ensures { let here = row (get_or owners.now i []) (get_or epochs.now i 0) 0 in
-        let next = row (get_or owners.now (i + 1) []) (get_or epochs.now (i + 1) 0) 0 in
-        result ≡ is_less (compared here next) }
-{
-    is_less(&owners[i], epochs[i], &owners[i + 1], epochs[i + 1])
+    n <= owners.len() && n <= epochs.len() && n <= totals.len()
 }
 
 // Whether the first n rows ascend and have no pair twice.
@@ -32,15 +19,7 @@ fn rows_ascend(n: usize, owners: &[[u8; 32]], epochs: &[u16], totals: &[u64]) ->
     requires { Room n (tables owners.now epochs.now totals.now) }
     ensures { result ≡ ascends (rows_in n (rows_were owners.now epochs.now totals.now)) }
 {
-    let mut i: usize = 0;
-    while i + 1 < n {
-        if is_before(owners, epochs, i) {
-            i += 1;
-        } else {
-            return false;
-        }
-    }
-    true
+    (1..n).all(|i| is_less(&owners[i - 1], epochs[i - 1], &owners[i], epochs[i]))
 }
 
 // Whether none of the first n totals is 0. No early exit: a loop of this shape can become vector code.
@@ -49,24 +28,20 @@ fn none_is_zero(n: usize, owners: &[[u8; 32]], epochs: &[u16], totals: &[u64]) -
     ensures { result ≡ all_positive (rows_in n (rows_were owners.now epochs.now totals.now)) }
 {
     let mut good = true;
-    let mut i: usize = 0;
-    while i < n {
-        good = good & (0 < totals[i]);
-        i += 1;
+    for total in &totals[..n] {
+        good &= 0 < *total;
     }
     good
 }
 
 // Whether the first n rows stand in the slices, ascend, have no pair twice and no total 0.
+#[tactic(auto, unfolding(totals_spec::specs::Calls::proper_table, rows_spec::specs::Rows::proper_rows))]
 pub fn table_is_proper(n: usize, owners: &[[u8; 32]], epochs: &[u16], totals: &[u64]) -> bool
     ensures { result ≡ proper_table n (rows_were owners.now epochs.now totals.now) }
 {
-    if totals_fit(n, owners, epochs, totals) {
-        if rows_ascend(n, owners, epochs, totals) {
-            return none_is_zero(n, owners, epochs, totals);
-        }
-    }
-    false
+    totals_fit(n, owners, epochs, totals)
+        && rows_ascend(n, owners, epochs, totals)
+        && none_is_zero(n, owners, epochs, totals)
 }
 
 // Puts a row at a place.

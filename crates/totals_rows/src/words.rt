@@ -17,27 +17,11 @@ fn word(id: &[u8], at: usize) -> u64
     ((a * 65536 + b) * 65536 + c) * 65536 + d
 }
 
-// Whether x is below y, or equal to it where `next` says so. No early exit: the tests become flags instead of jumps.
-fn is_below_or(x: u64, y: u64, next: bool) -> bool
-    ensures { result ≡ cond (ltb x y) true (cond (ltb y x) false next) }
-{
-    (x < y) | ((x == y) & next)
-}
-
-// Whether a row of owner a and epoch x stands before one of owner b and epoch y. The first words decide for most owners.
+// Whether a row of owner a and epoch x stands before one of owner b and epoch y.
 pub fn is_less(a: &[u8], x: u16, b: &[u8], y: u16) -> bool
     requires { (length a.now ≡ owner_length) × (length b.now ≡ owner_length) }
     ensures { result ≡ is_less (compared (row a.now x 0) (row b.now y 0)) }
 {
-    let first = word(a, 0);
-    let other = word(b, 0);
-    if first < other {
-        return true;
-    }
-    if other < first {
-        return false;
-    }
-    let fourth = is_below_or(word(a, 24), word(b, 24), x < y);
-    let third = is_below_or(word(a, 16), word(b, 16), fourth);
-    is_below_or(word(a, 8), word(b, 8), third)
+    let row = (word(a, 0), word(a, 8), word(a, 16), word(a, 24), x);
+    row < (word(b, 0), word(b, 8), word(b, 16), word(b, 24), y)
 }

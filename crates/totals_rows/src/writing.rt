@@ -8,7 +8,7 @@ ghost use Rattle.totals_spec.specs.Replacing.{covered, all_fit};
 ghost use Rattle.totals_spec.specs.Inner.Steps.{under, Standing};
 
 use crate::finding::look_up_row;
-use crate::moving::{move_down, move_up};
+use crate::moving::move_rows;
 use crate::table::put_total;
 
 // Takes the old counts from the first n rows; answers how many rows are left. The rows before the place `to` are as they end, those from
@@ -32,23 +32,21 @@ pub fn take_old_counts(
 {
     let mut at: usize = 0;
     let mut to: usize = 0;
-    let mut i: usize = 0;
-    while i < old_epochs.len() {
-        let epoch = old_epochs[i];
-        let count = old_counts[i] as u64;
-        i += 1;
+    for (epoch, count) in old_epochs.iter().zip(old_counts) {
+        let count = u64::from(*count);
         if 0 < count {
-            let spot = look_up_row(owners, epochs, totals, at, n, owner, epoch);
-            move_down(owners, epochs, totals, at, spot.place, to);
+            let spot = look_up_row(owners, epochs, totals, at, n, owner, *epoch);
+            move_rows(owners, epochs, totals, at, spot.place, to);
             to += spot.place - at;
             at = spot.place + 1;
             if count < spot.total {
-                put_total(owners, epochs, totals, to, owner, epoch, spot.total - count);
+                let left = spot.total - count;
+                put_total(owners, epochs, totals, to, owner, *epoch, left);
                 to += 1;
             }
         }
     }
-    move_down(owners, epochs, totals, at, n, to);
+    move_rows(owners, epochs, totals, at, n, to);
     to + (n - at)
 }
 
@@ -57,10 +55,7 @@ fn behind_row(place: usize, total: u64) -> usize
     requires { place < 18446744073709551615 }
     ensures { result ≡ place + cond (ltb 0 total) 1 0 }
 {
-    if 0 < total {
-        return place + 1;
-    }
-    place
+    if 0 < total { place + 1 } else { place }
 }
 
 // Adds the new counts to the first n rows. There are `count` rows afterwards, for which there is room. The rows from the place `end` on
@@ -87,17 +82,15 @@ pub fn add_new_counts(
 {
     let mut upto = n;
     let mut end = count;
-    let mut i = new_epochs.len();
-    while 0 < i {
-        i -= 1;
-        let epoch = new_epochs[i];
-        let more = new_counts[i] as u64;
-        if 0 < more {
-            let spot = look_up_row(owners, epochs, totals, 0, upto, owner, epoch);
+    for (epoch, count) in new_epochs.iter().zip(new_counts).rev() {
+        if 0 < *count {
+            let spot = look_up_row(owners, epochs, totals, 0, upto, owner, *epoch);
             let behind = behind_row(spot.place, spot.total);
-            move_up(owners, epochs, totals, behind, upto, end);
-            end = end - (upto - behind) - 1;
-            put_total(owners, epochs, totals, end, owner, epoch, spot.total + more);
+            let to = end - (upto - behind);
+            move_rows(owners, epochs, totals, behind, upto, to);
+            end = to - 1;
+            let total = spot.total + u64::from(*count);
+            put_total(owners, epochs, totals, end, owner, *epoch, total);
             upto = spot.place;
         }
     }

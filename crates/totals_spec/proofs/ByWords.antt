@@ -3,12 +3,12 @@
 use mathlib.Core.Path.{◌≡◌, refl, ap, ap₂, sym, ◌∙◌}
 use Prim.Native.Nat.{ℕ, zero, suc, ◌+◌, ◌*◌, ◌≤◌, ◌<◌}
 use native.Mathlib.Omega.{arith}
-use mathlib.Core.Bool.{Bool, true, false, cond, ◌&&◌, ◌||◌}
+use mathlib.Core.Bool.{Bool, true, false, cond}
 use mathlib.Core.List.{List, [], ◌∷◌, ◌++◌, append_assoc}
-use lib.Dec.{ltb, eqb}
+use lib.Dec.{ltb}
 use lib.ListN.{length, get_or, take, drop, take-append-drop, length-drop, drop_of_length-le}
 use lib.Seq.{length-take-le, get_or-drop, drop-drop}
-use borrow.Author.Tests.{ltb-true, ltb-false, lt-ltb, le-ltb, eq-eqb, ne_eqb}
+use borrow.Author.Tests.{ltb-true, ltb-false}
 use Rattle.fields_spec.specs.Big.{said, said_after}
 use Rattle.records_spec.specs.Flags.{owner_length}
 use Rattle.rows_spec.specs.Order.{by, order, is_less}
@@ -51,18 +51,6 @@ word_at_lem l k p q r s h e f g i =
     omega arith
 
 -- ---- the tests
-
-pub or_told : (x y : ℕ) (n : Bool) → (ltb x y || (eqb x y && n)) ≡ less_or x y n
-or_told x y n = go (ltb x y) refl (ltb y x) refl
-  where
-    go : (p : Bool) → ltb x y ≡ p → (q : Bool) → ltb y x ≡ q → (ltb x y || (eqb x y && n)) ≡ less_or x y n
-    go true e q f = rw e refl
-    go false e true f = let h = ltb-true y x f in rw (e, f, ne_eqb x y (λ z. omega arith)) refl
-    go false e false f = let h = ltb-false y x f in let k = ltb-false x y e in rw (e, f, eq-eqb x y (omega arith)) refl
-
--- the same of equal parts
-pub or_same : (x y : ℕ) (n r : Bool) (u v : ℕ) (m : Bool) → r ≡ less_or x y n → x ≡ u → y ≡ v → n ≡ m → r ≡ less_or u v m
-or_same x y n r u v m e f g h = e ∙ ap (λ (z : ℕ). less_or z y n) f ∙ ap (λ (z : ℕ). less_or u z n) g ∙ ap (less_or u v) h
 
 less_by : (x y : ℕ) (n : Ordering) → is_less (by x y n) ≡ less_or x y (is_less n)
 less_by x y n = go (ltb x y) refl (ltb y x) refl
@@ -144,7 +132,7 @@ module _ (a b : List ℕ) (p : (i : ℕ) → get_or a i 0 < 256) (q : (i : ℕ) 
   less_decides c d k h i =
       ap is_less (word_decides c d k h i) ∙ less_by (word_at a k) (word_at b k) (order (drop (k + 8) a ++ c) (drop (k + 8) b ++ d))
 
-  less_words : (x y : ℕ) → length a ≡ owner_length → length b ≡ owner_length
+  pub less_words : (x y : ℕ) → length a ≡ owner_length → length b ≡ owner_length
       → is_less (compared (row a x 0) (row b y 0))
       ≡ less_or (word_at a 0) (word_at b 0) (less_or (word_at a 8) (word_at b 8)
       (less_or (word_at a 16) (word_at b 16) (less_or (word_at a 24) (word_at b 24) (ltb x y))))
@@ -159,26 +147,3 @@ module _ (a b : List ℕ) (p : (i : ℕ) → get_or a i 0 < 256) (q : (i : ℕ) 
       ∙ ap (less_or (word_at a 8) (word_at b 8)) (less_decides c d 16 (omega arith) (omega arith)
       ∙ ap (less_or (word_at a 16) (word_at b 16)) (less_decides c d 24 (omega arith) (omega arith)
       ∙ ap (less_or (word_at a 24) (word_at b 24)) (ap is_less e ∙ less_last x y))))
-
-  -- the first words decide where they differ
-  pub less_first : (x y : ℕ) → length a ≡ owner_length → length b ≡ owner_length → (m n : ℕ) → m ≡ word_at a 0 → n ≡ word_at b 0 → m < n
-      → true ≡ is_less (compared (row a x 0) (row b y 0))
-  less_first x y h k m n e f l =
-      let u : word_at a 0 < word_at b 0 = omega arith in
-      sym (less_words x y h k ∙ (rw (lt-ltb (word_at a 0) (word_at b 0) u) refl))
-
-  pub more_first : (x y : ℕ) → length a ≡ owner_length → length b ≡ owner_length → (m n : ℕ) → m ≡ word_at a 0 → n ≡ word_at b 0 → n < m
-      → false ≡ is_less (compared (row a x 0) (row b y 0))
-  more_first x y h k m n e f l =
-      let u : word_at b 0 < word_at a 0 = omega arith in
-      let v : word_at b 0 ≤ word_at a 0 = omega arith in
-      sym (less_words x y h k ∙ (rw (le-ltb (word_at a 0) (word_at b 0) v, lt-ltb (word_at b 0) (word_at a 0) u) refl))
-
-  -- and else the others
-  pub less_rest : (x y : ℕ) → length a ≡ owner_length → length b ≡ owner_length → (m n : ℕ) → m ≡ word_at a 0 → n ≡ word_at b 0 → m ≤ n → n ≤ m
-      → less_or (word_at a 8) (word_at b 8) (less_or (word_at a 16) (word_at b 16) (less_or (word_at a 24) (word_at b 24) (ltb x y)))
-      ≡ is_less (compared (row a x 0) (row b y 0))
-  less_rest x y h k m n e f l o =
-      let u : word_at a 0 ≤ word_at b 0 = omega arith in
-      let v : word_at b 0 ≤ word_at a 0 = omega arith in
-      sym (less_words x y h k ∙ (rw (le-ltb (word_at a 0) (word_at b 0) v, le-ltb (word_at b 0) (word_at a 0) u) refl))

@@ -82,16 +82,7 @@ module _ (ws : List Row) (t : Tables) where
       (put_column bytes_in length_bytes bytes_in_append ws (x ∷ []) t.bytes r.bytes_long)
 
   module _ (r : Room (length ws) t) where
-    -- the tables are as long as they were
-    pub over_even : (length (over_rows ws t).ids ≡ length t.ids) × (length (over_rows ws t).epochs ≡ length t.epochs)
-        × (length (over_rows ws t).bytes ≡ length t.bytes)
-    over_even = (
-      as-long-as (ids_of ws) t.ids (omega (arith, r.ids_long, length_ids ws)),
-      as-long-as (epochs_in ws) t.epochs (omega (arith, r.epochs_long, length_epochs ws)),
-      as-long-as (bytes_in ws) t.bytes (omega (arith, r.bytes_long, length_bytes ws)),
-    )
-
-    -- and the rows behind as they were
+    -- the rows behind are as they were
     pub rows_behind : (from upto : ℕ) → length ws ≤ from → from ≤ upto → rows_between from upto (over_rows ws t) ≡ rows_between from upto t
     rows_behind from upto p q =
         sym (part_rows from upto (over_rows ws t) q)

@@ -20,7 +20,7 @@ use Rattle.totals_spec.proofs.Totals.{above_tail}
 use Rattle.totals_spec.proofs.Counts.{covered_tail}
 use Rattle.totals_spec.proofs.UnderOwner.{under_on, under_end, under_ascends}
 use Rattle.totals_spec.proofs.TakenRows.{take_nothing, TakenAt, taken_at}
-use Rattle.totals_spec.proofs.Runs.{run_moved, row_put, over_even, rows_behind}
+use Rattle.totals_spec.proofs.Runs.{run_moved, row_put, rows_behind}
 
 above_drop : (l : List Row) (i : ℕ) → all_positive l ≡ true → all_positive (drop i l) ≡ true
 above_drop l zero h = h
@@ -92,12 +92,6 @@ module _ {n at to i : ℕ} {t₀ t : Tables} {owner es cs : List ℕ} (s : Stand
     taking_done m =
         let l : take (n - at) rest ≡ rest = take_all (n - at) rest (omega (arith, rest_long)) in
         run n g.within (omega arith) m ∙ rw (l, all_left)
-
-    pub taking_even : {t' : Tables} → t' ≡ moved at n to t
-        → (length t'.ids ≡ length t₀.ids) × (length t'.epochs ≡ length t₀.epochs) × (length t'.bytes ≡ length t₀.bytes)
-    taking_even m =
-        rw (taking_done m) (over_even (take_counts os (rows_in n t₀)) t₀
-        (room_less (length (take_counts os (rows_in n t₀))) (omega (arith, taking_count, g.behind, g.within)) s.room))
 
   module _ (h : i < length es) where
     -- the count that is next, and its pair

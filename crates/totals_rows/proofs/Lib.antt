@@ -1,0 +1,2 @@
+-- What the loops over records share.
+pub mod Turns
