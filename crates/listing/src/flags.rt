@@ -1,14 +1,14 @@
 // The text of flags, and of what a call answered.
 ghost use Rattle.std.specs.Prelude.{◌≡◌, ◌≤◌, length};
 ghost use Rattle.fields_spec.specs.Writing.{Put};
-ghost use Rattle.records_spec.specs.Outcomes.{refused};
+ghost use Rattle.records_spec.specs.Answers.{head_in};
 ghost use Rattle.listing_spec.specs.Inner.Heads.{head_text, outcome_text, Listable};
 ghost use Rattle.listing_spec.specs.Listed.{record_places};
 
 use crate::lines::{
     line_len, owner_len, put_number_line, put_owner_line, put_record_lines, put_text, records_len,
 };
-use records_spec::{Answered, Head, Outcome};
+use records_spec::{Head, Refusal};
 
 // The length of the text of flags whose records are all of the two tables.
 fn flags_len(head: Head, epochs: &[u16], counts: &[u32]) -> usize
@@ -35,34 +35,31 @@ fn put_flags(out: &mut [u8], head: Head, epochs: &[u16], counts: &[u32]) -> usiz
 }
 
 // The length of the text of what a call answered; the records of flags are the first of the two tables.
-pub fn answer_len(answered: Answered, epochs: &[u16], counts: &[u32]) -> usize
-    requires { Listable answered.head epochs.now counts.now }
-    ensures { result ≡ length (outcome_text answered.outcome answered.head epochs.now counts.now) }
+pub fn answer_len(answered: Result<Option<Head>, Refusal>, epochs: &[u16], counts: &[u32]) -> usize
+    requires { Listable (head_in answered) epochs.now counts.now }
+    ensures { result ≡ length (outcome_text answered epochs.now counts.now) }
 {
-    match answered.outcome {
-        Outcome::Absent => 5,
-        Outcome::Refused(refusal) => line_len(b"refused ", records::number(refusal) as u64),
-        Outcome::Present => {
-            let n = answered.head.records;
-            flags_len(answered.head, &epochs[..n], &counts[..n])
-        }
+    match answered {
+        Ok(Some(head)) => flags_len(head, &epochs[..head.records], &counts[..head.records]),
+        Ok(None) => 5,
+        Err(refusal) => line_len(b"refused ", u32::from(refusal) as u64),
     }
 }
 
 // Writes that text at the start of `out`; answers the place behind it.
-pub fn put_answer(out: &mut [u8], answered: Answered, epochs: &[u16], counts: &[u32]) -> usize
-    requires listable { Listable answered.head epochs.now counts.now }
-    requires counts_in_bounds { length (outcome_text answered.outcome answered.head epochs.now counts.now) ≤ length out.old }
-    ensures { Put (outcome_text answered.outcome answered.head epochs.now counts.now) 0 result out.old out.new }
+pub fn put_answer(
+    out: &mut [u8],
+    answered: Result<Option<Head>, Refusal>,
+    epochs: &[u16],
+    counts: &[u32],
+) -> usize
+    requires listable { Listable (head_in answered) epochs.now counts.now }
+    requires counts_in_bounds { length (outcome_text answered epochs.now counts.now) ≤ length out.old }
+    ensures { Put (outcome_text answered epochs.now counts.now) 0 result out.old out.new }
 {
-    match answered.outcome {
-        Outcome::Absent => put_text(out, 0, b"none\n"),
-        Outcome::Refused(refusal) => {
-            put_number_line(out, 0, b"refused ", records::number(refusal) as u64)
-        }
-        Outcome::Present => {
-            let n = answered.head.records;
-            put_flags(out, answered.head, &epochs[..n], &counts[..n])
-        }
+    match answered {
+        Ok(Some(head)) => put_flags(out, head, &epochs[..head.records], &counts[..head.records]),
+        Ok(None) => put_text(out, 0, b"none\n"),
+        Err(refusal) => put_number_line(out, 0, b"refused ", u32::from(refusal) as u64),
     }
 }
