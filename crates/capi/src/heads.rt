@@ -7,18 +7,18 @@ ghost use Rattle.capi_spec.specs.Told.{head_told, head_answer, count_told, owner
 ghost use Rattle.capi_spec.specs.Calls.{with_owner_c, base_c, owner_id_c, type_byte_c};
 
 use capi_spec::{CCount, CFlags, CHead, CId, CMaybeOwner};
-use records_spec::{Counted, Head, MaybeOwner, Refusal};
+use records_spec::Refusal;
 
 // Flags whose bytes were all paid in one epoch.
 pub fn petasunok_new_single_epoch(epoch: u16, owned: u8, owner_id: CId) -> CHead
     ensures { result ≡ head_told (head_for epoch (owner_if (is_true owned) owner_id.bytes) 0) }
 {
-    let id = owner_id.bytes;
-    let maybe_owner_id = MaybeOwner {
-        owned: capi_given::is_true(owned),
-        id,
+    let owner = if capi_given::is_true(owned) {
+        Some(owner_id.bytes)
+    } else {
+        None
     };
-    capi_told::head_told(records::new_single_epoch(epoch, maybe_owner_id))
+    capi_told::head_told(records::new_single_epoch(epoch, owner))
 }
 
 // The head with another owner, where it is owned.
@@ -27,10 +27,11 @@ pub fn petasunok_set_owner_id(head: CHead, owner_id: CId) -> CFlags
 {
     if capi_given::is_kind(head.kind) {
         let found = capi_given::head_given(head);
-        let id = owner_id.bytes;
-        return capi_told::flags_told(records::present(records::set_owner_id(found, id)));
+        let head = records::set_owner_id(found, owner_id.bytes);
+        capi_told::flags_told(Ok(Some(head)))
+    } else {
+        capi_told::bad_flags()
     }
-    capi_told::flags_told(records::refused(Refusal::BadTable))
 }
 
 // The epoch of the bytes that no record counts.
@@ -39,9 +40,10 @@ pub fn petasunok_base_epoch(head: CHead) -> CCount
 {
     if capi_given::is_kind(head.kind) {
         let found = capi_given::head_given(head);
-        return capi_told::count_told(Counted::Count(records::base_epoch(found) as usize));
+        capi_told::count_told(Ok(records::base_epoch(found) as usize))
+    } else {
+        capi_told::count_told(Err(Refusal::BadTable))
     }
-    capi_told::count_told(Counted::Refused(Refusal::BadTable))
 }
 
 // The owner or none.
@@ -50,9 +52,10 @@ pub fn petasunok_owner_id(head: CHead) -> CMaybeOwner
 {
     if capi_given::is_kind(head.kind) {
         let found = capi_given::head_given(head);
-        return capi_told::owner_id_told(records::owner_id(found));
+        capi_told::owner_id_told(records::owner_id(found))
+    } else {
+        capi_told::no_owner_id(Refusal::BadTable)
     }
-    capi_told::no_owner_id(Refusal::BadTable)
 }
 
 // Byte 0 of the flags.
@@ -61,7 +64,8 @@ pub fn petasunok_type_byte(head: CHead) -> CCount
 {
     if capi_given::is_kind(head.kind) {
         let found = capi_given::head_given(head);
-        return capi_told::count_told(Counted::Count(records::type_byte(found) as usize));
+        capi_told::count_told(Ok(records::type_byte(found) as usize))
+    } else {
+        capi_told::count_told(Err(Refusal::BadTable))
     }
-    capi_told::count_told(Counted::Refused(Refusal::BadTable))
 }

@@ -31,7 +31,7 @@ pub fn petasunok_totals_replace_structs(
         SaysStructsC rows table.old rows_lent old_present old_flags new_present new_flags result lent_left }
 {
     if capi_given::can_replace(old_present, old_flags, new_present, new_flags) {
-        return capi_told::count_told(totals_index::replace_structs(
+        capi_told::count_told(totals_index::replace_structs(
             rows,
             table,
             owners,
@@ -45,7 +45,8 @@ pub fn petasunok_totals_replace_structs(
             capi_given::head_given(new_flags),
             new_epochs,
             new_counts,
-        ));
+        ))
+    } else {
+        capi_told::bad_table()
     }
-    capi_told::bad_table()
 }

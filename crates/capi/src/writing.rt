@@ -7,21 +7,22 @@ ghost use Rattle.capi_spec.specs.Told.{count_told, told_as};
 ghost use Rattle.capi_spec.specs.Calls.{serialized_c, size_c};
 
 use capi_spec::{CCount, CHead};
-use records_spec::{Counted, Refusal};
+use records_spec::Refusal;
 
 // Writes flags as bytes.
 pub fn petasunok_serialize(flags: CHead, epochs: &[u16], counts: &[u32], out: &mut [u8]) -> CCount
     ensures { after result out.new ≡ told_as count_told (serialized_c (flags_were_c flags epochs.now counts.now) out.old) }
 {
     if capi_given::is_kind(flags.kind) {
-        return capi_told::count_told(codec::serialize(
+        capi_told::count_told(codec::serialize(
             capi_given::head_given(flags),
             epochs,
             counts,
             out,
-        ));
+        ))
+    } else {
+        capi_told::count_told(Err(Refusal::BadTable))
     }
-    capi_told::count_told(Counted::Refused(Refusal::BadTable))
 }
 
 // The number of bytes of flags.
@@ -29,13 +30,14 @@ pub fn petasunok_serialized_size(flags: CHead, epochs: &[u16], counts: &[u32]) -
     ensures { result ≡ count_told (size_c (flags_were_c flags epochs.now counts.now)) }
 {
     if capi_given::is_kind(flags.kind) {
-        return capi_told::count_told(codec::serialized_size(
+        capi_told::count_told(codec::serialized_size(
             capi_given::head_given(flags),
             epochs,
             counts,
-        ));
+        ))
+    } else {
+        capi_told::count_told(Err(Refusal::BadTable))
     }
-    capi_told::count_told(Counted::Refused(Refusal::BadTable))
 }
 
 // The size of flags before they are made.

@@ -5,16 +5,19 @@ use mathlib.Core.Path.{◌≡◌, refl, sym, ap, ◌∙◌}
 use mathlib.Core.Bool.{true, ◌&&◌}
 use Prim.Native.Nat.{ℕ}
 use Rattle.records_spec.specs.Refusals.{number}
-use Rattle.records_spec.specs.Answers.{counted, placing_if, writing}
+use Rattle.records_spec.specs.declared.refusal.Refusal.{Refusal}
+use Rattle.std.specs.Prelude.{Result, Ok, Err}
+use Rattle.records_spec.specs.Outcomes.{answered}
+use Rattle.records_spec.specs.Answers.{placing_if, writing}
 use Rattle.codec_spec.specs.Calls.{serialized}
 use Rattle.flags_spec.specs.Calls.{handed_on, combined_added}
 use Rattle.flags_spec.specs.declared.owners.Choice.{Choice}
-use Rattle.flags_spec.specs.declared.owners.Choice.TheVariants.{Ours, Theirs, Neither, Refused}
-use Rattle.rows_spec.specs.Calls.{decided, totalled, told_removal}
+use Rattle.flags_spec.specs.declared.owners.Choice.TheVariants.{Ours, Theirs, Neither}
+use Rattle.rows_spec.specs.Calls.{told_removal}
 use Rattle.sums_spec.specs.Calls.{summed}
 use Rattle.splitting_spec.specs.Calls.{told_split, split_key, split_value}
 use Rattle.removal_spec.specs.Calls.{combined_removed, handed_on_beside}
-use Rattle.repair_spec.specs.Calls.{told_repair, placing_repair}
+use Rattle.repair_spec.specs.Calls.{placing_repair}
 use Rattle.totals_spec.specs.Calls.{replacing}
 use Rattle.totals_index_spec.specs.Calls.{placing_structs, replacing_structs}
 use Rattle.rows_spec.specs.Rows.{tables}
@@ -46,9 +49,9 @@ keeps Calls.deserialize_single_epoch_owned κs i x e p h = flags_keeps x _ _ _ (
 keeps Calls.deserialize_multi_epoch_owned κs i x e p h = flags_keeps x _ _ _ (leaving_kept _ _) p h
 keeps Calls.judge κs i x e p h = absurd (h refl)
 keeps Calls.judge_as κs i x e p h = absurd (h refl)
-keeps Calls.list κs i x e p h = told_keeps_with counted x _ _ _ (leaving_kept _ _) p h
-keeps Calls.serialize κs i x e p h = told_keeps_with counted x _ _ _ (leaving_kept _ _) p h
-keeps Calls.serialized_size κs i x e p h = (told_keeps counted x h, refl)
+keeps Calls.list κs i x e p h = told_keeps_with answered x _ _ _ (leaving_kept _ _) p h
+keeps Calls.serialize κs i x e p h = told_keeps_with answered x _ _ _ (leaving_kept _ _) p h
+keeps Calls.serialized_size κs i x e p h = (told_keeps answered x h, refl)
 keeps Calls.approximate_size κs i x e p h = absurd (h refl)
 keeps Calls.new_single_epoch κs i x e p h = absurd (h refl)
 keeps Calls.set_owner_id κs i x e p h = absurd (h refl)
@@ -56,28 +59,28 @@ keeps Calls.base_epoch κs i x e p h = absurd (h refl)
 keeps Calls.owner_id κs i x e p h = absurd (h refl)
 keeps Calls.type_byte κs i x e p h = absurd (h refl)
 keeps Calls.choose_owner κs i x e p h = absurd (h refl)
-keeps Calls.combine_owners κs i x e p h = absurd (h refl)
+keeps Calls.combine_owners κs i x e p h = (told_keeps answered x h, refl)
 keeps Calls.combine_owner_id κs i x e p h = absurd (h refl)
 keeps Calls.choose_owner_id κs i x e p h = absurd (h refl)
 keeps Calls.combine_added_bytes κs i x e p h = flags_keeps x _ _ _ (leaving_kept _ _) p h
 keeps Calls.optional_combine_added_bytes κs i x e p h = flags_keeps x _ _ _ (either_kept _ i.0 _ _ (leaving_kept _ _) (leaving_kept _ _)) p h
 keeps Calls.combine_removed_bytes κs i x e p h = flags_keeps x _ _ _ (leaving_kept _ _) p h
 keeps Calls.optional_combine_removed_bytes κs i x e p h = flags_keeps x _ _ _ (either_kept _ i.0 _ _ (leaving_kept _ _) (leaving_kept _ _)) p h
-keeps Calls.has_removal κs i x e p h = (told_keeps decided x h, refl)
-keeps Calls.total_removed_bytes κs i x e p h = (told_keeps totalled x h, refl)
+keeps Calls.has_removal κs i x e p h = (told_keeps answered x h, refl)
+keeps Calls.total_removed_bytes κs i x e p h = (told_keeps answered x h, refl)
 keeps Calls.add_assign κs i x e p h = told_keeps_with told_removal x _ _ _ (leaving_kept _ _) p h
 keeps Calls.split_key_removed_bytes κs i x e p h = told_keeps_with told_removal x _ _ _ (leaving_kept _ _) p h
 keeps Calls.split_value_removed_bytes κs i x e p h = told_keeps_with told_split x _ _ _ (leaving_kept _ _) p h
-keeps Calls.repair κs i x e p h = told_keeps_with told_repair x _ _ _ (leaving_kept _ _) p h
-keeps Calls.totals_replace κs i x e p h = told_keeps_with counted x _ _ _ (leaving_kept _ _) p h
-keeps Calls.totals_replace_structs κs i x e p h = told_keeps_with counted x _ _ _ (leaving_kept _ _) p h
+keeps Calls.repair κs i x e p h = told_keeps_with answered x _ _ _ (leaving_kept _ _) p h
+keeps Calls.totals_replace κs i x e p h = told_keeps_with answered x _ _ _ (leaving_kept _ _) p h
+keeps Calls.totals_replace_structs κs i x e p h = told_keeps_with answered x _ _ _ (leaving_kept _ _) p h
 
 -- a choice of owners as C gets it
-choice_keeps : (x : COwner) (c : Choice) → x ≡ owner_told c → (x.refusal ≡ 0 → ⊥) → x ≡ record { refusal = x.refusal; which = 0 }
-choice_keeps x Ours e h = absurd (h (ap (λ (a : COwner). a.refusal) e))
-choice_keeps x Theirs e h = absurd (h (ap (λ (a : COwner). a.refusal) e))
-choice_keeps x Neither e h = absurd (h (ap (λ (a : COwner). a.refusal) e))
-choice_keeps x (Refused r) e h =
+choice_keeps : (x : COwner) (c : Result Choice Refusal) → x ≡ owner_told c → (x.refusal ≡ 0 → ⊥) → x ≡ record { refusal = x.refusal; which = 0 }
+choice_keeps x (Ok Ours) e h = absurd (h (ap (λ (a : COwner). a.refusal) e))
+choice_keeps x (Ok Theirs) e h = absurd (h (ap (λ (a : COwner). a.refusal) e))
+choice_keeps x (Ok Neither) e h = absurd (h (ap (λ (a : COwner). a.refusal) e))
+choice_keeps x (Err r) e h =
     let z : x.refusal ≡ number r = ap (λ (a : COwner). a.refusal) e in
     e ∙ ap (λ (n : ℕ). record { refusal = n; which = 0 }) (sym z)
 

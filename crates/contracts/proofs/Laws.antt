@@ -4,12 +4,13 @@
 use mathlib.Core.Path.{◌≡◌, refl, sym, ap, ◌∙◌}
 use mathlib.Core.Bool.{Bool, true, false, cond}
 use Prim.Native.Nat.{ℕ}
-use Rattle.records_spec.specs.Outcomes.{Answer, ok, refused, number_in, After, after, leaving}
+use Rattle.records_spec.specs.Outcomes.{Answer, ok, refused, number_in, After, after, leaving, answered}
 use Rattle.records_spec.specs.Flags.{no_head, Lent, lending, Held, blank}
-use Rattle.records_spec.specs.Answers.{FlagsAfter, present_in, shown, counted}
-use Rattle.records_spec.specs.declared.answer.Answered.{Answered}
-use Rattle.records_spec.specs.declared.answer.Counted.{Counted}
-use Rattle.records_spec.proofs.Only.{refused_keeps, back_only, counted_as, counted_back}
+use Rattle.records_spec.specs.Answers.{FlagsAfter, present_in, head_in, shown}
+use Rattle.records_spec.specs.declared.head.Head.{Head}
+use Rattle.records_spec.specs.declared.refusal.Refusal.{Refusal}
+use Rattle.std.specs.Prelude.{Option, Result}
+use Rattle.records_spec.proofs.Only.{refused_keeps, back_only, answered_as, answered_back}
 use Rattle.capi_spec.specs.Calls.{where_named}
 use Rattle.capi_spec.specs.Told.{told_as, flags_answer, flags_told}
 use Rattle.capi_spec.specs.declared.types.CFlags.{CFlags}
@@ -50,11 +51,11 @@ module _ {T A M : Type 0} (t : T → Answer A) (x : T) (m left : M) (d : After (
       (r, ap (λ (a : After (Answer A) M). a.lent) e ∙ k _ (sym (ap (λ (a : After (Answer A) M). a.answer) e) ∙ r))
 
 -- flags: the head is all zeros
-pub flags_keeps : (a : Answered) (t left : Lent) (d : FlagsAfter) → KeptBy (blank t) d → shown a left ≡ d
-    → (number_in (present_in a.outcome) ≡ 0 → ⊥)
-    → ((present_in a.outcome ≡ refused (number_in (present_in a.outcome))) × (a.head ≡ no_head)) × (left ≡ t)
+pub flags_keeps : (a : Result (Option Head) Refusal) (t left : Lent) (d : FlagsAfter) → KeptBy (blank t) d → shown a left ≡ d
+    → (number_in (present_in a) ≡ 0 → ⊥)
+    → ((present_in a ≡ refused (number_in (present_in a))) × (head_in a ≡ no_head)) × (left ≡ t)
 flags_keeps a t left d k e h =
-    let r = told_keeps_with present_in a.outcome (blank t) _ d k e h in
+    let r = told_keeps_with present_in a (blank t) _ d k e h in
     ((r.0, ap (λ (f : Held). f.head) r.1), ap (λ (f : Held). lending f.epochs f.counts) r.1)
 
 -- ---- answers as C gets them
@@ -99,6 +100,6 @@ c_only {C} {M} x y m n d p q =
     let e = p ∙ sym q in
     (ap (λ (a : After C M). a.answer) e, ap (λ (a : After C M). a.lent) e)
 
--- two counts or refusals that tell the same are the same
-pub counted_only : (c d : Counted) (x : Answer ℕ) → counted c ≡ x → counted d ≡ x → c ≡ d
-counted_only = back_only counted counted_as counted_back
+-- two answers or refusals that tell the same are the same
+pub answered_only : {A : Type 0} (c d : Result A Refusal) (x : Answer A) → answered c ≡ x → answered d ≡ x → c ≡ d
+answered_only = back_only answered answered_as answered_back

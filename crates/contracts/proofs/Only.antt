@@ -2,14 +2,12 @@
 -- has a way back, by `left_only`; where the contract has C's answer itself, since both equal the definition.
 -- Assumes nothing.
 use mathlib.Core.Path.{refl, sym, ◌∙◌}
-use Rattle.records_spec.specs.Answers.{counted}
-use Rattle.records_spec.proofs.Only.{back_only, left_only, counted_as, counted_back, shown_only}
-use Rattle.rows_spec.specs.Calls.{decided, totalled, told_removal}
-use Rattle.rows_spec.proofs.Only.{decided_as, decided_back, totalled_as, totalled_back, removal_as, removal_back}
+use Rattle.records_spec.specs.Outcomes.{answered}
+use Rattle.records_spec.proofs.Only.{back_only, left_only, answered_as, answered_back, shown_only}
+use Rattle.rows_spec.specs.Calls.{told_removal}
+use Rattle.rows_spec.proofs.Only.{removal_as, removal_back}
 use Rattle.splitting_spec.specs.Calls.{told_split}
 use Rattle.splitting_spec.proofs.Only.{split_as, split_back}
-use Rattle.repair_spec.specs.Calls.{told_repair}
-use Rattle.repair_spec.proofs.Only.{repair_as, repair_back}
 use Rattle.contracts.specs.Contract.{Only}
 use Rattle.contracts.specs.Calls
 use Rattle.contracts.specs.Calls.{PublicCall, contract}
@@ -25,9 +23,9 @@ only Calls.deserialize_single_epoch_owned κs i x y e f p q = shown_only x y _ _
 only Calls.deserialize_multi_epoch_owned κs i x y e f p q = shown_only x y _ _ _ p q
 only Calls.judge κs i x y e f p q = (p ∙ sym q, refl)
 only Calls.judge_as κs i x y e f p q = (p ∙ sym q, refl)
-only Calls.list κs i x y e f p q = left_only counted counted_as counted_back x y _ _ _ p q
-only Calls.serialize κs i x y e f p q = left_only counted counted_as counted_back x y _ _ _ p q
-only Calls.serialized_size κs i x y e f p q = (back_only counted counted_as counted_back x y _ p q, refl)
+only Calls.list κs i x y e f p q = left_only answered answered_as answered_back x y _ _ _ p q
+only Calls.serialize κs i x y e f p q = left_only answered answered_as answered_back x y _ _ _ p q
+only Calls.serialized_size κs i x y e f p q = (back_only answered answered_as answered_back x y _ p q, refl)
 only Calls.approximate_size κs i x y e f p q = (p ∙ sym q, refl)
 only Calls.new_single_epoch κs i x y e f p q = (p ∙ sym q, refl)
 only Calls.set_owner_id κs i x y e f p q = (p ∙ sym q, refl)
@@ -35,21 +33,21 @@ only Calls.base_epoch κs i x y e f p q = (p ∙ sym q, refl)
 only Calls.owner_id κs i x y e f p q = (p ∙ sym q, refl)
 only Calls.type_byte κs i x y e f p q = (p ∙ sym q, refl)
 only Calls.choose_owner κs i x y e f p q = (p ∙ sym q, refl)
-only Calls.combine_owners κs i x y e f p q = (p ∙ sym q, refl)
+only Calls.combine_owners κs i x y e f p q = (back_only answered answered_as answered_back x y _ p q, refl)
 only Calls.combine_owner_id κs i x y e f p q = (p ∙ sym q, refl)
 only Calls.choose_owner_id κs i x y e f p q = (p ∙ sym q, refl)
 only Calls.combine_added_bytes κs i x y e f p q = shown_only x y _ _ _ p q
 only Calls.optional_combine_added_bytes κs i x y e f p q = shown_only x y _ _ _ p q
 only Calls.combine_removed_bytes κs i x y e f p q = shown_only x y _ _ _ p q
 only Calls.optional_combine_removed_bytes κs i x y e f p q = shown_only x y _ _ _ p q
-only Calls.has_removal κs i x y e f p q = (back_only decided decided_as decided_back x y _ p q, refl)
-only Calls.total_removed_bytes κs i x y e f p q = (back_only totalled totalled_as totalled_back x y _ p q, refl)
+only Calls.has_removal κs i x y e f p q = (back_only answered answered_as answered_back x y _ p q, refl)
+only Calls.total_removed_bytes κs i x y e f p q = (back_only answered answered_as answered_back x y _ p q, refl)
 only Calls.add_assign κs i x y e f p q = left_only told_removal removal_as removal_back x y _ _ _ p q
 only Calls.split_key_removed_bytes κs i x y e f p q = left_only told_removal removal_as removal_back x y _ _ _ p q
 only Calls.split_value_removed_bytes κs i x y e f p q = left_only told_split split_as split_back x y _ _ _ p q
-only Calls.repair κs i x y e f p q = left_only told_repair repair_as repair_back x y _ _ _ p q
-only Calls.totals_replace κs i x y e f p q = left_only counted counted_as counted_back x y _ _ _ p q
-only Calls.totals_replace_structs κs i x y e f p q = left_only counted counted_as counted_back x y _ _ _ p q
+only Calls.repair κs i x y e f p q = left_only answered answered_as answered_back x y _ _ _ p q
+only Calls.totals_replace κs i x y e f p q = left_only answered answered_as answered_back x y _ _ _ p q
+only Calls.totals_replace_structs κs i x y e f p q = left_only answered answered_as answered_back x y _ _ _ p q
 
 pub only_c : (c : CallForC) → Only (contract_c c)
 only_c CallsForC.petasunok_deserialize κs i x y e f p q = c_only x y _ _ _ p q

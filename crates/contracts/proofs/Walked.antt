@@ -4,14 +4,13 @@
 -- Assumes nothing.
 use mathlib.Core.Path.{◌≡◌, refl}
 use mathlib.Core.Bool.{Bool}
-use Rattle.std.specs.Prelude.{Option}
+use Rattle.std.specs.Prelude.{Option, Result}
 use mathlib.Core.List.{List}
 use Prim.Native.Nat.{ℕ}
-use Rattle.records_spec.specs.Outcomes.{refused, number_in}
+use Rattle.records_spec.specs.Outcomes.{refused, answered, number_in}
 use Rattle.records_spec.specs.Flags.{Flags}
-use Rattle.records_spec.specs.Answers.{counted}
-use Rattle.records_spec.specs.declared.answer.Counted.{Counted}
-use Rattle.records_spec.proofs.Only.{left_only, counted_as, counted_back}
+use Rattle.records_spec.specs.declared.refusal.Refusal.{Refusal}
+use Rattle.records_spec.proofs.Only.{left_only, answered_as, answered_back}
 use Rattle.rows_spec.specs.Rows.{Tables}
 use Rattle.totals_index_spec.specs.Calls.{TableAndWork, beside, placing_structs, replacing_structs, SaysStructs}
 use Rattle.totals_index_spec.specs.declared.structs.Total.{Total}
@@ -24,14 +23,14 @@ use Rattle.contracts.proofs.Laws.{leaving_kept, named_kept, told_keeps_with, c_k
 module _ (n : ℕ) (ts : List Total) (work : Tables) where
   -- `totals_index::replace_structs`
   module _ (good : Bool) (old new : Option Flags) where
-    pub structs_only : (r s : Counted) (m k : TableAndWork) → SaysStructs n ts work good old new r m → SaysStructs n ts work good old new s k
+    pub structs_only : (r s : Result ℕ Refusal) (m k : TableAndWork) → SaysStructs n ts work good old new r m → SaysStructs n ts work good old new s k
         → (r ≡ s) × (m ≡ k)
-    structs_only r s m k p q = left_only counted counted_as counted_back r s m k _ p q
+    structs_only r s m k p q = left_only answered answered_as answered_back r s m k _ p q
 
-    pub structs_keeps : (r : Counted) (m : TableAndWork) → SaysStructs n ts work good old new r m → (number_in (counted r) ≡ 0 → ⊥)
-        → (counted r ≡ refused (number_in (counted r))) × (m ≡ beside ts work)
+    pub structs_keeps : (r : Result ℕ Refusal) (m : TableAndWork) → SaysStructs n ts work good old new r m → (number_in (answered r) ≡ 0 → ⊥)
+        → (answered r ≡ refused (number_in (answered r))) × (m ≡ beside ts work)
     unfolding replacing_structs placing_structs
-    structs_keeps r m p h = told_keeps_with counted r (beside ts work) m _ (leaving_kept _ _) p h
+    structs_keeps r m p h = told_keeps_with answered r (beside ts work) m _ (leaving_kept _ _) p h
 
   -- `petasunok_totals_replace_structs`
   module _ (op : ℕ) (old : CHeld) (np : ℕ) (new : CHeld) where

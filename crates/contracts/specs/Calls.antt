@@ -1,30 +1,31 @@
 -- THE TABLE OF PUBLIC CALLS, with their contracts as the crates state them. Beside these stands `contract_c` for C.
 -- Assumes nothing.
-use Rattle.std.specs.Prelude.{ℕ, ◌&&◌}
+use Rattle.std.specs.Prelude.{ℕ, ◌&&◌, Bool, List, Option, Result}
 use Rattle.records_spec.specs.Flags
-use Rattle.records_spec.specs.Flags.{owner_if, maybe_owner, owner_of, head_for, with_owner, lending, holding}
-use Rattle.records_spec.specs.Answers.{counted, writing}
+use Rattle.records_spec.specs.Flags.{owner_of, head_for, with_owner, lending, holding}
+use Rattle.records_spec.specs.Outcomes.{answered}
+use Rattle.records_spec.specs.Answers.{writing}
 use Rattle.records_spec.specs.declared.head.Head.{Head}
-use Rattle.records_spec.specs.declared.head.MaybeOwner.{MaybeOwner}
+use Rattle.records_spec.specs.declared.refusal.Refusal.{Refusal}
 use Rattle.records_spec.specs.declared.head.Kind.TheVariants.{SingleEpoch, MultiEpoch, SingleEpochOwned, MultiEpochOwned}
 use Rattle.codec_spec.specs.Reading.{read_as, read}
 use Rattle.codec_spec.specs.Sizes.{approximate}
 use Rattle.codec_spec.specs.Calls.{judgement, deserialized_as, deserialized, serialized, size_of}
-use Rattle.codec_spec.specs.declared.judging.Judgement.{Judgement}
-use Rattle.flags_spec.specs.Owners.{choice, combined_owner, chosen_as}
+use Rattle.codec_spec.specs.declared.judging.Fault.{Fault}
+use Rattle.flags_spec.specs.Owners.{choice, combined_owner}
 use Rattle.flags_spec.specs.Parts.{Part, lent}
 use Rattle.flags_spec.specs.Calls.{owner_choice, owner_handed, combined_added, optional_combined_added}
 use Rattle.flags_spec.specs.declared.owners.Choice.{Choice}
-use Rattle.flags_spec.specs.declared.owners.ChosenOwner.{ChosenOwner}
 use Rattle.listing_spec.specs.Listed.{listed}
 use Rattle.rows_spec.specs.Rows.{tables}
 use Rattle.rows_spec.specs.Removals.{holding_rows}
 use Rattle.rows_spec.specs.Calls as Removed
-use Rattle.rows_spec.specs.Calls.{decided, totalled, total_removed, told_removal}
+use Rattle.rows_spec.specs.Calls.{total_removed, told_removal}
 use Rattle.sums_spec.specs.Calls.{summed}
 use Rattle.splitting_spec.specs.Calls.{told_split, split_key, split_value}
 use Rattle.removal_spec.specs.Calls.{combined_removed, optional_combined_removed}
-use Rattle.repair_spec.specs.Calls.{told_repair, repair_lent, repaired_into}
+use Rattle.repair_spec.specs.Calls.{repair_lent, repaired_into}
+use Rattle.repair_spec.specs.declared.repairing.Sizes.{Sizes}
 use Rattle.totals_spec.specs.Calls.{given, proper_given, replacing}
 use Rattle.totals_index_spec.specs.Calls.{beside, replacing_structs}
 use Rattle.contracts.specs.Forms.{valued, answering, answering_with, flagged}
@@ -138,22 +139,22 @@ contract deserialize_multi_epoch_owned =
     (λ κs src epochs counts. (lending epochs.now counts.now, deserialized_as MultiEpochOwned src.now))
     (λ κs src epochs counts. lending epochs.now counts.now)
 contract judge =
-    answering_alone (valued Judgement) 1 judge_kinds.ps judge_kinds.r judge_reads.Learnt (λ κs x. x)
+    answering_alone (valued (Result (Option Head) Fault)) 1 judge_kinds.ps judge_kinds.r judge_reads.Learnt (λ κs x. x)
     (λ κs src. judgement (read src.now))
 contract judge_as =
-    answering_alone (valued Judgement) 1 judge_as_kinds.ps judge_as_kinds.r judge_as_reads.Learnt (λ κs x. x)
+    answering_alone (valued (Result (Option Head) Fault)) 1 judge_as_kinds.ps judge_as_kinds.r judge_as_reads.Learnt (λ κs x. x)
     (λ κs kind src. judgement (read_as kind src.now))
 contract list =
-    contract_of (answering_with counted) 2 list_kinds.ps list_kinds.r list_reads.Learnt (λ κs x. x)
+    contract_of (answering_with (answered {A = ℕ})) 2 list_kinds.ps list_kinds.r list_reads.Learnt (λ κs x. x)
     (λ κs src out. (out.now, writing (listed src.now)))
     (λ κs src out. out.now)
 -- writing and sizes
 contract serialize =
-    contract_of (answering_with counted) 3 serialize_kinds.ps serialize_kinds.r serialize_reads.Learnt (λ κs x. x)
+    contract_of (answering_with (answered {A = ℕ})) 3 serialize_kinds.ps serialize_kinds.r serialize_reads.Learnt (λ κs x. x)
     (λ κs flags epochs counts out. (out.now, serialized (holding flags epochs.now counts.now)))
     (λ κs flags epochs counts out. out.now)
 contract serialized_size =
-    answering_alone (answering counted) 2 serialized_size_kinds.ps serialized_size_kinds.r serialized_size_reads.Learnt (λ κs x. x)
+    answering_alone (answering (answered {A = ℕ})) 2 serialized_size_kinds.ps serialized_size_kinds.r serialized_size_reads.Learnt (λ κs x. x)
     (λ κs flags epochs counts. size_of (holding flags epochs.now counts.now))
 contract approximate_size =
     answering_alone (valued ℕ) 0 approximate_size_kinds.ps approximate_size_kinds.r approximate_size_reads.Learnt (λ κs x. x)
@@ -161,7 +162,7 @@ contract approximate_size =
 -- the head alone
 contract new_single_epoch =
     answering_alone (valued Head) 0 new_single_epoch_kinds.ps new_single_epoch_kinds.r new_single_epoch_reads.Learnt (λ κs x. x)
-    (λ κs epoch maybe_owner_id. head_for epoch (owner_if maybe_owner_id.owned maybe_owner_id.id) 0)
+    (λ κs epoch maybe_owner_id. head_for epoch maybe_owner_id 0)
 contract set_owner_id =
     answering_alone (valued Head) 0 set_owner_id_kinds.ps set_owner_id_kinds.r set_owner_id_reads.Learnt (λ κs x. x)
     (λ κs head owner_id. with_owner head owner_id)
@@ -169,23 +170,23 @@ contract base_epoch =
     answering_alone (valued ℕ) 0 base_epoch_kinds.ps base_epoch_kinds.r base_epoch_reads.Learnt (λ κs x. x)
     (λ κs head. head.base)
 contract owner_id =
-    answering_alone (valued MaybeOwner) 0 owner_id_kinds.ps owner_id_kinds.r owner_id_reads.Learnt (λ κs x. x)
-    (λ κs head. maybe_owner (owner_of head))
+    answering_alone (valued (Option (List ℕ))) 0 owner_id_kinds.ps owner_id_kinds.r owner_id_reads.Learnt (λ κs x. x)
+    (λ κs head. owner_of head)
 contract type_byte =
     answering_alone (valued ℕ) 0 type_byte_kinds.ps type_byte_kinds.r type_byte_reads.Learnt (λ κs x. x)
     (λ κs head. Flags.type_byte head.kind)
 -- owners
 contract choose_owner =
-    answering_alone (valued Choice) 0 choose_owner_kinds.ps choose_owner_kinds.r choose_owner_reads.Learnt (λ κs x. x)
+    answering_alone (valued (Result Choice Refusal)) 0 choose_owner_kinds.ps choose_owner_kinds.r choose_owner_reads.Learnt (λ κs x. x)
     (λ κs ours theirs strategy. choice strategy (owner_of ours) (owner_of theirs))
 contract combine_owners =
-    answering_alone (valued ChosenOwner) 0 combine_owners_kinds.ps combine_owners_kinds.r combine_owners_reads.Learnt (λ κs x. x)
-    (λ κs ours theirs strategy. chosen_as (combined_owner strategy (owner_of ours) (owner_of theirs)))
+    answering_alone (answering (answered {A = Option (List ℕ)})) 0 combine_owners_kinds.ps combine_owners_kinds.r combine_owners_reads.Learnt (λ κs x. x)
+    (λ κs ours theirs strategy. combined_owner strategy (owner_of ours) (owner_of theirs))
 contract combine_owner_id =
     answering_alone (valued Part) 1 combine_owner_id_kinds.ps combine_owner_id_kinds.r combine_owner_id_reads.Learnt (λ κs x. lent x)
     (λ κs ours theirs strategy. owner_handed strategy (lent ours) (lent theirs))
 contract choose_owner_id =
-    answering_alone (valued Choice) 2 choose_owner_id_kinds.ps choose_owner_id_kinds.r choose_owner_id_reads.Learnt (λ κs x. x)
+    answering_alone (valued (Result Choice Refusal)) 2 choose_owner_id_kinds.ps choose_owner_id_kinds.r choose_owner_id_reads.Learnt (λ κs x. x)
     (λ κs ours theirs strategy. owner_choice strategy ours.now theirs.now)
 -- merging
 contract combine_added_bytes =
@@ -225,10 +226,10 @@ contract optional_combine_removed_bytes =
     lending epochs.now counts.now)
 -- removals
 contract has_removal =
-    answering_alone (answering decided) 3 has_removal_kinds.ps has_removal_kinds.r has_removal_reads.Learnt (λ κs x. x)
+    answering_alone (answering (answered {A = Bool})) 3 has_removal_kinds.ps has_removal_kinds.r has_removal_reads.Learnt (λ κs x. x)
     (λ κs removal ids epochs bytes. Removed.has_removal (holding_rows removal.removed (tables ids.now epochs.now bytes.now)))
 contract total_removed_bytes =
-    answering_alone (answering totalled) 3 total_removed_bytes_kinds.ps total_removed_bytes_kinds.r total_removed_bytes_reads.Learnt (λ κs x. x)
+    answering_alone (answering (answered {A = ℕ})) 3 total_removed_bytes_kinds.ps total_removed_bytes_kinds.r total_removed_bytes_reads.Learnt (λ κs x. x)
     (λ κs removal ids epochs bytes. total_removed (holding_rows removal.removed (tables ids.now epochs.now bytes.now)))
 contract add_assign =
     contract_of (answering_with told_removal) 6 add_assign_kinds.ps add_assign_kinds.r add_assign_reads.Learnt (λ κs x. x)
@@ -251,11 +252,11 @@ contract split_value_removed_bytes =
     (λ κs flags epochs counts removed_value_bytes ids row_epochs row_bytes. tables ids.now row_epochs.now row_bytes.now)
 -- repair and totals
 contract repair =
-    contract_of (answering_with told_repair) 4 repair_kinds.ps repair_kinds.r repair_reads.Learnt (λ κs x. x)
+    contract_of (answering_with (answered {A = Sizes})) 4 repair_kinds.ps repair_kinds.r repair_reads.Learnt (λ κs x. x)
     (λ κs src out offsets changes. (repair_lent out.now offsets.now changes.now, repaired_into src.now))
     (λ κs src out offsets changes. repair_lent out.now offsets.now changes.now)
 contract totals_replace =
-    contract_of (answering_with counted) 7 totals_replace_kinds.ps totals_replace_kinds.r totals_replace_reads.Learnt (λ κs x. x)
+    contract_of (answering_with (answered {A = ℕ})) 7 totals_replace_kinds.ps totals_replace_kinds.r totals_replace_reads.Learnt (λ κs x. x)
     (λ κs rows owners epochs totals old_present old_flags old_epochs old_counts new_present new_flags new_epochs new_counts. (
       tables owners.now epochs.now totals.now,
       λ m. replacing rows m (proper_given old_present (holding old_flags old_epochs.now old_counts.now) && proper_given new_present
@@ -265,7 +266,7 @@ contract totals_replace =
     (λ κs rows owners epochs totals old_present old_flags old_epochs old_counts new_present new_flags new_epochs new_counts.
     tables owners.now epochs.now totals.now)
 contract totals_replace_structs =
-    contract_of (answering_with counted) 8 totals_replace_structs_kinds.ps totals_replace_structs_kinds.r totals_replace_structs_reads.Learnt (λ κs x. x)
+    contract_of (answering_with (answered {A = ℕ})) 8 totals_replace_structs_kinds.ps totals_replace_structs_kinds.r totals_replace_structs_reads.Learnt (λ κs x. x)
     (λ κs rows table owners epochs totals old_present old_flags old_epochs old_counts new_present new_flags new_epochs new_counts. (
       beside table.now (tables owners.now epochs.now totals.now),
       λ m. replacing_structs rows m.table m.work (proper_given old_present (holding old_flags old_epochs.now old_counts.now) && proper_given new_present

@@ -1,10 +1,11 @@
 -- The forms of outcomes that the public calls have.
 -- Assumes nothing.
-use Rattle.std.specs.Prelude.{ℕ, ◌≡◌}
+use Rattle.std.specs.Prelude.{ℕ, ◌≡◌, Option, Result}
 use Rattle.records_spec.specs.Outcomes.{Answer, refused, number_in, After, after, refusing}
 use Rattle.records_spec.specs.Flags.{no_head, Lent}
-use Rattle.records_spec.specs.Answers.{FlagsAfter, present_in, shown}
-use Rattle.records_spec.specs.declared.answer.Answered.{Answered}
+use Rattle.records_spec.specs.Answers.{FlagsAfter, present_in, head_in, shown}
+use Rattle.records_spec.specs.declared.head.Head.{Head}
+use Rattle.records_spec.specs.declared.refusal.Refusal.{Refusal}
 use Rattle.capi_spec.specs.Told.{flags_answer, head_answer, count_told, owner_id_told, sum_answer, split_answer, repair_answer}
 use Rattle.capi_spec.specs.declared.types.CFlags.{CFlags}
 use Rattle.capi_spec.specs.declared.types.CCount.{CCount}
@@ -38,9 +39,9 @@ answering_with {T} {A} {M} t =
 abbrev pub flagged : Form Lent
 flagged =
     record {
-      Told = Answered;
-      refusal = λ a. number_in (present_in a.outcome);
-      alone = λ n a. (present_in a.outcome ≡ refused n) × (a.head ≡ no_head);
+      Told = Result (Option Head) Refusal;
+      refusal = λ a. number_in (present_in a);
+      alone = λ n a. (present_in a ≡ refused n) × (head_in a ≡ no_head);
       Outcome = FlagsAfter;
       outcome = shown;
     }

@@ -1,4 +1,4 @@
--- `capi::reading::petasunok_deserialize_single_epoch` meets its contract: the call's own answer is told. Assumes nothing.
+-- The call's own answer is told.
 use Rattle.records_spec.specs.Flags.{lending}
 use Rattle.capi_spec.proofs.Telling.{flags_told_lem}
 use Rattle.capi.proofs.reading.petasunok_deserialize_single_epoch.Goals as goal

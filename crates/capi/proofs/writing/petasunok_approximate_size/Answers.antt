@@ -1,4 +1,4 @@
--- `capi::writing::petasunok_approximate_size` meets its contract: the size is that of what C gave. Assumes nothing.
+-- The size is that of what C gave.
 use mathlib.Core.Path.{◌∙◌}
 use Rattle.capi.proofs.writing.petasunok_approximate_size.Goals as goal
 

@@ -1,4 +1,4 @@
--- `capi::writing::petasunok_serialized_size` meets its contract: the call's own answer is told, or 11. Assumes nothing.
+-- The call's own answer is told, or 11.
 use mathlib.Core.Path.{refl, sym, ap, ◌∙◌}
 use Rattle.capi_spec.proofs.Telling.{when_true, when_false}
 use Rattle.capi_spec.specs.Told.{count_told}
@@ -8,5 +8,5 @@ pub returns-then-is_kind : goal.returns-then-is_kind
 returns-then-is_kind c = c.count_told.ensures ∙ ap count_told (when_true _ _ _ (sym c.is_kind.ensures ∙ c.if-is_kind.true)
     (c.serialized_size.ensures ∙ simp c.head_given.ensures))
 
-pub returns : goal.returns
-returns c = c.count_told-2.ensures ∙ ap count_told (when_false _ _ _ (sym c.is_kind.ensures ∙ c.if-is_kind.false) refl)
+pub returns-else-is_kind : goal.returns-else-is_kind
+returns-else-is_kind c = c.count_told-else-is_kind.ensures ∙ ap count_told (when_false _ _ _ (sym c.is_kind.ensures ∙ c.if-is_kind.false) refl)
