@@ -117,7 +117,7 @@ pub fn next_record(
         let ours = our_epochs[i];
         let theirs = their_epochs[j];
         NextRecord {
-            epoch: ours.min(theirs),
+            epoch: theirs.min(ours),
             count: standing(ours, theirs, our_counts[i], their_counts[j]),
             i: upto(ours, theirs, i),
             j: upto(theirs, ours, j),
@@ -155,6 +155,7 @@ pub fn union_len(
 
 // Puts that union into the two tables lent for it, from the place `at` on; answers the place behind it. Ours that are below all
 // of theirs go first and are copied as one run, and so is what is left of one side where the other is passed.
+#[tactic(auto, using(records_spec::proofs::Tables::filling_room))]
 pub fn union_into(
     our_epochs: &[u16],
     our_counts: &[u32],
@@ -184,8 +185,11 @@ pub fn union_into(
     let mut a = lead_end(our_epochs, i, their_epochs, j);
     let mut b = j;
     let mut k = copy_run(our_epochs, our_counts, i, a, epochs, counts, at);
-    // Two places move, by what the next record passes, so no range gives them.
-    while a < our_end && b < their_end {
+    // Two places move, by what the next record passes, so no range gives them. The two tests stand apart, since one `&&` of both is slower.
+    while a < our_end {
+        if their_end <= b {
+            return copy_run(our_epochs, our_counts, a, our_end, epochs, counts, k);
+        }
         let next = next_record(our_epochs, our_counts, a, their_epochs, their_counts, b);
         epochs[k] = next.epoch;
         counts[k] = next.count;
@@ -193,7 +197,6 @@ pub fn union_into(
         b = next.j;
         k += 1;
     }
-    k = copy_run(our_epochs, our_counts, a, our_end, epochs, counts, k);
     copy_run(their_epochs, their_counts, b, their_end, epochs, counts, k)
 }
 

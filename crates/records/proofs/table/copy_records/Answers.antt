@@ -1,6 +1,6 @@
 -- The first n records are a run of n.
 use Rattle.std.proofs.Common.{arith}
-use Rattle.records.proofs.Copies.{run_long}
+use Rattle.records.proofs.Runs.{run_long}
 use Rattle.records.proofs.table.copy_records.Goals as goal
 
 pub returns : goal.returns
