@@ -2,7 +2,7 @@
 -- Assumes nothing.
 use mathlib.Core.Path.{◌≡◌, refl, sym, ap, ◌∙◌, subst}
 use mathlib.Core.List.{List, [], ◌∷◌, ◌++◌}
-use mathlib.Core.Bool.{true, false, ◌&&◌, and-false, and-eq-true_iff}
+use mathlib.Core.Bool.{true, false, ◌&&◌, and-eq-true_iff}
 use Prim.Native.Nat.{ℕ, zero, suc, ◌+◌, ◌-◌, ◌≤◌, ◌<◌}
 use native.Mathlib.Nat.{le_of_suc-le-suc, not-suc-le-zero}
 use native.Mathlib.Numerals.{add-one}
@@ -84,13 +84,6 @@ has_room r = simp (le-leb _ _ r.ids_long, le-leb _ _ r.epochs_long, le-leb _ _ r
 module _ (n : ℕ) (t : Tables) where
   pub short_ids : length t.ids < n → room_in n t ≡ false
   short_ids h = simp (lt-leb _ _ h)
-
-  pub short_epochs : length t.epochs < n → room_in n t ≡ false
-  short_epochs h = simp (lt-leb _ _ h, and-false)
-
-  -- where two tables have room, the third decides
-  pub by_bytes : n ≤ length t.ids → n ≤ length t.epochs → room_in n t ≡ leb n (length t.bytes)
-  by_bytes h k = simp (le-leb _ _ h, le-leb _ _ k)
 
 -- less has room where more has
 pub room_less : {n : ℕ} {t : Tables} (m : ℕ) → m ≤ n → Room n t → Room m t

@@ -52,9 +52,6 @@ module _ (n : ℕ) {m : ℕ} {u : Tables} (p : Proper m u) where
       pub then_counted : count ≡ length (joined (rows_in m t₁) (rows_in 1 (one_row n)))
       then_counted = counted ∙ ap (λ (l : List Row). length (joined l (rows_in 1 (one_row n)))) (sym rows_there)
 
-      pub then_room : Room count t₁
-      then_room = room_there room
-
       -- and the tables hold the sum
       pub then_over : {t₂ : Tables} → t₂ ≡ over_rows (joined (rows_in m t₁) (rows_in 1 (one_row n))) t₁
           → t₂ ≡ over_rows (add_row (unknown n) (rows_in m u)) t

@@ -4,7 +4,7 @@ use mathlib.Core.Path.{◌≡◌, sym, ap, ◌∙◌, subst}
 use mathlib.Core.List.{List, [], ◌∷◌, ◌++◌}
 use Prim.Native.Nat.{ℕ, ◌+◌, ◌-◌, ◌≤◌, ◌<◌}
 use native.Mathlib.Omega.{arith}
-use lib.ListN.{length, get_or, length-append}
+use lib.ListN.{length, get_or}
 use Rattle.rows_spec.specs.Rows.{Row, row, compared, ascends, Tables, rows_in, row_at, over_rows, set_row, Room}
 use Rattle.rows_spec.specs.Inner.Rows.{Proper}
 use Rattle.std.specs.declared.cmp.Ordering.TheVariants.{Less, Equal, Greater}
@@ -103,20 +103,7 @@ pub record Counting (t u : Tables) (n m i j count : ℕ) : Type 0 where
   pub small : count + (i + j) ≤ n + m
   pub counted : count + length (joined (rows_in i t) (rows_in j u)) ≡ length (joined (rows_in n t) (rows_in m u))
 
-pub counting_start : (t u : Tables) (n m : ℕ) → Counting t u n m n m 0
-counting_start t u n m = record { ours_left = omega arith; theirs_left = omega arith; small = omega arith; counted = omega arith }
-
 module _ {t u : Tables} {n m i j count : ℕ} (c : Counting t u n m i j count) where
-  pub counting_step : {r : LastRow} → Last t u i j r → Counting t u n m r.i r.j (count + 1)
-  counting_step {r} s =
-      let l = ap (length {A = Row}) s.step ∙ length-append (joined (rows_in r.i t) (rows_in r.j u)) _ in
-      record {
-        ours_left = omega (arith, s.ours_before, c.ours_left);
-        theirs_left = omega (arith, s.theirs_before, c.theirs_left);
-        small = omega (arith, s.falls, c.small);
-        counted = omega (arith, c.counted);
-      }
-
   pub counting_done : Proper n t → j ≤ 0 → count + i ≡ length (joined (rows_in n t) (rows_in m u))
   counting_done p e =
       let q = proper_first i c.ours_left p in
