@@ -2,20 +2,19 @@
 ghost use Rattle.std.specs.Prelude.{◌≡◌, true};
 ghost use Rattle.records_spec.specs.Tables.{union};
 ghost use Rattle.records_spec.specs.Inner.Tables.{Table, Above};
-ghost use Rattle.records_spec.specs.Flags.{flags, owner_if, flags_of, proper, holding};
+ghost use Rattle.records_spec.specs.Flags.{flags, flags_of, proper, holding};
 ghost use Rattle.records_spec.specs.Answers.{shown, placing, flags_were, tables_were, tables_left, records_were};
-ghost use Rattle.records_spec.specs.Outcomes.{refused};
 ghost use Rattle.flags_spec.specs.Merging.{raised, raised_above, added};
 ghost use Rattle.flags_spec.specs.Calls.{handed_on, combined_added, optional_combined_added};
 
 use crate::owners::combine_owners;
 use crate::placing::{hand_on, place_around, place_union};
 use flags_spec::MergingOwnersStrategy;
-use records_spec::{Answered, Head, MaybeOwner, Refusal};
+use records_spec::{Head, OwnerId, Refusal};
 
 // The union with an amount at the incoming base: it is added to our record there, or a record is made.
 fn combine_with_higher_base_epoch(
-    owner: MaybeOwner,
+    owner: Option<OwnerId>,
     base: u16,
     our_epochs: &[u16],
     our_counts: &[u32],
@@ -25,18 +24,18 @@ fn combine_with_higher_base_epoch(
     their_counts: &[u32],
     epochs: &mut [u16],
     counts: &mut [u32],
-) -> Answered
+) -> Result<Option<Head>, Refusal>
     requires table { Table our_epochs.now our_counts.now }
     requires above { Above epoch their_epochs.now their_counts.now }
     ensures { let our_records = records_were our_epochs.now our_counts.now in
         let their_records = records_were their_epochs.now their_counts.now in
         let tables_lent = tables_were epochs.old counts.old in
-        let joined_flags = flags base (owner_if owner.owned owner.id) (union our_records their_records) in
+        let joined_flags = flags base owner (union our_records their_records) in
         shown result (tables_left epochs.new counts.new) ≡ placing (raised epoch added_bytes joined_flags) tables_lent }
 {
     let spot = records::look_up(our_epochs, our_counts, epoch);
     let Some(count) = spot.count.checked_add(added_bytes) else {
-        return records::refused(Refusal::Overflow);
+        return Err(Refusal::Overflow);
     };
     place_around(
         owner,
@@ -55,7 +54,7 @@ fn combine_with_higher_base_epoch(
 
 // The union of ours and theirs, and the amount where the incoming base is higher than ours.
 fn combine_tables(
-    owner: MaybeOwner,
+    owner: Option<OwnerId>,
     base: u16,
     our_epochs: &[u16],
     our_counts: &[u32],
@@ -65,13 +64,13 @@ fn combine_tables(
     their_counts: &[u32],
     epochs: &mut [u16],
     counts: &mut [u32],
-) -> Answered
+) -> Result<Option<Head>, Refusal>
     requires table { Table our_epochs.now our_counts.now }
     requires above { Above epoch their_epochs.now their_counts.now }
     ensures { let our_records = records_were our_epochs.now our_counts.now in
         let their_records = records_were their_epochs.now their_counts.now in
         let tables_lent = tables_were epochs.old counts.old in
-        let joined_flags = flags base (owner_if owner.owned owner.id) (union our_records their_records) in
+        let joined_flags = flags base owner (union our_records their_records) in
         shown result (tables_left epochs.new counts.new) ≡ placing (raised_above base epoch added_bytes joined_flags) tables_lent }
 {
     if base == epoch {
@@ -113,7 +112,7 @@ fn combine_added_proper(
     strategy: MergingOwnersStrategy,
     epochs: &mut [u16],
     counts: &mut [u32],
-) -> Answered
+) -> Result<Option<Head>, Refusal>
     requires our_counts_value { proper (holding ours our_epochs.now our_counts.now) ≡ true }
     requires their_counts_value { proper (holding theirs their_epochs.now their_counts.now) ≡ true }
     ensures { let our_flags = flags_were ours our_epochs.now our_counts.now in
@@ -122,14 +121,11 @@ fn combine_added_proper(
         shown result (tables_left epochs.new counts.new) ≡ placing (added strategy added_bytes (flags_of our_flags) (flags_of their_flags)) tables_lent }
 {
     if theirs.base < ours.base {
-        return records::refused(Refusal::DifferentBaseEpoch);
+        return Err(Refusal::DifferentBaseEpoch);
     }
-    let chosen = combine_owners(ours, theirs, strategy);
-    if chosen.refused {
-        return records::refused(Refusal::DifferentOwners);
-    }
+    let owner = combine_owners(ours, theirs, strategy)?;
     combine_tables(
-        chosen.owner,
+        owner,
         ours.base,
         &our_epochs[..ours.records],
         &our_counts[..ours.records],
@@ -154,7 +150,7 @@ pub fn combine_added_bytes(
     strategy: MergingOwnersStrategy,
     epochs: &mut [u16],
     counts: &mut [u32],
-) -> Answered
+) -> Result<Option<Head>, Refusal>
     ensures { let our_flags = flags_were ours our_epochs.now our_counts.now in
         let their_flags = flags_were theirs their_epochs.now their_counts.now in
         let tables_lent = tables_were epochs.old counts.old in
@@ -176,7 +172,7 @@ pub fn combine_added_bytes(
             counts,
         )
     } else {
-        records::refused(Refusal::BadTable)
+        Err(Refusal::BadTable)
     }
 }
 
@@ -187,13 +183,13 @@ pub fn combine_absent(
     their_counts: &[u32],
     epochs: &mut [u16],
     counts: &mut [u32],
-) -> Answered
+) -> Result<Option<Head>, Refusal>
     ensures { shown result (tables_left epochs.new counts.new) ≡ handed_on (flags_were theirs their_epochs.now their_counts.now) (tables_were epochs.old counts.old) }
 {
     if records::is_proper(theirs, their_epochs, their_counts) {
         hand_on(theirs, their_epochs, their_counts, epochs, counts)
     } else {
-        records::refused(Refusal::BadTable)
+        Err(Refusal::BadTable)
     }
 }
 
@@ -210,7 +206,7 @@ pub fn optional_combine_added_bytes(
     strategy: MergingOwnersStrategy,
     epochs: &mut [u16],
     counts: &mut [u32],
-) -> Answered
+) -> Result<Option<Head>, Refusal>
     ensures { let our_flags = flags_were ours our_epochs.now our_counts.now in
         let their_flags = flags_were theirs their_epochs.now their_counts.now in
         let tables_lent = tables_were epochs.old counts.old in

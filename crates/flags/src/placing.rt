@@ -3,12 +3,12 @@ ghost use Rattle.std.specs.Prelude.{◌≡◌, true, ◌∷◌, ◌+◌, ◌≤�
 ghost use Rattle.records_spec.specs.Tables.{◌⦂◌, union};
 ghost use Rattle.records_spec.specs.Inner.Tables.{Table, Above};
 ghost use Rattle.records_spec.specs.Inner.Unions.{spot_of};
-ghost use Rattle.records_spec.specs.Flags.{flags, owner_if, flags_of, proper, holding};
+ghost use Rattle.records_spec.specs.Flags.{flags, flags_of, proper, holding};
 ghost use Rattle.records_spec.specs.Answers.{shown, room_for, placing, flags_were, tables_were, tables_left, records_were};
-ghost use Rattle.records_spec.specs.Outcomes.{refused, ok};
+ghost use Rattle.records_spec.specs.Outcomes.{ok};
 
 use records::fit;
-use records_spec::{Answered, Head, MaybeOwner, Refusal, Spot};
+use records_spec::{Head, OwnerId, Refusal, Spot};
 
 // Whether `before` records and the union of what stands from i on in ours with theirs have room. They are counted only where
 // the room is not surely enough.
@@ -40,7 +40,7 @@ fn union_fits(
 
 // Flags with the union of ours and theirs.
 pub fn place_union(
-    owner: MaybeOwner,
+    owner: Option<OwnerId>,
     base: u16,
     our_epochs: &[u16],
     our_counts: &[u32],
@@ -48,13 +48,13 @@ pub fn place_union(
     their_counts: &[u32],
     epochs: &mut [u16],
     counts: &mut [u32],
-) -> Answered
+) -> Result<Option<Head>, Refusal>
     requires table { Table our_epochs.now our_counts.now }
     requires table_2 { Table their_epochs.now their_counts.now }
     ensures { let our_records = records_were our_epochs.now our_counts.now in
         let their_records = records_were their_epochs.now their_counts.now in
         let tables_lent = tables_were epochs.old counts.old in
-        let joined_flags = flags base (owner_if owner.owned owner.id) (union our_records their_records) in
+        let joined_flags = flags base owner (union our_records their_records) in
         shown result (tables_left epochs.new counts.new) ≡ placing (ok joined_flags) tables_lent }
 {
     if !union_fits(
@@ -67,7 +67,7 @@ pub fn place_union(
         epochs.len(),
         counts.len(),
     ) {
-        return records::refused(Refusal::NoRoom);
+        return Err(Refusal::NoRoom);
     }
     let n = records::union_into(
         our_epochs,
@@ -80,13 +80,13 @@ pub fn place_union(
         counts,
         0,
     );
-    records::present(records::new_head(base, owner, n))
+    Ok(Some(records::new_head(base, owner, n)))
 }
 
 // Flags with the union of ours, one record, and theirs, which are above its epoch: ours below it are copied, the record is
 // placed, and the rest is joined.
 pub fn place_around(
-    owner: MaybeOwner,
+    owner: Option<OwnerId>,
     base: u16,
     our_epochs: &[u16],
     our_counts: &[u32],
@@ -97,13 +97,13 @@ pub fn place_around(
     their_counts: &[u32],
     epochs: &mut [u16],
     counts: &mut [u32],
-) -> Answered
+) -> Result<Option<Head>, Refusal>
     requires table { Table our_epochs.now our_counts.now }
     requires spot_value { spot ≡ spot_of epoch our_epochs.now our_counts.now }
     requires above { Above epoch their_epochs.now their_counts.now }
     ensures { let our_records = records_were our_epochs.now our_counts.now in
         let their_records = epoch ⦂ count ∷ records_were their_epochs.now their_counts.now in
-        let joined_flags = flags base (owner_if owner.owned owner.id) (union our_records their_records) in
+        let joined_flags = flags base owner (union our_records their_records) in
         shown result (tables_left epochs.new counts.new) ≡ placing (ok joined_flags) (tables_were epochs.old counts.old) }
 {
     let Spot { below, upto, .. } = spot;
@@ -117,7 +117,7 @@ pub fn place_around(
         epochs.len(),
         counts.len(),
     ) {
-        return records::refused(Refusal::NoRoom);
+        return Err(Refusal::NoRoom);
     }
     records::copy_records(our_epochs, our_counts, below, epochs, counts);
     epochs[below] = epoch;
@@ -133,7 +133,7 @@ pub fn place_around(
         counts,
         below + 1,
     );
-    records::present(records::new_head(base, owner, n))
+    Ok(Some(records::new_head(base, owner, n)))
 }
 
 // Proper flags handed on as they are.
@@ -143,7 +143,7 @@ pub fn hand_on(
     from_counts: &[u32],
     epochs: &mut [u16],
     counts: &mut [u32],
-) -> Answered
+) -> Result<Option<Head>, Refusal>
     requires { proper (holding flags from_epochs.now from_counts.now) ≡ true }
     ensures { let from_flags = flags_were flags from_epochs.now from_counts.now in
         let tables_lent = tables_were epochs.old counts.old in
@@ -151,8 +151,8 @@ pub fn hand_on(
 {
     let n = flags.records;
     if !fit(n, epochs.len(), counts.len()) {
-        return records::refused(Refusal::NoRoom);
+        return Err(Refusal::NoRoom);
     }
     records::copy_records(from_epochs, from_counts, n, epochs, counts);
-    records::present(records::new_head(flags.base, records::owner_id(flags), n))
+    Ok(Some(records::new_head(flags.base, records::owner_id(flags), n)))
 }

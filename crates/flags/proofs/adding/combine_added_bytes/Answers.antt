@@ -1,7 +1,5 @@
 -- Both sides are proper and merged, or one of them is not.
 use Rattle.std.proofs.Common.{sym, ◌∙◌}
-use Rattle.records_spec.specs.Flags.{lending}
-use Rattle.records_spec.proofs.Answers.{refused_left}
 use Rattle.flags_spec.proofs.Merging.{combined_proper, combined_theirs_bad, combined_ours_bad}
 use Rattle.flags.proofs.adding.combine_added_bytes.Goals as goal
 use Rattle.flags.proofs.adding.combine_added_bytes.Goals.{else-is_proper-via-then-is_proper+else-is_proper-2, else-is_proper-via-else-is_proper}
@@ -13,8 +11,7 @@ returns-then-is_proper-2 c =
 
 pub returns-else-is_proper : goal.returns-else-is_proper
 returns-else-is_proper c =
-    let refused = refused_left _ (lending _ _) _ c.refused.ensures in
     elim c.else-is_proper.branch [
-      | else-is_proper-via-then-is_proper+else-is_proper-2 w ↦ refused ∙ sym (combined_theirs_bad _ _ _ _ _ (sym w.if-is_proper-2.ensures))
-      | else-is_proper-via-else-is_proper w ↦ refused ∙ sym (combined_ours_bad _ _ _ _ _ (sym w.if-is_proper.ensures))
+      | else-is_proper-via-then-is_proper+else-is_proper-2 w ↦ sym (combined_theirs_bad _ _ _ _ _ (sym w.if-is_proper-2.ensures))
+      | else-is_proper-via-else-is_proper w ↦ sym (combined_ours_bad _ _ _ _ _ (sym w.if-is_proper.ensures))
     ]

@@ -1,11 +1,11 @@
 -- The bases decide, then the owner; then the tables are merged, which are proper ones.
-use Rattle.std.proofs.Common.{arith}
+use Rattle.std.proofs.Common.{refl, sym, ap, ◌∙◌, arith, Err}
 use Rattle.std.proofs.lemmas.List.{length-take}
-use Rattle.records_spec.specs.Flags.{Flags, owner_of, flags_of, holding, lending}
+use Rattle.std.proofs.lemmas.Result.{err_from_is_err_and}
+use Rattle.records_spec.specs.Flags.{Flags, flags_of, holding, lending}
+use Rattle.records_spec.specs.declared.refusal.Refusal.TheVariants.{DifferentBaseEpoch}
 use Rattle.records_spec.proofs.Proper.{IsProper, proper_inv, proper_table_lem, proper_above}
 use Rattle.records_spec.proofs.Answers.{refused_placing}
-use Rattle.flags_spec.specs.Owners.{combined_owner}
-use Rattle.flags_spec.proofs.Choosing.{answered_owner, refused_owner}
 use Rattle.flags_spec.proofs.Merging.{added_lower, added_disputed, added_owned}
 use Rattle.flags.proofs.adding.combine_added_proper.Goals as goal
 use Rattle.flags.proofs.adding.combine_added_proper.Goals.{Start}
@@ -27,15 +27,15 @@ pub returns-then-theirs-ours : goal.returns-then-theirs-ours
 returns-then-theirs-ours c =
     let a = c.args in
     let s = (goal.at.returns-then-theirs-ours c).Start in
-    refused_placing _ (lending _ _) _ _ c.refused.ensures (added_lower a.strategy a.added_bytes (ours s) (theirs s) c.if-theirs-ours.true)
+    refused_placing _ (lending _ _) _ DifferentBaseEpoch refl (added_lower a.strategy a.added_bytes (ours s) (theirs s) c.if-theirs-ours.true)
 
-pub returns-then-chosen : goal.returns-then-chosen
-returns-then-chosen c =
+pub returns-in_err-owner : goal.returns-in_err-owner
+returns-in_err-owner c =
     let a = c.args in
-    let s = (goal.at.returns-then-chosen c).Start in
-    let disputed = refused_owner _ a.strategy (owner_of a.ours) (owner_of a.theirs) c.combine_owners-chosen.ensures c.if-chosen.true in
-    refused_placing _ (lending _ _) _ _ c.refused-then-chosen.ensures
-    (added_disputed a.strategy a.added_bytes (ours s) (theirs s) c.if-theirs-ours.false disputed)
+    let s = (goal.at.returns-in_err-owner c).Start in
+    let passed = err_from_is_err_and c.from_residual.result c.from_residual.ensures.1 in
+    refused_placing _ (lending _ _) _ _ (passed.1 ∙ ap Err passed.2)
+    (added_disputed a.strategy a.added_bytes (ours s) (theirs s) c.if-theirs-ours.false _ (sym c.in_err-owner.ensures))
 
 pub slice_bounds-combine_tables-end : goal.slice_bounds-combine_tables-end
 slice_bounds-combine_tables-end c =
@@ -67,6 +67,4 @@ pub returns : goal.returns
 returns c =
     let a = c.args in
     let s = (goal.at.returns c).Start in
-    let rule = combined_owner a.strategy (owner_of a.ours) (owner_of a.theirs) in
-    let owner = answered_owner _ rule c.combine_owners-chosen.ensures c.if-chosen.false in
-    rw (added_owned a.strategy a.added_bytes (ours s) (theirs s) c.if-theirs-ours.false _ owner) c.combine_tables.ensures
+    rw (added_owned a.strategy a.added_bytes (ours s) (theirs s) c.if-theirs-ours.false _ (sym c.in_ok-owner.ensures)) c.combine_tables.ensures

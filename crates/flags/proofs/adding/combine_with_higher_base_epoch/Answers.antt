@@ -1,8 +1,9 @@
 -- What our record holds decides on the limit, and the record that is placed is the one put in.
-use Rattle.std.proofs.Common.{◌≡◌, ◌+◌, ◌<◌, ◌≤◌, true, List, ap, arith}
+use Rattle.std.proofs.Common.{refl, ◌≡◌, ◌+◌, ◌<◌, ◌≤◌, true, List, ap, arith}
 use Rattle.fields_spec.specs.Varint.{largest}
 use Rattle.records_spec.specs.Tables.{At, records_of, epochs_of, ascending, held}
-use Rattle.records_spec.specs.Flags.{owner_if, lending}
+use Rattle.records_spec.specs.Flags.{lending}
+use Rattle.records_spec.specs.declared.refusal.Refusal.TheVariants.{Overflow}
 use Rattle.records_spec.specs.declared.table.Spot.{Spot}
 use Rattle.records_spec.proofs.Tables.{epochs_records}
 use Rattle.records_spec.proofs.Answers.{refused_placing}
@@ -28,8 +29,7 @@ returns-in_default c =
     let a = c.args in
     let s = (goal.at.returns-in_default c).After-look_up-spot in
     let over : largest < held a.epoch (ours s) + a.added_bytes = omega (arith, count s, c.in_default.ensures) in
-    refused_placing _ (lending _ _) _ _ c.refused.ensures
-    (raised_over a.epoch a.added_bytes a.base (owner_if a.owner.owned a.owner.id) (ours s) (theirs s) (above s) over)
+    refused_placing _ (lending _ _) _ Overflow refl (raised_over a.epoch a.added_bytes a.base a.owner (ours s) (theirs s) (above s) over)
 
 pub returns : goal.returns
 returns c =
@@ -37,5 +37,5 @@ returns c =
     let s = (goal.at.returns c).After-look_up-spot in
     let sum : c.in-Some.count ≡ held a.epoch (ours s) + a.added_bytes = omega (arith, count s, c.in-Some.ensures.1) in
     let fits : held a.epoch (ours s) + a.added_bytes ≤ largest = omega (arith, count s, c.in-Some.ensures.0) in
-    rw (raised_made a.epoch a.added_bytes a.base (owner_if a.owner.owned a.owner.id) (ours s) (theirs s) (above s) fits)
+    rw (raised_made a.epoch a.added_bytes a.base a.owner (ours s) (theirs s) (above s) fits)
     (rw sum at c.place_around.ensures)

@@ -1,9 +1,9 @@
 -- Ours below the epoch, the record and the union of the rest were placed one after another, which is the union; or it has no room.
-use Rattle.std.proofs.Common.{◌∷◌, length, sym, ap, ◌∙◌, zero-add, arith}
+use Rattle.std.proofs.Common.{refl, ◌∷◌, length, sym, ap, ◌∙◌, zero-add, arith}
 use Rattle.records_spec.specs.Tables.{◌⦂◌, records_of, union}
-use Rattle.records_spec.specs.Flags.{owner_if, head_for, lending}
+use Rattle.records_spec.specs.Flags.{head_for, lending}
 use Rattle.records_spec.proofs.Unions.{above_table}
-use Rattle.records_spec.proofs.Answers.{room_both_lem, placing_short, refused_left, placed_left}
+use Rattle.records_spec.proofs.Answers.{room_both_lem, placing_short, placed_left}
 use Rattle.flags_spec.proofs.Joining.{spot_order, around_long, around_placed}
 use Rattle.flags.proofs.placing.place_around.Goals as goal
 
@@ -24,7 +24,7 @@ pub returns-then-not-union_fits : goal.returns-then-not-union_fits
 returns-then-not-union_fits c =
     let r = c.requires in
     let long = around_long r.table r.above r.spot_value c.args.count in
-    refused_left _ (lending _ _) _ c.refused.ensures ∙ sym (placing_short _ (lending _ _) (rw long (sym c.if-not-union_fits.ensures)))
+    sym (placing_short _ (lending _ _) (rw long (sym c.if-not-union_fits.ensures)))
 
 pub copy_records-requires-clause-n_in_bounds : goal.copy_records-requires-clause-n_in_bounds
 copy_records-requires-clause-n_in_bounds c =
@@ -47,5 +47,5 @@ returns c =
     let long = around_long r.table r.above r.spot_value a.count in
     let room = room_both_lem n _ _ (rw (← long) at (sym c.if-not-union_fits.ensures)) in
     let q = around_placed r.table r.above r.spot_value a.count c.copy_records.ensures c.union_into-n.ensures in
-    let head = c.new_head.ensures ∙ ap (head_for a.base (owner_if a.owner.owned a.owner.id)) (q.behind ∙ zero-add n) in
-    placed_left _ (lending _ _) _ _ _ _ _ c.present.ensures head q room.0 room.1
+    let head = c.new_head.ensures ∙ ap (head_for a.base a.owner) (q.behind ∙ zero-add n) in
+    placed_left _ (lending _ _) _ _ _ _ _ refl head q room.0 room.1
