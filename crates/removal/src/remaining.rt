@@ -2,13 +2,13 @@
 ghost use Rattle.std.specs.Prelude.{◌≡◌, ◌≤◌, length};
 ghost use Rattle.records_spec.specs.Tables.{records_of, union};
 ghost use Rattle.records_spec.specs.Inner.Tables.{Table, Placed};
-ghost use Rattle.records_spec.specs.Flags.{flags, owner_if};
+ghost use Rattle.records_spec.specs.Flags.{flags};
 ghost use Rattle.records_spec.specs.Answers.{shown, room_for, placing, tables_were, tables_left, records_were};
-ghost use Rattle.records_spec.specs.Outcomes.{refused, ok};
+ghost use Rattle.records_spec.specs.Outcomes.{ok};
 ghost use Rattle.removal_spec.specs.Removing.{minus};
 
 use crate::sections::remove_from;
-use records_spec::{Answered, Head, MaybeOwner, Refusal};
+use records_spec::{Head, OwnerId, Refusal};
 
 // How many records remain.
 fn remaining_len(
@@ -125,7 +125,7 @@ fn remaining_into(
 
 // Flags with what remains.
 pub fn place_remaining(
-    owner: MaybeOwner,
+    owner: Option<OwnerId>,
     base: u16,
     our_epochs: &[u16],
     our_counts: &[u32],
@@ -135,7 +135,7 @@ pub fn place_remaining(
     removed_bytes: &[u32],
     epochs: &mut [u16],
     counts: &mut [u32],
-) -> Answered
+) -> Result<Option<Head>, Refusal>
     requires table { Table our_epochs.now our_counts.now }
     requires table_2 { Table their_epochs.now their_counts.now }
     requires table_3 { Table removed_epochs.now removed_bytes.now }
@@ -144,7 +144,7 @@ pub fn place_remaining(
         let sections_removed = records_were removed_epochs.now removed_bytes.now in
         let tables_lent = tables_were epochs.old counts.old in
         shown result (tables_left epochs.new counts.new)
-        ≡ placing (ok (flags base (owner_if owner.owned owner.id) (minus (union our_records their_records) sections_removed))) tables_lent }
+        ≡ placing (ok (flags base owner (minus (union our_records their_records) sections_removed))) tables_lent }
 {
     if remaining_fits(
         our_epochs,
@@ -166,8 +166,8 @@ pub fn place_remaining(
             epochs,
             counts,
         );
-        records::present(records::new_head(base, owner, n))
+        Ok(Some(records::new_head(base, owner, n)))
     } else {
-        records::refused(Refusal::NoRoom)
+        Err(Refusal::NoRoom)
     }
 }

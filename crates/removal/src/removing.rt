@@ -2,25 +2,24 @@
 ghost use Rattle.std.specs.Prelude.{◌≡◌, true};
 ghost use Rattle.records_spec.specs.Tables.{union};
 ghost use Rattle.records_spec.specs.Inner.Tables.{Table};
-ghost use Rattle.records_spec.specs.Flags.{flags, owner_if, flags_of, proper, holding};
+ghost use Rattle.records_spec.specs.Flags.{flags, flags_of, proper, holding};
 ghost use Rattle.records_spec.specs.Answers.{shown, placing, flags_were, tables_were, tables_left, records_were};
 ghost use Rattle.rows_spec.specs.Rows.{tables, rows_in, rows_were};
 ghost use Rattle.rows_spec.specs.Inner.Rows.{Proper};
 ghost use Rattle.rows_spec.specs.Removals.{sectioned, removal_in, holding_rows, proper_in};
-ghost use Rattle.records_spec.specs.Outcomes.{refused};
 ghost use Rattle.removal_spec.specs.Removing.{less_sections, taken, removed_above, removed_beside, removed as merged};
 ghost use Rattle.removal_spec.specs.Calls.{combined_removed, optional_combined_removed};
 
 use crate::remaining::place_remaining;
 use crate::sections::{judge_sections, only_under};
 use flags_spec::MergingOwnersStrategy;
-use records_spec::{Answered, Head, MaybeOwner, OwnerId, Refusal};
+use records_spec::{Head, OwnerId, Refusal};
 use rows_spec::{Removed, StorageRemovedBytes};
 use std::cmp::Ordering;
 
 // The union less the sections, unless one is at fault.
 fn remove_sections(
-    owner: MaybeOwner,
+    owner: Option<OwnerId>,
     base: u16,
     our_epochs: &[u16],
     our_counts: &[u32],
@@ -30,7 +29,7 @@ fn remove_sections(
     removed_bytes: &[u32],
     epochs: &mut [u16],
     counts: &mut [u32],
-) -> Answered
+) -> Result<Option<Head>, Refusal>
     requires table { Table our_epochs.now our_counts.now }
     requires table_2 { Table their_epochs.now their_counts.now }
     requires table_3 { Table removed_epochs.now removed_bytes.now }
@@ -38,10 +37,10 @@ fn remove_sections(
         let our_records = records_were our_epochs.now our_counts.now in
         let their_records = records_were their_epochs.now their_counts.now in
         let tables_lent = tables_were epochs.old counts.old in
-        let joined_flags = flags base (owner_if owner.owned owner.id) (union our_records their_records) in
+        let joined_flags = flags base owner (union our_records their_records) in
         shown result (tables_left epochs.new counts.new) ≡ placing (less_sections sections_removed joined_flags) tables_lent }
 {
-    match judge_sections(
+    judge_sections(
         base,
         our_epochs,
         our_counts,
@@ -49,26 +48,24 @@ fn remove_sections(
         their_counts,
         removed_epochs,
         removed_bytes,
-    ) {
-        Ok(()) => place_remaining(
-            owner,
-            base,
-            our_epochs,
-            our_counts,
-            their_epochs,
-            their_counts,
-            removed_epochs,
-            removed_bytes,
-            epochs,
-            counts,
-        ),
-        Err(refusal) => records::refused(refusal),
-    }
+    )?;
+    place_remaining(
+        owner,
+        base,
+        our_epochs,
+        our_counts,
+        their_epochs,
+        their_counts,
+        removed_epochs,
+        removed_bytes,
+        epochs,
+        counts,
+    )
 }
 
 // The union less the first n rows, unless they are not one identifier's alone.
 fn remove_rows(
-    owner: MaybeOwner,
+    owner: Option<OwnerId>,
     base: u16,
     our_epochs: &[u16],
     our_counts: &[u32],
@@ -81,7 +78,7 @@ fn remove_rows(
     removed_bytes: &[u32],
     epochs: &mut [u16],
     counts: &mut [u32],
-) -> Answered
+) -> Result<Option<Head>, Refusal>
     requires table { Table our_epochs.now our_counts.now }
     requires table_2 { Table their_epochs.now their_counts.now }
     requires proper { Proper n (tables ids.now removed_epochs.now removed_bytes.now) }
@@ -89,7 +86,7 @@ fn remove_rows(
         let our_records = records_were our_epochs.now our_counts.now in
         let their_records = records_were their_epochs.now their_counts.now in
         let tables_lent = tables_were epochs.old counts.old in
-        let joined_flags = flags base (owner_if owner.owned owner.id) (union our_records their_records) in
+        let joined_flags = flags base owner (union our_records their_records) in
         shown result (tables_left epochs.new counts.new) ≡ placing (taken id (sectioned (rows_in n removed_rows)) joined_flags) tables_lent }
 {
     if only_under(id, n, ids, removed_epochs, removed_bytes) {
@@ -106,13 +103,13 @@ fn remove_rows(
             counts,
         )
     } else {
-        records::refused(Refusal::DifferentOwners)
+        Err(Refusal::DifferentOwners)
     }
 }
 
 // The union less a removal, of which only rows are read.
 fn remove_bytes(
-    owner: MaybeOwner,
+    owner: Option<OwnerId>,
     base: u16,
     our_epochs: &[u16],
     our_counts: &[u32],
@@ -125,7 +122,7 @@ fn remove_bytes(
     removed_bytes: &[u32],
     epochs: &mut [u16],
     counts: &mut [u32],
-) -> Answered
+) -> Result<Option<Head>, Refusal>
     requires table { Table our_epochs.now our_counts.now }
     requires table_2 { Table their_epochs.now their_counts.now }
     requires removed_bytes_value { proper_in removed (tables ids.now removed_epochs.now removed_bytes.now) ≡ true }
@@ -133,7 +130,7 @@ fn remove_bytes(
         let our_records = records_were our_epochs.now our_counts.now in
         let their_records = records_were their_epochs.now their_counts.now in
         let tables_lent = tables_were epochs.old counts.old in
-        let joined_flags = flags base (owner_if owner.owned owner.id) (union our_records their_records) in
+        let joined_flags = flags base owner (union our_records their_records) in
         shown result (tables_left epochs.new counts.new) ≡ placing (taken id (removal_in removed removed_rows) joined_flags) tables_lent }
 {
     match removed {
@@ -176,7 +173,7 @@ fn combine_same_base_epoch(
     strategy: MergingOwnersStrategy,
     epochs: &mut [u16],
     counts: &mut [u32],
-) -> Answered
+) -> Result<Option<Head>, Refusal>
     requires our_counts_value { proper (holding ours our_epochs.now our_counts.now) ≡ true }
     requires their_counts_value { proper (holding theirs their_epochs.now their_counts.now) ≡ true }
     ensures { let our_flags = flags_were ours our_epochs.now our_counts.now in
@@ -184,12 +181,9 @@ fn combine_same_base_epoch(
         let tables_lent = tables_were epochs.old counts.old in
         shown result (tables_left epochs.new counts.new) ≡ placing (removed_beside strategy (flags_of our_flags) (flags_of their_flags)) tables_lent }
 {
-    let chosen = flags::combine_owners(ours, theirs, strategy);
-    if chosen.refused {
-        return records::refused(Refusal::DifferentOwners);
-    }
+    let owner = flags::combine_owners(ours, theirs, strategy)?;
     flags::place_union(
-        chosen.owner,
+        owner,
         ours.base,
         &our_epochs[..ours.records],
         &our_counts[..ours.records],
@@ -216,7 +210,7 @@ fn combine_with_higher_base_epoch_remove_bytes(
     strategy: MergingOwnersStrategy,
     epochs: &mut [u16],
     counts: &mut [u32],
-) -> Answered
+) -> Result<Option<Head>, Refusal>
     requires our_counts_value { proper (holding ours our_epochs.now our_counts.now) ≡ true }
     requires their_counts_value { proper (holding theirs their_epochs.now their_counts.now) ≡ true }
     requires removed_bytes_value { proper_in removed (tables ids.now removed_epochs.now removed_bytes.now) ≡ true }
@@ -231,18 +225,15 @@ fn combine_with_higher_base_epoch_remove_bytes(
     if ours.records == 0 {
         return flags::hand_on(ours, our_epochs, our_counts, epochs, counts);
     }
-    let chosen = flags::combine_owners(ours, theirs, strategy);
-    if chosen.refused {
-        return records::refused(Refusal::DifferentOwners);
-    }
+    let owner = flags::combine_owners(ours, theirs, strategy)?;
     remove_bytes(
-        chosen.owner,
+        owner,
         ours.base,
         &our_epochs[..ours.records],
         &our_counts[..ours.records],
         &their_epochs[..theirs.records],
         &their_counts[..theirs.records],
-        records::owner_id(ours).id,
+        records::id_of(ours),
         removed,
         ids,
         removed_epochs,
@@ -267,7 +258,7 @@ fn combine_removed_proper(
     strategy: MergingOwnersStrategy,
     epochs: &mut [u16],
     counts: &mut [u32],
-) -> Answered
+) -> Result<Option<Head>, Refusal>
     requires our_counts_value { proper (holding ours our_epochs.now our_counts.now) ≡ true }
     requires their_counts_value { proper (holding theirs their_epochs.now their_counts.now) ≡ true }
     requires removed_bytes_value { proper_in removed (tables ids.now removed_epochs.now removed_bytes.now) ≡ true }
@@ -279,7 +270,7 @@ fn combine_removed_proper(
         ≡ placing (merged strategy (removal_in removed removed_rows) (flags_of our_flags) (flags_of their_flags)) tables_lent }
 {
     match theirs.base.cmp(&ours.base) {
-        Ordering::Less => records::refused(Refusal::DifferentBaseEpoch),
+        Ordering::Less => Err(Refusal::DifferentBaseEpoch),
         Ordering::Equal => combine_same_base_epoch(
             ours,
             our_epochs,
@@ -324,7 +315,7 @@ pub fn combine_removed_bytes(
     strategy: MergingOwnersStrategy,
     epochs: &mut [u16],
     counts: &mut [u32],
-) -> Answered
+) -> Result<Option<Head>, Refusal>
     ensures { let our_flags = flags_were ours our_epochs.now our_counts.now in
         let their_flags = flags_were theirs their_epochs.now their_counts.now in
         let removed_rows = rows_were ids.now removed_epochs.now removed_bytes.now in
@@ -352,7 +343,7 @@ pub fn combine_removed_bytes(
             counts,
         )
     } else {
-        records::refused(Refusal::BadTable)
+        Err(Refusal::BadTable)
     }
 }
 
@@ -373,7 +364,7 @@ pub fn optional_combine_removed_bytes(
     strategy: MergingOwnersStrategy,
     epochs: &mut [u16],
     counts: &mut [u32],
-) -> Answered
+) -> Result<Option<Head>, Refusal>
     ensures { let our_flags = flags_were ours our_epochs.now our_counts.now in
         let their_flags = flags_were theirs their_epochs.now their_counts.now in
         let removed_rows = rows_were ids.now removed_epochs.now removed_bytes.now in
@@ -400,6 +391,6 @@ pub fn optional_combine_removed_bytes(
     } else if rows::removal_is_proper(removal.removed, ids, removed_epochs, removed_bytes) {
         flags::combine_absent(theirs, their_epochs, their_counts, epochs, counts)
     } else {
-        records::refused(Refusal::BadTable)
+        Err(Refusal::BadTable)
     }
 }

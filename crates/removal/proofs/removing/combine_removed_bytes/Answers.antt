@@ -1,7 +1,5 @@
 -- Both sides and the removal are proper, or one is not.
 use Rattle.std.proofs.Common.{sym, ◌∙◌}
-use Rattle.records_spec.specs.Flags.{lending}
-use Rattle.records_spec.proofs.Answers.{refused_left}
 use Rattle.removal_spec.proofs.Merging.{combined_proper, combined_removal_bad, combined_theirs_bad, combined_ours_bad}
 use Rattle.removal.proofs.removing.combine_removed_bytes.Goals as goal
 use Rattle.removal.proofs.removing.combine_removed_bytes.Goals.{else-is_proper-via-then-is_proper+then-is_proper-2+else-removal_is_proper}
@@ -16,11 +14,10 @@ returns-then-removal_is_proper c =
 
 pub returns-else-is_proper : goal.returns-else-is_proper
 returns-else-is_proper c =
-    let left = refused_left _ (lending _ _) _ c.refused.ensures in
     elim c.else-is_proper.branch [
       | else-is_proper-via-then-is_proper+then-is_proper-2+else-removal_is_proper w ↦
-          left ∙ sym (combined_removal_bad _ _ _ _ _ (sym w.removal_is_proper.ensures ∙ w.if-removal_is_proper.false))
+          sym (combined_removal_bad _ _ _ _ _ (sym w.removal_is_proper.ensures ∙ w.if-removal_is_proper.false))
       | else-is_proper-via-then-is_proper+else-is_proper-2 w ↦
-          left ∙ sym (combined_theirs_bad _ _ _ _ _ (sym w.is_proper-then-is_proper.ensures ∙ w.if-is_proper-2.false))
-      | else-is_proper-via-else-is_proper w ↦ left ∙ sym (combined_ours_bad _ _ _ _ _ (sym c.is_proper.ensures ∙ w.if-is_proper.false))
+          sym (combined_theirs_bad _ _ _ _ _ (sym w.is_proper-then-is_proper.ensures ∙ w.if-is_proper-2.false))
+      | else-is_proper-via-else-is_proper w ↦ sym (combined_ours_bad _ _ _ _ _ (sym c.is_proper.ensures ∙ w.if-is_proper.false))
     ]

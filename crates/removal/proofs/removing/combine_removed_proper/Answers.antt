@@ -11,7 +11,7 @@ use Rattle.removal.proofs.removing.combine_removed_proper.Goals as goal
 pub returns-in-Less : goal.returns-in-Less
 returns-in-Less c =
     let lower : c.args.theirs.base < c.args.ours.base = ranked c.args.theirs.base c.args.ours.base _ c.in-Less.ensures in
-    rw removed_lower (refused_placing c.refused.result (lending _ _) (refused _) DifferentBaseEpoch c.refused.ensures refl)
+    rw removed_lower (refused_placing _ (lending _ _) (refused _) DifferentBaseEpoch refl refl)
 
 pub returns-in-Equal : goal.returns-in-Equal
 returns-in-Equal c =

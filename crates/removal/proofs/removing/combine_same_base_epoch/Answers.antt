@@ -1,13 +1,11 @@
 -- The owner rule refuses, or the union is placed; ours and theirs are proper, so their records stand in the tables.
-use Rattle.std.proofs.Common.{refl, sym}
+use Rattle.std.proofs.Common.{refl, sym, ap, ◌∙◌, Err}
 use Rattle.std.proofs.Math.Seq.{length-take-le}
-use Rattle.records_spec.specs.Flags.{owner_of, lending}
+use Rattle.std.proofs.lemmas.Result.{err_from_is_err_and}
+use Rattle.records_spec.specs.Flags.{lending}
 use Rattle.records_spec.specs.Outcomes.{refused}
-use Rattle.records_spec.specs.declared.refusal.Refusal.TheVariants.{DifferentOwners}
 use Rattle.records_spec.proofs.Proper.{proper_inv, proper_table_lem}
 use Rattle.records_spec.proofs.Answers.{refused_placing}
-use Rattle.flags_spec.specs.Owners.{combined_owner}
-use Rattle.flags_spec.proofs.Choosing.{answered_owner, refused_owner}
 use Rattle.removal.proofs.removing.combine_same_base_epoch.Goals as goal
 
 pub slice_bounds-place_union-end : goal.slice_bounds-place_union-end
@@ -28,14 +26,10 @@ place_union-requires-clause-table c = proper_table_lem (proper_inv _ _ _ c.requi
 pub place_union-requires-clause-table_2 : goal.place_union-requires-clause-table_2
 place_union-requires-clause-table_2 c = proper_table_lem (proper_inv _ _ _ c.requires.their_counts_value)
 
-pub returns-then-chosen : goal.returns-then-chosen
-returns-then-chosen c =
-    let a = c.args in
-    let disputed = refused_owner _ a.strategy (owner_of a.ours) (owner_of a.theirs) c.combine_owners-chosen.ensures c.if-chosen.true in
-    rw disputed (refused_placing c.refused.result (lending _ _) (refused _) DifferentOwners c.refused.ensures refl)
+pub returns-in_err-owner : goal.returns-in_err-owner
+returns-in_err-owner c =
+    let passed = err_from_is_err_and c.from_residual.result c.from_residual.ensures.1 in
+    rw (← c.in_err-owner.ensures) (refused_placing _ (lending _ _) (refused _) _ (passed.1 ∙ ap Err passed.2) refl)
 
 pub returns : goal.returns
-returns c =
-    let a = c.args in
-    let merged = combined_owner a.strategy (owner_of a.ours) (owner_of a.theirs) in
-    rw (answered_owner _ merged c.combine_owners-chosen.ensures c.if-chosen.false) c.place_union.ensures
+returns c = rw (← c.in_ok-owner.ensures) c.place_union.ensures

@@ -1,7 +1,6 @@
 -- Ours is absent, and the removal is proper or not.
 use Rattle.std.proofs.Common.{sym, ◌∙◌}
-use Rattle.records_spec.specs.Flags.{lending, holding}
-use Rattle.records_spec.proofs.Answers.{refused_left}
+use Rattle.records_spec.specs.Flags.{holding}
 use Rattle.removal_spec.proofs.Merging.{optional_absent, optional_bad}
 use Rattle.removal.proofs.removing.optional_combine_removed_bytes.Goals as goal
 
@@ -18,5 +17,4 @@ returns-else-removal_is_proper c =
     let a = c.args in
     let ours = holding a.ours a.our_epochs.now a.our_counts.now in
     let theirs = holding a.theirs a.their_epochs.now a.their_counts.now in
-    refused_left _ (lending _ _) _ c.refused.ensures
-    ∙ sym (optional_bad ours theirs _ a.strategy _ _ c.if-present.false (sym c.removal_is_proper.ensures ∙ c.if-removal_is_proper.false))
+    sym (optional_bad ours theirs _ a.strategy _ _ c.if-present.false (sym c.removal_is_proper.ensures ∙ c.if-removal_is_proper.false))

@@ -19,4 +19,4 @@ returns-then-only_under c =
 pub returns-else-only_under : goal.returns-else-only_under
 returns-else-only_under c =
     rw (sym c.only_under.ensures ∙ c.if-only_under.false)
-    (refused_placing c.refused.result (lending _ _) (refused _) DifferentOwners c.refused.ensures refl)
+    (refused_placing _ (lending _ _) (refused _) DifferentOwners refl refl)
