@@ -12,17 +12,7 @@ use records_spec::{Counted, Refusal};
 use totals_rows::look_up_row;
 
 // The largest total.
-pub const LARGEST_TOTAL: u64 = 18446744073709551615;
-
-// 1 where both are so, else 0.
-fn one_if(a: bool, b: bool) -> usize
-    ensures { (result ≡ cond (a && b) 1 0) × (result ≤ 1) }
-{
-    if a & b {
-        return 1;
-    }
-    0
-}
+pub const LARGEST_TOTAL: u64 = u64::MAX;
 
 // Whether the first n rows hold the old counts, and how many of the rows go.
 pub fn judge_old(
@@ -38,16 +28,16 @@ pub fn judge_old(
     requires table { Table old_epochs.now old_counts.now }
     ensures { counted result ≡ judged_old (under owner old_epochs.now old_counts.now) (rows_in n (rows_were owners.now epochs.now totals.now)) }
 {
-    let mut gone: usize = 0;
-    let mut i: usize = 0;
-    while i < old_epochs.len() {
-        let count = old_counts[i] as u64;
-        let total = look_up_row(owners, epochs, totals, 0, n, owner, old_epochs[i]).total;
+    let mut gone = 0;
+    for (epoch, count) in old_epochs.iter().zip(old_counts) {
+        let count = u64::from(*count);
+        let total = look_up_row(owners, epochs, totals, 0, n, owner, *epoch).total;
         if total < count {
             return Counted::Refused(Refusal::IndexMismatch);
         }
-        gone += one_if(0 < count, total == count);
-        i += 1;
+        if 0 < count && total == count {
+            gone += 1;
+        }
     }
     Counted::Count(gone)
 }
@@ -63,10 +53,11 @@ pub fn count_at(
     requires { Table epochs.now counts.now }
     ensures { result ≡ total_at (row owner epoch 0) (under records_owner epochs.now counts.now) }
 {
-    if records::same_owner(records_owner, owner) {
-        return records::look_up(epochs, counts, epoch).count as u64;
+    if records_owner == owner {
+        u64::from(records::look_up(epochs, counts, epoch).count)
+    } else {
+        0
     }
-    0
 }
 
 // Whether the new counts fit where the old ones are taken first, and how many rows are made.
@@ -92,18 +83,17 @@ pub fn judge_new(
         let new_rows = under new_owner new_epochs.now new_counts.now in
         counted result ≡ judged_new old_rows new_rows (rows_in n rows_lent) }
 {
-    let mut made: usize = 0;
-    let mut i: usize = 0;
-    while i < new_epochs.len() {
-        let epoch = new_epochs[i];
-        let count = new_counts[i] as u64;
-        let total = look_up_row(owners, epochs, totals, 0, n, new_owner, epoch).total;
-        let left = total - count_at(old_owner, old_epochs, old_counts, new_owner, epoch);
-        if LARGEST_TOTAL - left < count {
+    let mut made = 0;
+    for (epoch, count) in new_epochs.iter().zip(new_counts) {
+        let count = u64::from(*count);
+        let total = look_up_row(owners, epochs, totals, 0, n, new_owner, *epoch).total;
+        let left = total - count_at(old_owner, old_epochs, old_counts, new_owner, *epoch);
+        if left.checked_add(count).is_none() {
             return Counted::Refused(Refusal::Overflow);
         }
-        made += one_if(0 < count, left == 0);
-        i += 1;
+        if 0 < count && left == 0 {
+            made += 1;
+        }
     }
     Counted::Count(made)
 }

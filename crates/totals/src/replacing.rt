@@ -71,14 +71,14 @@ fn write(
         let new_rows = under new_owner new_epochs.now new_counts.now in
         after (counted result) (rows_left owners.new epochs.new totals.new) ≡ placing_rows (changed old_rows new_rows (rows_in n rows_lent)) rows_lent }
 {
-    if totals_rows::totals_fit(count, owners, epochs, totals) {
-        let left = take_old_counts(owners, epochs, totals, n, old_owner, old_epochs, old_counts);
-        add_new_counts(
-            owners, epochs, totals, left, new_owner, new_epochs, new_counts, count,
-        );
-        return Counted::Count(count);
+    if !totals_rows::totals_fit(count, owners, epochs, totals) {
+        return Counted::Refused(Refusal::NoRoom);
     }
-    Counted::Refused(Refusal::NoRoom)
+    let left = take_old_counts(owners, epochs, totals, n, old_owner, old_epochs, old_counts);
+    add_new_counts(
+        owners, epochs, totals, left, new_owner, new_epochs, new_counts, count,
+    );
+    Counted::Count(count)
 }
 
 // Changes the first n rows: judged and counted first, then refused or written.
@@ -118,10 +118,7 @@ fn change(
 pub fn is_good(present: bool, head: Head, epochs: &[u16], counts: &[u32]) -> bool
     ensures { result ≡ proper_given present (flags_were head epochs.now counts.now) }
 {
-    if present {
-        return records::is_proper(head, epochs, counts);
-    }
-    true
+    !present || records::is_proper(head, epochs, counts)
 }
 
 // What flags name: nothing where they are absent; 32 zero bytes stand for no owner.
@@ -129,16 +126,16 @@ pub fn names_of(present: bool, head: Head) -> Named
     ensures { result ≡ named_by present head }
 {
     if present {
-        let owner = records::owner_id(head);
-        let id = owner.id;
-        return Named {
-            owner: id,
+        let owner = records::owner_id(head).id;
+        Named {
+            owner,
             records: head.records,
-        };
-    }
-    Named {
-        owner: [0u8; OWNER_LENGTH],
-        records: 0,
+        }
+    } else {
+        Named {
+            owner: [0u8; OWNER_LENGTH],
+            records: 0,
+        }
     }
 }
 
@@ -165,27 +162,25 @@ pub fn replace(
         let new_given = given new_present new_flags in
         after (counted result) (rows_left owners.new epochs.new totals.new) ≡ replacing rows rows_lent both_proper old_given new_given }
 {
-    if totals_rows::table_is_proper(rows, owners, epochs, totals) {
-        if is_good(old_present, old_flags, old_epochs, old_counts) {
-            if is_good(new_present, new_flags, new_epochs, new_counts) {
-                let taken = names_of(old_present, old_flags);
-                let added = names_of(new_present, new_flags);
-                let old_owner = taken.owner;
-                let new_owner = added.owner;
-                return change(
-                    owners,
-                    epochs,
-                    totals,
-                    rows,
-                    old_owner,
-                    &old_epochs[..taken.records],
-                    &old_counts[..taken.records],
-                    new_owner,
-                    &new_epochs[..added.records],
-                    &new_counts[..added.records],
-                );
-            }
-        }
+    if totals_rows::table_is_proper(rows, owners, epochs, totals)
+        && is_good(old_present, old_flags, old_epochs, old_counts)
+        && is_good(new_present, new_flags, new_epochs, new_counts)
+    {
+        let taken = names_of(old_present, old_flags);
+        let added = names_of(new_present, new_flags);
+        change(
+            owners,
+            epochs,
+            totals,
+            rows,
+            taken.owner,
+            &old_epochs[..taken.records],
+            &old_counts[..taken.records],
+            added.owner,
+            &new_epochs[..added.records],
+            &new_counts[..added.records],
+        )
+    } else {
+        Counted::Refused(Refusal::BadTable)
     }
-    Counted::Refused(Refusal::BadTable)
 }

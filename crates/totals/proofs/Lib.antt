@@ -1,0 +1,2 @@
+-- What the loops that judge counts share.
+pub mod Told
