@@ -3,12 +3,12 @@
 ghost use Rattle.std.specs.Prelude.{◌≡◌, true, cond, ◌&&◌, ◌≤◌};
 ghost use Rattle.records_spec.specs.Inner.Tables.{Table};
 ghost use Rattle.rows_spec.specs.Rows.{row, tables, rows_in, rows_were};
-ghost use Rattle.records_spec.specs.Answers.{counted};
+ghost use Rattle.records_spec.specs.Outcomes.{answered};
 ghost use Rattle.totals_spec.specs.Table.{total_at};
 ghost use Rattle.totals_spec.specs.Replacing.{covered};
 ghost use Rattle.totals_spec.specs.Inner.Steps.{under, judged_old, judged_new, Standing};
 
-use records_spec::{Counted, Refusal};
+use records_spec::Refusal;
 use totals_rows::look_up_row;
 
 // The largest total.
@@ -23,23 +23,23 @@ pub fn judge_old(
     owner: [u8; 32],
     old_epochs: &[u16],
     old_counts: &[u32],
-) -> Counted
+) -> Result<usize, Refusal>
     requires standing { Standing 0 n (tables owners.now epochs.now totals.now) }
     requires table { Table old_epochs.now old_counts.now }
-    ensures { counted result ≡ judged_old (under owner old_epochs.now old_counts.now) (rows_in n (rows_were owners.now epochs.now totals.now)) }
+    ensures { answered result ≡ judged_old (under owner old_epochs.now old_counts.now) (rows_in n (rows_were owners.now epochs.now totals.now)) }
 {
     let mut gone = 0;
     for (epoch, count) in old_epochs.iter().zip(old_counts) {
         let count = u64::from(*count);
         let total = look_up_row(owners, epochs, totals, 0, n, owner, *epoch).total;
         if total < count {
-            return Counted::Refused(Refusal::IndexMismatch);
+            return Err(Refusal::IndexMismatch);
         }
         if 0 < count && total == count {
             gone += 1;
         }
     }
-    Counted::Count(gone)
+    Ok(gone)
 }
 
 // The count that an owner's records have at an owner and epoch; 0 where the owners differ.
@@ -72,7 +72,7 @@ pub fn judge_new(
     new_owner: [u8; 32],
     new_epochs: &[u16],
     new_counts: &[u32],
-) -> Counted
+) -> Result<usize, Refusal>
     requires standing { Standing 0 n (tables owners.now epochs.now totals.now) }
     requires table { Table old_epochs.now old_counts.now }
     requires table_2 { Table new_epochs.now new_counts.now }
@@ -81,7 +81,7 @@ pub fn judge_new(
     ensures { let rows_lent = rows_were owners.now epochs.now totals.now in
         let old_rows = under old_owner old_epochs.now old_counts.now in
         let new_rows = under new_owner new_epochs.now new_counts.now in
-        counted result ≡ judged_new old_rows new_rows (rows_in n rows_lent) }
+        answered result ≡ judged_new old_rows new_rows (rows_in n rows_lent) }
 {
     let mut made = 0;
     for (epoch, count) in new_epochs.iter().zip(new_counts) {
@@ -89,11 +89,11 @@ pub fn judge_new(
         let total = look_up_row(owners, epochs, totals, 0, n, new_owner, *epoch).total;
         let left = total - count_at(old_owner, old_epochs, old_counts, new_owner, *epoch);
         if left.checked_add(count).is_none() {
-            return Counted::Refused(Refusal::Overflow);
+            return Err(Refusal::Overflow);
         }
         if 0 < count && left == 0 {
             made += 1;
         }
     }
-    Counted::Count(made)
+    Ok(made)
 }

@@ -2,14 +2,14 @@
 ghost use Rattle.std.specs.Prelude.{◌≡◌, true, ◌&&◌};
 ghost use Rattle.records_spec.specs.Inner.Tables.{Table};
 ghost use Rattle.rows_spec.specs.Rows.{tables, rows_in, rows_were, rows_left};
-ghost use Rattle.records_spec.specs.Outcomes.{ok, after};
-ghost use Rattle.records_spec.specs.Answers.{flags_were, counted};
+ghost use Rattle.records_spec.specs.Outcomes.{ok, after, answered};
+ghost use Rattle.records_spec.specs.Answers.{flags_were};
 ghost use Rattle.totals_spec.specs.Replacing.{changed};
 ghost use Rattle.totals_spec.specs.Inner.Steps.{under, counted_rows, named_by, Standing, placing_rows};
 ghost use Rattle.totals_spec.specs.Calls.{given, proper_given, replacing};
 
 use crate::judging::{judge_new, judge_old};
-use records_spec::{Counted, Head, OWNER_LENGTH, Refusal};
+use records_spec::{Head, OWNER_LENGTH, Refusal};
 use totals_rows::{add_new_counts, take_old_counts};
 use totals_spec::Named;
 
@@ -25,25 +25,21 @@ fn judge_change(
     new_owner: [u8; 32],
     new_epochs: &[u16],
     new_counts: &[u32],
-) -> Counted
+) -> Result<usize, Refusal>
     requires standing { Standing 0 n (tables owners.now epochs.now totals.now) }
     requires table { Table old_epochs.now old_counts.now }
     requires table_2 { Table new_epochs.now new_counts.now }
     ensures { let rows_lent = rows_were owners.now epochs.now totals.now in
         let old_rows = under old_owner old_epochs.now old_counts.now in
         let new_rows = under new_owner new_epochs.now new_counts.now in
-        counted result ≡ counted_rows (changed old_rows new_rows (rows_in n rows_lent)) }
+        answered result ≡ counted_rows (changed old_rows new_rows (rows_in n rows_lent)) }
 {
-    match judge_old(owners, epochs, totals, n, old_owner, old_epochs, old_counts) {
-        Counted::Refused(refusal) => Counted::Refused(refusal),
-        Counted::Count(gone) => match judge_new(
-            owners, epochs, totals, n, old_owner, old_epochs, old_counts, new_owner, new_epochs,
-            new_counts,
-        ) {
-            Counted::Refused(refusal) => Counted::Refused(refusal),
-            Counted::Count(made) => Counted::Count(n - gone + made),
-        },
-    }
+    let gone = judge_old(owners, epochs, totals, n, old_owner, old_epochs, old_counts)?;
+    let made = judge_new(
+        owners, epochs, totals, n, old_owner, old_epochs, old_counts, new_owner, new_epochs,
+        new_counts,
+    )?;
+    Ok(n - gone + made)
 }
 
 // Writes a change that was judged, where its `count` rows have room.
@@ -59,7 +55,7 @@ fn write(
     new_epochs: &[u16],
     new_counts: &[u32],
     count: usize,
-) -> Counted
+) -> Result<usize, Refusal>
     requires standing { Standing 0 n (tables owners.old epochs.old totals.old) }
     requires table { Table old_epochs.now old_counts.now }
     requires table_2 { Table new_epochs.now new_counts.now }
@@ -69,16 +65,16 @@ fn write(
     ensures { let rows_lent = rows_were owners.old epochs.old totals.old in
         let old_rows = under old_owner old_epochs.now old_counts.now in
         let new_rows = under new_owner new_epochs.now new_counts.now in
-        after (counted result) (rows_left owners.new epochs.new totals.new) ≡ placing_rows (changed old_rows new_rows (rows_in n rows_lent)) rows_lent }
+        after (answered result) (rows_left owners.new epochs.new totals.new) ≡ placing_rows (changed old_rows new_rows (rows_in n rows_lent)) rows_lent }
 {
     if !totals_rows::totals_fit(count, owners, epochs, totals) {
-        return Counted::Refused(Refusal::NoRoom);
+        return Err(Refusal::NoRoom);
     }
     let left = take_old_counts(owners, epochs, totals, n, old_owner, old_epochs, old_counts);
     add_new_counts(
         owners, epochs, totals, left, new_owner, new_epochs, new_counts, count,
     );
-    Counted::Count(count)
+    Ok(count)
 }
 
 // Changes the first n rows: judged and counted first, then refused or written.
@@ -93,25 +89,23 @@ fn change(
     new_owner: [u8; 32],
     new_epochs: &[u16],
     new_counts: &[u32],
-) -> Counted
+) -> Result<usize, Refusal>
     requires standing { Standing 0 n (tables owners.old epochs.old totals.old) }
     requires table { Table old_epochs.now old_counts.now }
     requires table_2 { Table new_epochs.now new_counts.now }
     ensures { let rows_lent = rows_were owners.old epochs.old totals.old in
         let old_rows = under old_owner old_epochs.now old_counts.now in
         let new_rows = under new_owner new_epochs.now new_counts.now in
-        after (counted result) (rows_left owners.new epochs.new totals.new) ≡ placing_rows (changed old_rows new_rows (rows_in n rows_lent)) rows_lent }
+        after (answered result) (rows_left owners.new epochs.new totals.new) ≡ placing_rows (changed old_rows new_rows (rows_in n rows_lent)) rows_lent }
 {
-    match judge_change(
+    let count = judge_change(
         owners, epochs, totals, n, old_owner, old_epochs, old_counts, new_owner, new_epochs,
         new_counts,
-    ) {
-        Counted::Refused(refusal) => Counted::Refused(refusal),
-        Counted::Count(count) => write(
-            owners, epochs, totals, n, old_owner, old_epochs, old_counts, new_owner, new_epochs,
-            new_counts, count,
-        ),
-    }
+    )?;
+    write(
+        owners, epochs, totals, n, old_owner, old_epochs, old_counts, new_owner, new_epochs,
+        new_counts, count,
+    )
 }
 
 // Whether flags are absent or proper.
@@ -126,7 +120,7 @@ pub fn names_of(present: bool, head: Head) -> Named
     ensures { result ≡ named_by present head }
 {
     if present {
-        let owner = records::owner_id(head).id;
+        let owner = records::id_of(head);
         Named {
             owner,
             records: head.records,
@@ -153,14 +147,14 @@ pub fn replace(
     new_flags: Head,
     new_epochs: &[u16],
     new_counts: &[u32],
-) -> Counted
+) -> Result<usize, Refusal>
     ensures { let old_flags = flags_were old_flags old_epochs.now old_counts.now in
         let new_flags = flags_were new_flags new_epochs.now new_counts.now in
         let rows_lent = rows_were owners.old epochs.old totals.old in
         let both_proper = proper_given old_present old_flags && proper_given new_present new_flags in
         let old_given = given old_present old_flags in
         let new_given = given new_present new_flags in
-        after (counted result) (rows_left owners.new epochs.new totals.new) ≡ replacing rows rows_lent both_proper old_given new_given }
+        after (answered result) (rows_left owners.new epochs.new totals.new) ≡ replacing rows rows_lent both_proper old_given new_given }
 {
     if totals_rows::table_is_proper(rows, owners, epochs, totals)
         && is_good(old_present, old_flags, old_epochs, old_counts)
@@ -181,6 +175,6 @@ pub fn replace(
             &new_counts[..added.records],
         )
     } else {
-        Counted::Refused(Refusal::BadTable)
+        Err(Refusal::BadTable)
     }
 }

@@ -14,7 +14,7 @@ overflow_sub-result c =
     let olds = under a.old_owner a.old_epochs.now a.old_counts.now in
     let news = under a.new_owner a.new_epochs.now a.new_counts.now in
     let s = c.requires.standing in
-    rw (length_rows s.room) at (gone_most olds news rows c.in-Count.ensures s.rises s.full (under_ascends a.old_owner c.requires.table)
+    rw (length_rows s.room) at (gone_most olds news rows c.in_ok-gone.ensures s.rises s.full (under_ascends a.old_owner c.requires.table)
     (under_ascends a.new_owner c.requires.table_2))
 
 pub overflow_add-result : goal.overflow_add-result
@@ -23,16 +23,16 @@ overflow_add-result c =
     let rows = rows_in a.n (tables a.owners.now a.epochs.now a.totals.now) in
     let olds = under a.old_owner a.old_epochs.now a.old_counts.now in
     let news = under a.new_owner a.new_epochs.now a.new_counts.now in
-    let few = made_within olds news rows c.in-Count-judge_new.ensures in
+    let few = made_within olds news rows c.in_ok-made.ensures in
     let long = under_long a.new_owner c.requires.table_2 in
     omega (arith, c.requires.standing.room.ids_long, c.well_formed)
 
-pub returns-in-Count-judge_new : goal.returns-in-Count-judge_new
-returns-in-Count-judge_new c =
+pub returns : goal.returns
+returns c =
     let a = c.args in
     let rows = rows_in a.n (tables a.owners.now a.epochs.now a.totals.now) in
     let olds = under a.old_owner a.old_epochs.now a.old_counts.now in
     let news = under a.new_owner a.new_epochs.now a.new_counts.now in
     let s = c.requires.standing in
-    rw (length_rows s.room) at (verdict_rows olds news rows c.in-Count.ensures s.rises s.full (under_ascends a.old_owner c.requires.table)
-    (under_ascends a.new_owner c.requires.table_2) c.in-Count-judge_new.ensures)
+    rw (length_rows s.room) at (verdict_rows olds news rows c.in_ok-gone.ensures s.rises s.full (under_ascends a.old_owner c.requires.table)
+    (under_ascends a.new_owner c.requires.table_2) c.in_ok-made.ensures)
