@@ -2,17 +2,16 @@
 ghost use Rattle.std.specs.Prelude.{◌≡◌, true, false, List, [], ℕ, ◌≤◌, ◌<◌, length};
 ghost use Rattle.records_spec.specs.Flags.{multi};
 ghost use Rattle.codec_spec.specs.Bytes.{head_size};
-ghost use Rattle.records_spec.specs.Outcomes.{ok, after};
+ghost use Rattle.records_spec.specs.Outcomes.{ok, after, answered};
 ghost use Rattle.repair_spec.specs.Repairing.{repaired_as};
-ghost use Rattle.repair_spec.specs.Calls.{repaired_into, placing_repair, repair_lent, told_repair, repair_was, repair_left};
+ghost use Rattle.repair_spec.specs.Calls.{repaired_into, placing_repair, repair_lent, repair_was, repair_left};
 ghost use Rattle.repair_spec.specs.Inner.Steps.{kind_left, Blank, Settled, Ready};
 ghost use Rattle.repair_spec.specs.Limits.{all_epochs};
 
 use crate::marking::{gather, mark};
-use codec_spec::Verdict;
-use records_spec::{Counted, Head, Kind, KindByte, Refusal};
+use records_spec::{Head, Kind, Refusal};
 use repair_listing::list_changes;
-use repair_spec::{ALL_EPOCHS, AnsweredRepair};
+use repair_spec::{ALL_EPOCHS, Sizes};
 
 // Writes the flags that are left and lists the changes, where both have room. The lines are counted first.
 fn settle(
@@ -25,23 +24,19 @@ fn settle(
     out: &mut [u8],
     offsets: &mut [usize],
     changes: &mut [u8],
-) -> AnsweredRepair
+) -> Result<Sizes, Refusal>
     requires settled { Settled kind src.now places.now head.records }
     requires ready { Ready kind src.now head epochs.now counts.now }
     ensures { let repair_lent = repair_was out.old offsets.old changes.old in
-        after (told_repair result) (repair_left out.new offsets.new changes.new) ≡ placing_repair (repaired_as kind src.now) repair_lent }
+        after (answered result) (repair_left out.new offsets.new changes.new) ≡ placing_repair (repaired_as kind src.now) repair_lent }
 {
     let lines = list_changes(kind, src, places, head.records, &mut [], &mut []);
     if !records::fit(lines, offsets.len(), changes.len()) {
-        return AnsweredRepair::Refused(Refusal::NoRoom);
+        return Err(Refusal::NoRoom);
     }
-    match codec::serialize(head, epochs, counts, out) {
-        Counted::Refused(refusal) => AnsweredRepair::Refused(refusal),
-        Counted::Count(bytes) => {
-            list_changes(kind, src, places, head.records, offsets, changes);
-            AnsweredRepair::Done { bytes, lines }
-        }
-    }
+    let bytes = codec::serialize(head, epochs, counts, out)?;
+    list_changes(kind, src, places, head.records, offsets, changes);
+    Ok(Sizes { bytes, lines })
 }
 
 // Repairs bytes of kind 0 or 2.
@@ -51,10 +46,10 @@ fn repair_single(
     out: &mut [u8],
     offsets: &mut [usize],
     changes: &mut [u8],
-) -> AnsweredRepair
+) -> Result<Sizes, Refusal>
     requires { (multi kind ≡ false) × (head_size kind ≤ length src.now) }
     ensures { let repair_lent = repair_was out.old offsets.old changes.old in
-        after (told_repair result) (repair_left out.new offsets.new changes.new) ≡ placing_repair (repaired_as kind src.now) repair_lent }
+        after (answered result) (repair_left out.new offsets.new changes.new) ≡ placing_repair (repaired_as kind src.now) repair_lent }
 {
     let head = codec::head_in(kind, src, 0);
     settle(kind, src, &[], head, &[], &[], out, offsets, changes)
@@ -84,11 +79,11 @@ fn repair_by(
     out: &mut [u8],
     offsets: &mut [usize],
     changes: &mut [u8],
-) -> AnsweredRepair
+) -> Result<Sizes, Refusal>
     requires kind_value { (multi kind ≡ true) × (head_size kind ≤ length src.now) }
     requires blank { Blank places.old × Blank counts.old × (all_epochs ≤ length epochs.old) }
     ensures { let repair_lent = repair_was out.old offsets.old changes.old in
-        after (told_repair result) (repair_left out.new offsets.new changes.new) ≡ placing_repair (repaired_as kind src.now) repair_lent }
+        after (answered result) (repair_left out.new offsets.new changes.new) ≡ placing_repair (repaired_as kind src.now) repair_lent }
 {
     let start = codec::head_size(kind);
     let base = codec::base_in(kind, src);
@@ -107,10 +102,10 @@ fn repair_multi(
     out: &mut [u8],
     offsets: &mut [usize],
     changes: &mut [u8],
-) -> AnsweredRepair
+) -> Result<Sizes, Refusal>
     requires { (multi kind ≡ true) × (head_size kind ≤ length src.now) }
     ensures { let repair_lent = repair_was out.old offsets.old changes.old in
-        after (told_repair result) (repair_left out.new offsets.new changes.new) ≡ placing_repair (repaired_as kind src.now) repair_lent }
+        after (answered result) (repair_left out.new offsets.new changes.new) ≡ placing_repair (repaired_as kind src.now) repair_lent }
 {
     let mut places = [0usize; ALL_EPOCHS];
     let mut epochs = [0u16; ALL_EPOCHS];
@@ -134,12 +129,12 @@ fn repair_as(
     out: &mut [u8],
     offsets: &mut [usize],
     changes: &mut [u8],
-) -> AnsweredRepair
+) -> Result<Sizes, Refusal>
     ensures { let repair_lent = repair_was out.old offsets.old changes.old in
-        after (told_repair result) (repair_left out.new offsets.new changes.new) ≡ placing_repair (repaired_as kind src.now) repair_lent }
+        after (answered result) (repair_left out.new offsets.new changes.new) ≡ placing_repair (repaired_as kind src.now) repair_lent }
 {
     if src.len() < codec::head_size(kind) {
-        AnsweredRepair::Refused(Refusal::WrongSize)
+        Err(Refusal::WrongSize)
     } else if records::is_multi(kind) {
         repair_multi(kind, src, out, offsets, changes)
     } else {
@@ -153,29 +148,27 @@ fn repair_faulty(
     out: &mut [u8],
     offsets: &mut [usize],
     changes: &mut [u8],
-) -> AnsweredRepair
+) -> Result<Sizes, Refusal>
     requires { 0 < length src.now }
-    ensures { after (told_repair result) (repair_left out.new offsets.new changes.new) ≡ repaired_into src.now (repair_was out.old offsets.old changes.old) }
+    ensures { after (answered result) (repair_left out.new offsets.new changes.new) ≡ repaired_into src.now (repair_was out.old offsets.old changes.old) }
 {
-    match records::kind_of_byte(src[0]) {
-        KindByte::Known(kind) => repair_as(kind, src, out, offsets, changes),
-        KindByte::Unknown => AnsweredRepair::Refused(Refusal::UnknownType),
-    }
+    let kind = Kind::try_from(src[0])?;
+    repair_as(kind, src, out, offsets, changes)
 }
 
 // Writes canonical bytes as they are; there is no change to list.
-fn keep(src: &[u8], out: &mut [u8]) -> AnsweredRepair
-    ensures { (os cs : List ℕ) → after (told_repair result) (repair_lent out.new os cs)
+fn keep(src: &[u8], out: &mut [u8]) -> Result<Sizes, Refusal>
+    ensures { (os cs : List ℕ) → after (answered result) (repair_lent out.new os cs)
         ≡ placing_repair (ok (record { bytes = src.now; lines = [] })) (repair_lent out.old os cs) }
 {
     if out.len() < src.len() {
-        return AnsweredRepair::Refused(Refusal::NoRoom);
+        return Err(Refusal::NoRoom);
     }
     out[..src.len()].copy_from_slice(src);
-    AnsweredRepair::Done {
+    Ok(Sizes {
         bytes: src.len(),
         lines: 0,
-    }
+    })
 }
 
 // Repairs old flag bytes: canonical ones go to the start of `out`, and the changes, each with its input offset, to the start of
@@ -185,12 +178,12 @@ pub fn repair(
     out: &mut [u8],
     offsets: &mut [usize],
     changes: &mut [u8],
-) -> AnsweredRepair
-    ensures { after (told_repair result) (repair_left out.new offsets.new changes.new) ≡ repaired_into src.now (repair_was out.old offsets.old changes.old) }
+) -> Result<Sizes, Refusal>
+    ensures { after (answered result) (repair_left out.new offsets.new changes.new) ≡ repaired_into src.now (repair_was out.old offsets.old changes.old) }
 {
-    match codec::judge(src).verdict {
-        Verdict::Absent => AnsweredRepair::Done { bytes: 0, lines: 0 },
-        Verdict::Present => keep(src, out),
-        Verdict::Refused(_, _) => repair_faulty(src, out, offsets, changes),
+    match codec::judge(src) {
+        Ok(None) => Ok(Sizes { bytes: 0, lines: 0 }),
+        Ok(Some(_)) => keep(src, out),
+        Err(_) => repair_faulty(src, out, offsets, changes),
     }
 }

@@ -6,7 +6,7 @@ ghost use Rattle.repair_spec.specs.Olds.{old_at};
 ghost use Rattle.repair_spec.specs.Inner.Steps.{got_old_of};
 
 use crate::padded::{TOO_LARGE, capped_value, end_of};
-use fields_spec::Judged;
+use fields_spec::VarintFault;
 use repair_spec::GotOld;
 
 // Reads the record at `at`, whose varint is complete but not canonical.
@@ -19,13 +19,14 @@ fn read_padded(src: &[u8], at: usize, epoch: u16) -> GotOld
     let next = end_of(src, at + 2);
     let count = capped_value(src, at + 2, next);
     if count < TOO_LARGE {
-        return GotOld::Fits {
+        GotOld::Fits {
             epoch,
             count: count as u32,
             next,
-        };
+        }
+    } else {
+        GotOld::TooLarge { next }
     }
-    GotOld::TooLarge { next }
 }
 
 // Reads the record at `at`. Its varint is judged and then read: a second caller of `read_varint` would keep that from being compiled into the
@@ -39,9 +40,9 @@ pub fn read_old(src: &[u8], at: usize) -> GotOld
     }
     let epoch = fields::be16_at(src, at);
     match fields::judge_varint(src, at + 2) {
-        Judged::Incomplete(_) => GotOld::Cut,
-        Judged::NotCanonical(_) => read_padded(src, at, epoch),
-        Judged::Ends(_) => {
+        Err(VarintFault::Incomplete(_)) => GotOld::Cut,
+        Err(VarintFault::NotCanonical(_)) => read_padded(src, at, epoch),
+        Ok(_) => {
             let varint = fields::varint_at(src, at + 2);
             GotOld::Fits {
                 epoch,

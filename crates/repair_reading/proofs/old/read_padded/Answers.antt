@@ -1,7 +1,5 @@
 -- `repair_reading::old::read_padded` meets its contract: the varint's end and what it says, capped, lead to both cases. Assumes nothing.
-use Prim.Native.Nat.{◌+◌}
-use native.Mathlib.Omega.{arith}
-use lib.ListN.{length-drop}
+use Rattle.std.proofs.Common.{◌+◌, length-drop, arith}
 use Rattle.repair_spec.proofs.Getting.{other_inside, padded_fits, padded_large}
 use Rattle.repair_reading.proofs.old.read_padded.Goals as goal
 
@@ -26,8 +24,8 @@ returns-then-count-lt-TOO_LARGE c =
     padded_fits a.src.now a.at p.at_in_bounds p.src_value a.epoch c.end_of-next.result c.capped_value-count.result p.epoch_value
     c.end_of-next.ensures c.capped_value-count.ensures (omega (arith, c.if-count-lt-TOO_LARGE.true))
 
-pub returns : goal.returns
-returns c =
+pub returns-else-count-lt-TOO_LARGE : goal.returns-else-count-lt-TOO_LARGE
+returns-else-count-lt-TOO_LARGE c =
     let a = c.args in
     let p = c.requires in
     padded_large a.src.now a.at p.at_in_bounds p.src_value a.epoch c.end_of-next.result c.capped_value-count.result p.epoch_value
