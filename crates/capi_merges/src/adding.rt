@@ -27,7 +27,7 @@ pub fn combine_added_bytes(
         after result (tables_left epochs.new counts.new) ≡ flags_told (combined_added_c our_flags their_flags added_bytes strategy tables_lent) }
 {
     if capi_given::can_merge(true, ours, theirs, strategy) {
-        return capi_told::flags_told(flags::combine_added_bytes(
+        capi_told::flags_told(flags::combine_added_bytes(
             capi_given::head_given(ours),
             our_epochs,
             our_counts,
@@ -38,9 +38,10 @@ pub fn combine_added_bytes(
             capi_given::strategy_given(strategy),
             epochs,
             counts,
-        ));
+        ))
+    } else {
+        capi_told::bad_flags()
     }
-    capi_told::bad_flags()
 }
 
 // The same where ours may be absent; then ours is not looked at.
@@ -64,7 +65,7 @@ pub fn optional_combine_added_bytes(
 {
     let is_present = capi_given::is_true(present);
     if capi_given::can_merge(is_present, ours, theirs, strategy) {
-        return capi_told::flags_told(flags::optional_combine_added_bytes(
+        capi_told::flags_told(flags::optional_combine_added_bytes(
             is_present,
             capi_given::head_given(ours),
             our_epochs,
@@ -76,7 +77,8 @@ pub fn optional_combine_added_bytes(
             capi_given::strategy_given(strategy),
             epochs,
             counts,
-        ));
+        ))
+    } else {
+        capi_told::bad_flags()
     }
-    capi_told::bad_flags()
 }

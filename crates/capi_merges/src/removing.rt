@@ -33,7 +33,7 @@ pub fn combine_removed_bytes(
         after result (tables_left epochs.new counts.new) ≡ flags_told (combined_removed_c our_flags their_flags removal_given strategy tables_lent) }
 {
     if capi_given::can_remove(true, ours, theirs, strategy, removal) {
-        return capi_told::flags_told(removal::combine_removed_bytes(
+        capi_told::flags_told(removal::combine_removed_bytes(
             capi_given::head_given(ours),
             our_epochs,
             our_counts,
@@ -47,9 +47,10 @@ pub fn combine_removed_bytes(
             capi_given::strategy_given(strategy),
             epochs,
             counts,
-        ));
+        ))
+    } else {
+        capi_told::bad_flags()
     }
-    capi_told::bad_flags()
 }
 
 // The same where ours may be absent; then ours is not looked at.
@@ -79,7 +80,7 @@ pub fn optional_combine_removed_bytes(
 {
     let is_present = capi_given::is_true(present);
     if capi_given::can_remove(is_present, ours, theirs, strategy, removal) {
-        return capi_told::flags_told(removal::optional_combine_removed_bytes(
+        capi_told::flags_told(removal::optional_combine_removed_bytes(
             is_present,
             capi_given::head_given(ours),
             our_epochs,
@@ -94,7 +95,8 @@ pub fn optional_combine_removed_bytes(
             capi_given::strategy_given(strategy),
             epochs,
             counts,
-        ));
+        ))
+    } else {
+        capi_told::bad_flags()
     }
-    capi_told::bad_flags()
 }
