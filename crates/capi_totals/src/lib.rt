@@ -32,7 +32,7 @@ pub fn totals_replace(
         ≡ told_as count_told (totals_replaced_c rows rows_lent old_present old_flags new_present new_flags) }
 {
     if capi_given::can_replace(old_present, old_flags, new_present, new_flags) {
-        return capi_told::count_told(totals::replace(
+        capi_told::count_told(totals::replace(
             rows,
             owners,
             epochs,
@@ -45,7 +45,8 @@ pub fn totals_replace(
             capi_given::head_given(new_flags),
             new_epochs,
             new_counts,
-        ));
+        ))
+    } else {
+        capi_told::bad_table()
     }
-    capi_told::bad_table()
 }
