@@ -17,15 +17,7 @@ use totals_spec::Named;
 fn count_positives(counts: &[u32]) -> usize
     ensures { result ≡ positives counts.now }
 {
-    let mut n: usize = 0;
-    let mut i: usize = 0;
-    while i < counts.len() {
-        if 0 < counts[i] {
-            n += 1;
-        }
-        i += 1;
-    }
-    n
+    counts.iter().filter(|count| 0 < **count).count()
 }
 
 // Where the judging of n rows starts, for what the old flags and the new ones name.
@@ -56,19 +48,11 @@ fn begin_with_none(n: usize) -> Judging
         owner: [0u8; OWNER_LENGTH],
         records: 0,
     };
+    let begun = begin(n, none, none, 0, 0);
     Judging {
-        rows: n,
         upto: 0,
-        old: none,
-        new: none,
         good: false,
-        any: false,
-        owner: [0u8; OWNER_LENGTH],
-        epoch: 0,
-        owed: 0,
-        fits: true,
-        left: n,
-        made: 0,
+        ..begun
     }
 }
 
@@ -90,18 +74,18 @@ pub fn start(
         result ≡ started n size old_present old_flags new_present new_flags }
     ensures small { Small new_counts.now }
 {
-    if n <= size {
-        if totals::is_good(old_present, old_flags, old_epochs, old_counts) {
-            if totals::is_good(new_present, new_flags, new_epochs, new_counts) {
-                let taken = totals::names_of(old_present, old_flags);
-                let added = totals::names_of(new_present, new_flags);
-                let owed = count_positives(&old_counts[..taken.records]);
-                let made = count_positives(&new_counts[..added.records]);
-                return begin(n, taken, added, owed, made);
-            }
-        }
+    if n <= size
+        && totals::is_good(old_present, old_flags, old_epochs, old_counts)
+        && totals::is_good(new_present, new_flags, new_epochs, new_counts)
+    {
+        let taken = totals::names_of(old_present, old_flags);
+        let added = totals::names_of(new_present, new_flags);
+        let owed = count_positives(&old_counts[..taken.records]);
+        let made = count_positives(&new_counts[..added.records]);
+        begin(n, taken, added, owed, made)
+    } else {
+        begin_with_none(n)
     }
-    begin_with_none(n)
 }
 
 // Whether a row stands behind the last one, if there is one.
@@ -114,33 +98,14 @@ fn comes_behind(
 ) -> bool
     ensures { result ≡ cond any (is_less (compared (row last_owner last_epoch 0) (row owner epoch 0))) true }
 {
-    if any {
-        return totals::is_less(&last_owner, last_epoch, &owner, epoch);
-    }
-    true
+    !any || totals::is_less(&last_owner, last_epoch, &owner, epoch)
 }
 
 // One less where something is so, and never less than 0.
 fn less_if(n: usize, so: bool) -> usize
     ensures { result ≡ n - one so }
 {
-    if so {
-        if 0 < n {
-            return n - 1;
-        }
-    }
-    n
-}
-
-// What of a total an old count leaves; 0 where it is less.
-fn left_of(total: u64, old_count: u64) -> u64
-    ensures left { result ≡ total - old_count }
-    ensures total_fits { total < 2 ^ 64 }
-{
-    if old_count < total {
-        return total - old_count;
-    }
-    0
+    n.saturating_sub(usize::from(so))
 }
 
 // The count that named records have at an owner and epoch; 0 where they have none there.
@@ -149,11 +114,10 @@ fn count_named(named: Named, epochs: &[u16], counts: &[u32], owner: [u8; 32], ep
     ensures { result ≡ total_at (row owner epoch 0) (rows_named named epochs.now counts.now) }
 {
     let n = named.records;
-    let records_owner = named.owner;
-    totals::count_at(records_owner, &epochs[..n], &counts[..n], owner, epoch)
+    totals::count_at(named.owner, &epochs[..n], &counts[..n], owner, epoch)
 }
 
-// Judges one row more.
+// Judges one row more. No early exit: its tests become flags instead of jumps.
 pub fn judge_row(
     seen: Judging,
     row: Total,
@@ -168,30 +132,22 @@ pub fn judge_row(
         result ≡ judged_next old_rows new_rows seen (row_of row) }
     ensures total_fits { row.total < 2 ^ 64 }
 {
-    let old = seen.old;
-    let new = seen.new;
-    let last_owner = seen.owner;
     let owner = row.owner;
-    let epoch = row.epoch;
-    let total = row.total;
-    let old_count = count_named(old, old_epochs, old_counts, owner, epoch);
-    let new_count = count_named(new, new_epochs, new_counts, owner, epoch);
-    let left = left_of(total, old_count);
+    let old_count = count_named(seen.old, old_epochs, old_counts, owner, row.epoch);
+    let new_count = count_named(seen.new, new_epochs, new_counts, owner, row.epoch);
+    let left = row.total.saturating_sub(old_count);
     Judging {
-        rows: seen.rows,
-        upto: seen.upto,
-        old,
-        new,
         good: seen.good
-            & comes_behind(seen.any, last_owner, seen.epoch, owner, epoch)
-            & (0 < total),
+            & comes_behind(seen.any, seen.owner, seen.epoch, owner, row.epoch)
+            & (0 < row.total),
         any: true,
         owner,
-        epoch,
-        owed: less_if(seen.owed, (0 < old_count) & (old_count <= total)),
+        epoch: row.epoch,
+        owed: less_if(seen.owed, (0 < old_count) & (old_count <= row.total)),
         fits: seen.fits & (new_count <= LARGEST_TOTAL - left),
-        left: less_if(seen.left, (0 < old_count) & (total == old_count)),
+        left: less_if(seen.left, (0 < old_count) & (row.total == old_count)),
         made: less_if(seen.made, (0 < new_count) & (0 < left)),
+        ..seen
     }
 }
 
@@ -218,11 +174,8 @@ pub fn judge_rows(
         result ≡ judged_all old_rows new_rows seen (rows_in n (columns table.now)) }
     ensures totals_fit { TotalsFit n table.now }
 {
-    let mut i: usize = 0;
-    while i < n {
-        let row = table[i];
-        seen = judge_row(seen, row, old_epochs, old_counts, new_epochs, new_counts);
-        i += 1;
+    for row in &table[..n] {
+        seen = judge_row(seen, *row, old_epochs, old_counts, new_epochs, new_counts);
     }
     seen
 }

@@ -1,9 +1,9 @@
 -- A list that is filled from its front with the elements of another, place by place. By cases on both.
 -- Assumes nothing.
-use mathlib.Core.Path.{◌≡◌, refl, sym, ap, subst}
+use mathlib.Core.Path.{◌≡◌, refl, ap}
 use mathlib.Core.List.{List, [], ◌∷◌}
 use Prim.Native.Nat.{ℕ, zero, suc, ◌≤◌, ◌<◌}
-use native.Mathlib.Nat.{le_of_suc-le-suc, not-suc-le-zero, le_of_lt}
+use native.Mathlib.Nat.{le_of_suc-le-suc, not-suc-le-zero}
 use lib.ListN.{length, take, get_or, set}
 use lib.Seq.{take_all}
 use Rattle.records_spec.specs.Tables.{over}
@@ -12,16 +12,6 @@ module _ {ℓ} {A : Type ℓ} where
   -- the first i elements of xs at the start of old
   abbrev pub filled : ℕ → List A → List A → List A
   filled i xs old = over (take i xs) old
-
-  pub length_filled : (i : ℕ) (xs old : List A) → i ≤ length old → length (filled i xs old) ≡ length old
-  length_filled zero xs old h = refl
-  length_filled (suc i) [] old h = refl
-  length_filled (suc i) (x ∷ xs) [] h = absurd (not-suc-le-zero h)
-  length_filled (suc i) (x ∷ xs) (o ∷ old) h = ap suc (length_filled i xs old (le_of_suc-le-suc h))
-
-  -- a place of the list is one of it filled
-  pub in_filled : {i : ℕ} (xs old : List A) → i < length old → i < length (filled i xs old)
-  in_filled {i} xs old h = subst (λ (m : ℕ). i < m) (sym (length_filled i xs old (le_of_lt h))) h
 
   pub filled_next : (i : ℕ) (xs old : List A) (d : A) → i < length xs → i < length old → set (filled i xs old) i (get_or xs i d) ≡ filled (suc i) xs old
   filled_next i [] old d h k = absurd (not-suc-le-zero h)

@@ -1,9 +1,7 @@
 -- What the proofs share. Assumes nothing.
 pub mod Filling
 pub mod Columns
-pub mod Place
 pub mod Counting
-pub mod Fitting
 pub mod Exchange
 pub mod Tallies
 pub mod RowsFit

@@ -1,16 +1,14 @@
 -- What the counts of rows tell: how many old counts a table holds, how many rows go, and how many new counts meet a row. Row by row, by
 -- cases on each test.
 -- Assumes nothing.
-use mathlib.Core.Path.{◌≡◌, refl, ap, ◌∙◌}
+use mathlib.Core.Path.{◌≡◌, refl, ap}
 use mathlib.Core.Bool.{Bool, true, false, ◌&&◌, and-true, and-false, and-eq-true_iff}
 use mathlib.Core.List.{List, [], ◌∷◌}
 use Prim.Native.Nat.{ℕ, ◌+◌, ◌-◌, ◌≤◌, ◌<◌}
 use native.Mathlib.Decide.{dec_lt}
-use native.Mathlib.Numerals.{add-one}
 use native.Mathlib.Omega.{arith}
 use lib.Dec.{leb, ltb, eqb}
-use lib.ListN.{length, drop, get_or, drop_of_length-le}
-use lib.Seq.{drop-cons}
+use lib.ListN.{length}
 use borrow.Author.Tests.{leb-false, lt-ltb, le-ltb, lt-leb, eq-eqb, ne_eqb}
 use Rattle.records_spec.specs.Tables.{records_of}
 use Rattle.rows_spec.specs.Rows.{Row, rows_under}
@@ -22,22 +20,6 @@ use Rattle.totals_index_spec.specs.Inner.Judging.{one, positives, holds, goes, m
 use Rattle.totals_index_spec.proofs.Exchange.{Test, count_by, Fair}
 
 -- ---- counts above 0
-
--- of those from a place on, where the count there is above 0, and where it is not
-module _ (cs : List ℕ) (i : ℕ) (h : i < length cs) where
-  positives_on : positives (drop i cs) ≡ one (ltb 0 (get_or cs i 0)) + positives (drop (i + 1) cs)
-  unfolding positives
-  positives_on = rw (add-one, drop-cons cs i 0)
-
-  pub positives_counted : 0 < get_or cs i 0 → positives (drop i cs) ≡ 1 + positives (drop (i + 1) cs)
-  positives_counted k = positives_on ∙ rw (lt-ltb 0 (get_or cs i 0) k)
-
-  pub positives_passed : get_or cs i 0 ≤ 0 → positives (drop i cs) ≡ positives (drop (i + 1) cs)
-  positives_passed k = positives_on ∙ rw (le-ltb 0 (get_or cs i 0) k) (omega arith)
-
-pub positives_end : (cs : List ℕ) (i : ℕ) → length cs ≤ i → positives (drop i cs) ≡ 0
-unfolding positives
-positives_end cs i h = rw (drop_of_length-le cs {i = i} h)
 
 -- how many counts of rows are above 0
 unfoldable pub positives_in : List Row → ℕ

@@ -1,20 +1,13 @@
--- The counts above 0 are those that were counted, and those from the place on.
-use Rattle.std.proofs.Common.{arith}
-use Rattle.totals_index_spec.proofs.Tallies.{positives_counted, positives_passed, positives_end}
+-- Counting what is above 0 adds one for each such count, as `positives` does.
+use Rattle.std.proofs.Common.{◌≡◌, ltb, refl, sym, ◌∙◌, rules}
+use Rattle.std.specs.List.{count_by}
+use Rattle.std.proofs.lemmas.List.Recursion.{is_sum_by}
+use Rattle.totals_index_spec.specs.Inner.Judging.{one, positives}
 use Rattle.totals_index_judging.proofs.judging.count_positives.Goals as goal
-use Rattle.totals_index_judging.proofs.judging.count_positives.Goals.{then-counts-i-gt0, else-counts-i-gt0}
-
-pub loop-i-preserved : goal.loop-i-preserved
-loop-i-preserved c =
-    let counts = c.args.counts.now in
-    let i = c.loop-i.i in
-    let h = c.loop-i-test.true in
-    elim c.if-counts-i-gt0.branch [
-      | then-counts-i-gt0 w ↦ (omega arith, (omega arith, omega (arith, positives_counted counts i h w.if-counts-i-gt0.true)))
-      | else-counts-i-gt0 w ↦ (omega arith, (omega arith, omega (arith, positives_passed counts i h w.if-counts-i-gt0.false)))
-    ]
 
 pub returns : goal.returns
+unfolding positives
 returns c =
-    let at = c.loop-i in
-    omega (arith, positives_end c.args.counts.now at.i (omega arith))
+    let counts = c.args.counts.now in
+    let counted : c.count.result ≡ count_by (ltb 0) counts = search rules in
+    counted ∙ sym (is_sum_by positives (λ n. one (ltb 0 n)) refl (λ _ _. refl) counts)

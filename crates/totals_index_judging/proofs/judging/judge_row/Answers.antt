@@ -9,13 +9,10 @@ returns-clause-judged c =
     found_next {j = c.args.seen} {t = c.args.row} record {
       old_found = c.count_named-old_count.ensures;
       new_found = c.count_named-new_count.ensures;
-      left_found = c.left_of-left.ensures.left;
+      left_found = c.saturating_sub-left.ensures;
       small = omega arith;
       behind_found = c.comes_behind.ensures;
       owed_found = c.less_if.ensures;
       left_rows = c.less_if-2.ensures;
       made_rows = c.less_if-3.ensures;
     }
-
-pub returns-clause-total_fits : goal.returns-clause-total_fits
-returns-clause-total_fits c = c.left_of-left.ensures.total_fits
