@@ -17,14 +17,11 @@ pub fn take_apart(
     requires { (n ≤ length table.now) × Room n (tables owners.old epochs.old totals.old) }
     ensures { rows_left owners.new epochs.new totals.new ≡ over_rows (rows_in n (columns table.now)) (rows_were owners.old epochs.old totals.old) }
 {
-    let mut i: usize = 0;
-    while i < n {
-        let row = table[i];
+    for (i, row) in table[..n].iter().enumerate() {
         let owner = row.owner;
         owners[i] = owner;
         epochs[i] = row.epoch;
         totals[i] = row.total;
-        i += 1;
     }
 }
 
@@ -39,13 +36,11 @@ pub fn put_together(
     requires { (n ≤ length table.old) × Room n (tables owners.now epochs.now totals.now) }
     ensures { table.new ≡ over (structs (rows_in n (rows_were owners.now epochs.now totals.now))) table.old }
 {
-    let mut at: usize = 0;
-    while at < n {
-        table[at] = Total {
-            owner: owners[at],
-            epoch: epochs[at],
-            total: totals[at],
+    for i in 0..n {
+        table[i] = Total {
+            owner: owners[i],
+            epoch: epochs[i],
+            total: totals[i],
         };
-        at += 1;
     }
 }

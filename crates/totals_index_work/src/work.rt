@@ -15,41 +15,35 @@ use totals_index_spec::Judging;
 fn has_room(n: usize, owners: usize, epochs: usize, totals: usize) -> bool
     ensures { result ≡ room_of n owners epochs totals }
 {
-    if n <= owners {
-        return records::fit(n, epochs, totals);
-    }
-    false
+    n <= owners && n <= epochs && n <= totals
 }
 
 // Whether a change is accepted, and has room in a table of a size and in columns of these lengths.
 fn fits(judged: Judging, size: usize, owners: usize, epochs: usize, totals: usize) -> bool
     ensures { result ≡ fitted judged size owners epochs totals }
 {
-    if judged.good & ((judged.owed == 0) & judged.fits) {
-        if judged.left <= size {
-            if judged.made <= size - judged.left {
-                return has_room(judged.rows, owners, epochs, totals)
-                    & has_room(judged.left + judged.made, owners, epochs, totals);
-            }
-        }
-    }
-    false
+    judged.good
+        && judged.owed == 0
+        && judged.fits
+        && judged.left <= size
+        && judged.made <= size - judged.left
+        && has_room(judged.rows, owners, epochs, totals)
+        && has_room(judged.left + judged.made, owners, epochs, totals)
 }
 
 // The refusal where a change is not made.
 fn refusal_for(judged: Judging) -> Counted
     ensures { counted result ≡ refused (number (refusal_for judged)) }
 {
-    if judged.good {
-        if judged.owed == 0 {
-            if judged.fits {
-                return Counted::Refused(Refusal::NoRoom);
-            }
-            return Counted::Refused(Refusal::Overflow);
-        }
-        return Counted::Refused(Refusal::IndexMismatch);
-    }
-    Counted::Refused(Refusal::BadTable)
+    Counted::Refused(if !judged.good {
+        Refusal::BadTable
+    } else if judged.owed != 0 {
+        Refusal::IndexMismatch
+    } else if !judged.fits {
+        Refusal::Overflow
+    } else {
+        Refusal::NoRoom
+    })
 }
 
 // Replaces flags in the work area where the change is accepted and has room.
@@ -77,7 +71,7 @@ pub fn replace_in(
         after (counted result) (rows_left owners.new epochs.new totals.new) ≡ replacing_in size judged rows_lent both_proper old_given new_given }
 {
     if fits(judged, size, owners.len(), epochs.len(), totals.len()) {
-        return totals::replace(
+        totals::replace(
             judged.rows,
             owners,
             epochs,
@@ -90,9 +84,10 @@ pub fn replace_in(
             new_flags,
             new_epochs,
             new_counts,
-        );
+        )
+    } else {
+        refusal_for(judged)
     }
-    refusal_for(judged)
 }
 
 // How many rows are taken apart: all, where the change is accepted and has room.
@@ -106,9 +101,10 @@ pub fn rows_to_take(
     ensures { result ≡ cond (fitted judged size owners epochs totals) judged.rows 0 }
 {
     if fits(judged, size, owners, epochs, totals) {
-        return judged.rows;
+        judged.rows
+    } else {
+        0
     }
-    0
 }
 
 // How many rows are put together: those of an answer.

@@ -1,16 +1,12 @@
 -- Each column is filled from its front, a place in a turn.
-use Rattle.std.proofs.Common.{◌≡◌, ◌-◌, ◌≤◌}
+use Rattle.std.proofs.Common.{◌≡◌}
 use Rattle.totals_index_spec.specs.Structs.{owners_of, total_epochs_of, totals_of}
 use Rattle.totals_index_spec.proofs.Filling.{filled}
 use Rattle.totals_index_work.proofs.structs.take_apart.Given as goal
 
 abbrev pub invariant-loop-i : goal.invariant-loop-i
 invariant-loop-i l = record {
-  within : l.i ≤ l.n;
   owners_filled : l.owners ≡ filled l.i (owners_of l.table) l.initial.owners;
   epochs_filled : l.epochs ≡ filled l.i (total_epochs_of l.table) l.initial.epochs;
   totals_filled : l.totals ≡ filled l.i (totals_of l.table) l.initial.totals;
 }
-
-abbrev pub decreases-loop-i : goal.decreases-loop-i
-decreases-loop-i l = l.n - l.i
