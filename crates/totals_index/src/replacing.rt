@@ -4,12 +4,12 @@ ghost use Rattle.rows_spec.specs.Rows.{rows_were, rows_left};
 ghost use Rattle.totals_spec.specs.Calls.{given, proper_given};
 ghost use Rattle.totals_spec.specs.Inner.Steps.{counted_rows};
 ghost use Rattle.records_spec.specs.Flags.{holding};
-ghost use Rattle.records_spec.specs.Answers.{flags_were, counted};
-ghost use Rattle.records_spec.specs.Outcomes.{after};
+ghost use Rattle.records_spec.specs.Answers.{flags_were};
+ghost use Rattle.records_spec.specs.Outcomes.{after, answered};
 ghost use Rattle.totals_index_spec.specs.Calls.{SaysStructs, verdict, replacing_structs, beside};
 ghost use Rattle.totals_index_spec.specs.Inner.Judging.{verdict_of};
 
-use records_spec::{Counted, Head};
+use records_spec::{Head, Refusal};
 use totals_index_judging::{judge_rows, rows_to_judge, start};
 use totals_index_spec::{Judging, Total};
 use totals_index_work::{put_together, replace_in, rows_to_put, rows_to_take, take_apart};
@@ -29,7 +29,7 @@ fn replace_judged(
     new_flags: Head,
     new_epochs: &[u16],
     new_counts: &[u32],
-) -> Counted
+) -> Result<usize, Refusal>
     requires { let old_flags = holding old_flags old_epochs.now old_counts.now in
         let new_flags = holding new_flags new_epochs.now new_counts.now in
         let both_proper = proper_given old_present old_flags && proper_given new_present new_flags in
@@ -41,7 +41,7 @@ fn replace_judged(
         let both_proper = proper_given old_present old_flags && proper_given new_present new_flags in
         let old_given = given old_present old_flags in
         let new_given = given new_present new_flags in
-        after (counted result) (beside table.new (rows_left owners.new epochs.new totals.new))
+        after (answered result) (beside table.new (rows_left owners.new epochs.new totals.new))
         ≡ replacing_structs judged.rows table.old rows_lent both_proper old_given new_given }
 {
     let size = table.len();
@@ -82,7 +82,7 @@ pub fn replace_structs(
     new_flags: Head,
     new_epochs: &[u16],
     new_counts: &[u32],
-) -> Counted
+) -> Result<usize, Refusal>
     ensures { let old_flags = flags_were old_flags old_epochs.now old_counts.now in
         let new_flags = flags_were new_flags new_epochs.now new_counts.now in
         let rows_lent = rows_were owners.old epochs.old totals.old in

@@ -5,10 +5,10 @@ ghost use Rattle.totals_spec.specs.Calls.{given, proper_given};
 ghost use Rattle.totals_index_spec.specs.Inner.Judging.{room_of, fitted, refusal_for};
 ghost use Rattle.totals_index_spec.specs.Inner.Steps.{rows_told, replacing_in};
 ghost use Rattle.records_spec.specs.Refusals.{number};
-ghost use Rattle.records_spec.specs.Outcomes.{refused, after};
-ghost use Rattle.records_spec.specs.Answers.{flags_were, counted};
+ghost use Rattle.records_spec.specs.Outcomes.{refused, after, answered};
+ghost use Rattle.records_spec.specs.Answers.{flags_were};
 
-use records_spec::{Counted, Head, Refusal};
+use records_spec::{Head, Refusal};
 use totals_index_spec::Judging;
 
 // Whether three columns of these lengths have n places.
@@ -32,10 +32,10 @@ fn fits(judged: Judging, size: usize, owners: usize, epochs: usize, totals: usiz
 }
 
 // The refusal where a change is not made.
-fn refusal_for(judged: Judging) -> Counted
-    ensures { counted result ≡ refused (number (refusal_for judged)) }
+fn refusal_for(judged: Judging) -> Result<usize, Refusal>
+    ensures { answered result ≡ refused (number (refusal_for judged)) }
 {
-    Counted::Refused(if !judged.good {
+    Err(if !judged.good {
         Refusal::BadTable
     } else if judged.owed != 0 {
         Refusal::IndexMismatch
@@ -61,14 +61,14 @@ pub fn replace_in(
     new_flags: Head,
     new_epochs: &[u16],
     new_counts: &[u32],
-) -> Counted
+) -> Result<usize, Refusal>
     ensures { let old_flags = flags_were old_flags old_epochs.now old_counts.now in
         let new_flags = flags_were new_flags new_epochs.now new_counts.now in
         let rows_lent = rows_were owners.old epochs.old totals.old in
         let both_proper = proper_given old_present old_flags && proper_given new_present new_flags in
         let old_given = given old_present old_flags in
         let new_given = given new_present new_flags in
-        after (counted result) (rows_left owners.new epochs.new totals.new) ≡ replacing_in size judged rows_lent both_proper old_given new_given }
+        after (answered result) (rows_left owners.new epochs.new totals.new) ≡ replacing_in size judged rows_lent both_proper old_given new_given }
 {
     if fits(judged, size, owners.len(), epochs.len(), totals.len()) {
         totals::replace(
@@ -108,11 +108,8 @@ pub fn rows_to_take(
 }
 
 // How many rows are put together: those of an answer.
-pub fn rows_to_put(answer: Counted) -> usize
-    ensures { result ≡ rows_told (counted answer) }
+pub fn rows_to_put(answer: Result<usize, Refusal>) -> usize
+    ensures { result ≡ rows_told (answered answer) }
 {
-    match answer {
-        Counted::Count(count) => count,
-        Counted::Refused(_) => 0,
-    }
+    answer.unwrap_or(0)
 }

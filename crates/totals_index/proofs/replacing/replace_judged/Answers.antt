@@ -3,8 +3,7 @@ use Rattle.std.proofs.Common.{ap, ◌∙◌, ℕ, List, length}
 use Rattle.std.specs.Prelude.{◌&&◌}
 use Rattle.records_spec.specs.Flags.{holding}
 use Rattle.records_spec.specs.Tables.{over}
-use Rattle.records_spec.specs.Answers.{counted}
-use Rattle.records_spec.specs.Outcomes.{after}
+use Rattle.records_spec.specs.Outcomes.{after, answered}
 use Rattle.rows_spec.specs.Rows.{Tables, tables, rows_in, over_rows}
 use Rattle.totals_spec.specs.Calls.{given, proper_given}
 use Rattle.totals_index_spec.specs.Structs.{columns, structs}
@@ -57,5 +56,5 @@ returns c =
     let left = c.replace_in-answer.new in
     let then = tables left.owners left.epochs left.totals in
     let table = c.put_together.ensures ∙ ap (λ (m : ℕ). over (structs (rows_in m then)) c.args.table.now) c.rows_to_put.ensures in
-    ap (λ (z : List Total). after (counted c.replace_in-answer.result) (beside z then)) table
+    ap (λ (z : List Total). after (answered c.replace_in-answer.result) (beside z then)) table
     ∙ (put (goal.at.returns c).After-replace_in-answer).all_left
