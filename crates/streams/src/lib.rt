@@ -1,7 +1,7 @@
 // Standard input read to its end, and what the programs say where a stream fails.
 #![tactic(auto)]
 
-ghost use Rattle.std.specs.Prelude.{◌≡◌, OnOk};
+ghost use Rattle.std.specs.Prelude.{◌≡◌, OnOk, codes};
 ghost use Rattle.std.specs.Io.KnownBytes.{Appends};
 ghost use Rattle.streams.specs.Reading.{meaning, Within, ReadsKnown};
 
@@ -26,6 +26,7 @@ pub fn read_all<R: Read>(reader: &mut R, buf: &mut [u8]) -> io::Result<usize>
     ensures known { ReadsKnown (R.remaining reader.old) (R.remaining reader.new) result buf.new }
 {
     let mut done: usize = 0;
+    // no `for`: the place moves by what a read has brought
     while done < buf.len() {
         let Some(got) = step_of(reader.read(&mut buf[done..]))? else {
             return Ok(done);
@@ -43,8 +44,10 @@ pub fn say<E: Write>(errors: &mut E, text: &[u8]) -> io::Result<()>
 }
 
 // Says that standard input could not be read.
-pub fn say_unread<E: Write>(errors: &mut E) {
-    let _ = say(errors, b"cannot read\n");
+pub fn say_unread<E: Write>(errors: &mut E) -> io::Result<()>
+    ensures { OnOk result (Appends (E.contents errors.old) (E.contents errors.new) (codes "cannot read\n")) }
+{
+    say(errors, b"cannot read\n")
 }
 
 // Writes bytes to standard output, and says so where they are not all taken.
