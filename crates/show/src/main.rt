@@ -7,7 +7,7 @@ ghost use Rattle.listing_spec.specs.Listed.{listed, longest_text};
 
 use listing_spec::{LONGEST_TEXT, MOST_LISTED};
 use records_spec::Counted;
-use streams::Input;
+use std::io;
 
 // Puts the text at the start of `out`, which has room for every text, so that the refusal does not occur.
 fn text_of(src: &[u8], out: &mut [u8]) -> usize
@@ -22,19 +22,19 @@ fn text_of(src: &[u8], out: &mut [u8]) -> usize
 }
 
 // Lists bytes, with what is lent for the text.
-fn show(rt: &HostRuntime, src: &[u8], out: &mut [u8])
+fn show(rt: &HostRuntime, src: &[u8], out: &mut [u8]) -> io::Result<()>
     requires { length out.old ≡ longest_text }
 {
     let n = text_of(src, out);
-    streams::write_all(&mut rt.stdout(), &mut rt.stderr(), &out[..n]);
+    streams::write_all(&mut rt.stdout(), &mut rt.stderr(), &out[..n])
 }
 
-// One byte more than is listed is read, so that too many are seen.
+// One byte more than is listed is read, so that too many are seen. The program's status is 0, also where something could not be written.
 fn main(rt: HostRuntime) {
     let mut src = [0u8; MOST_LISTED + 1];
     let mut out = [0u8; LONGEST_TEXT];
-    match streams::read_all(&mut rt.stdin(), &mut src) {
-        Input::Bytes(n) => show(&rt, &src[..n], &mut out),
-        Input::Failed => streams::say_unread(&mut rt.stderr()),
-    }
+    let _ = match streams::read_all(&mut rt.stdin(), &mut src) {
+        Ok(n) => show(&rt, &src[..n], &mut out),
+        Err(_) => streams::say_unread(&mut rt.stderr()),
+    };
 }
