@@ -8,7 +8,8 @@ ghost use Rattle.listing_spec.specs.Text.{word_line};
 
 use records_spec::Refusal;
 use repair_spec::{AnsweredRepair, LONGEST_FLAGS};
-use streams::{Input, say};
+use std::io;
+use streams::say;
 
 // The most bytes that are repaired: a head of 35, and 65,535 records of 12.
 const MOST_REPAIRED: usize = 786455;
@@ -32,79 +33,78 @@ fn refusal_text(refusal: Refusal, out: &mut [u8]) -> usize
 }
 
 // Says which refusal there is.
-fn say_refused(rt: &HostRuntime, refusal: Refusal) {
+fn say_refused(rt: &HostRuntime, refusal: Refusal) -> io::Result<()> {
     let mut text = [0u8; LONGEST_REFUSAL];
     let n = refusal_text(refusal, &mut text);
-    say(&mut rt.stderr(), &text[..n]);
+    say(&mut rt.stderr(), &text[..n])
 }
 
 // Writes the list, chunk by chunk. It ends at a chunk that is not taken whole, so that no line in the midst is missing.
-fn write_list(rt: &HostRuntime, offsets: &[usize], changes: &[u8])
+fn write_list(rt: &HostRuntime, offsets: &[usize], changes: &[u8]) -> io::Result<()>
     requires { length offsets.now ≡ length changes.now }
 {
     let mut text = [0u8; LIST_ROOM];
     let mut next: usize = 0;
+    // no `for`: the place moves by as many lines as a chunk has
     while next < offsets.len() {
         let chunk = change_lines::put_lines(offsets, changes, next, &mut text);
-        let size = chunk.size;
-        if say(&mut rt.stderr(), &text[..size]) {
-            next = chunk.next;
-        } else {
-            return;
-        }
+        say(&mut rt.stderr(), &text[..chunk.size])?;
+        next = chunk.next;
     }
+    Ok(())
 }
 
-// Writes the bytes, and then the list.
-fn write_repaired(rt: &HostRuntime, bytes: &[u8], offsets: &[usize], changes: &[u8])
-    requires { length offsets.now ≡ length changes.now }
+// What is lent: room for the bytes and one more, so that too many are seen; for the largest answer; and for the longest list that so many bytes
+// can have.
+#[derive(Drop)]
+struct Room {
+    src: [u8; MOST_REPAIRED + 1],
+    out: [u8; LONGEST_FLAGS],
+    offsets: [usize; MOST_LINES],
+    changes: [u8; MOST_LINES],
+}
+
+// Writes so many bytes, and then the list of so many lines.
+fn write_repaired(rt: &HostRuntime, bytes: usize, lines: usize, room: &Room) -> io::Result<()>
+    requires bytes_fit { bytes ≤ length room.now.out }
+    requires offsets_fit { lines ≤ length room.now.offsets }
+    requires changes_fit { lines ≤ length room.now.changes }
 {
-    if streams::write_all(&mut rt.stdout(), &mut rt.stderr(), bytes) {
-        write_list(rt, offsets, changes);
-    }
+    streams::write_all(&mut rt.stdout(), &mut rt.stderr(), &room.out[..bytes])?;
+    write_list(rt, &room.offsets[..lines], &room.changes[..lines])
 }
 
-// Repairs bytes with what is lent for the answer and the list.
-fn migrate(
-    rt: &HostRuntime,
-    src: &[u8],
-    out: &mut [u8],
-    offsets: &mut [usize],
-    changes: &mut [u8],
-) {
-    match repair::repair(src, out, offsets, changes) {
-        AnsweredRepair::Done { bytes, lines } => {
-            write_repaired(rt, &out[..bytes], &offsets[..lines], &changes[..lines]);
-        }
+// Repairs the first n bytes of what was read.
+fn migrate(rt: &HostRuntime, n: usize, room: &mut Room) -> io::Result<()>
+    requires { n ≤ length room.old.src }
+{
+    match repair::repair(
+        &room.src[..n],
+        &mut room.out,
+        &mut room.offsets,
+        &mut room.changes,
+    ) {
+        AnsweredRepair::Done { bytes, lines } => write_repaired(rt, bytes, lines, room),
         AnsweredRepair::Refused(refusal) => say_refused(rt, refusal),
     }
 }
 
-// Reads bytes and repairs them. `src` has room for one byte more than is repaired, so that too many are seen.
-fn run(
-    rt: &HostRuntime,
-    src: &mut [u8],
-    out: &mut [u8],
-    offsets: &mut [usize],
-    changes: &mut [u8],
-) {
-    match streams::read_all(&mut rt.stdin(), src) {
-        Input::Bytes(n) => {
-            if MOST_REPAIRED < n {
-                say(&mut rt.stderr(), b"too long\n");
-                return;
-            }
-            migrate(rt, &src[..n], out, offsets, changes);
-        }
-        Input::Failed => streams::say_unread(&mut rt.stderr()),
+// Reads bytes and repairs them.
+fn run(rt: &HostRuntime, room: &mut Room) -> io::Result<()> {
+    match streams::read_all(&mut rt.stdin(), &mut room.src) {
+        Ok(n) if MOST_REPAIRED < n => say(&mut rt.stderr(), b"too long\n"),
+        Ok(n) => migrate(rt, n, room),
+        Err(_) => streams::say_unread(&mut rt.stderr()),
     }
 }
 
-// Lends room for the bytes and one more, for the largest answer and for the longest list that so many bytes can have.
+// The program's status is 0, also where something could not be written.
 fn main(rt: HostRuntime) {
-    let mut src = [0u8; MOST_REPAIRED + 1];
-    let mut out = [0u8; LONGEST_FLAGS];
-    let mut offsets = [0usize; MOST_LINES];
-    let mut changes = [0u8; MOST_LINES];
-    run(&rt, &mut src, &mut out, &mut offsets, &mut changes);
+    let mut room = Room {
+        src: [0; MOST_REPAIRED + 1],
+        out: [0; LONGEST_FLAGS],
+        offsets: [0; MOST_LINES],
+        changes: [0; MOST_LINES],
+    };
+    let _ = run(&rt, &mut room);
 }

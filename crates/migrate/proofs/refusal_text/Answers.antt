@@ -27,5 +27,7 @@ put_number_line-requires c = rw c.number.ensures (omega (arith, short c.args.ref
 
 pub returns : goal.returns
 returns c =
-    let stands = at-start (word_line "refused " (number c.args.refusal)) _ _ _ (short c.args.refusal c.args.out.now c.requires) (rw c.number.ensures at c.put_number_line.ensures) in
+    let text = word_line "refused " (number c.args.refusal) in
+    let put = rw c.number.ensures at c.put_number_line.ensures in
+    let stands = at-start text _ _ _ (short c.args.refusal c.args.out.now c.requires) put in
     record { prefix_len = stands.0; out_value = stands.1 }
