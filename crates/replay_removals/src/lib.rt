@@ -4,5 +4,5 @@
 mod removals;
 mod splits;
 
-pub use removals::{add_assign, count_removal};
-pub use splits::split;
+pub use removals::{add_assign, has_removal, total_removed_bytes};
+pub use splits::{split_key_removed_bytes, split_value_removed_bytes};

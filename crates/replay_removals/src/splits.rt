@@ -1,72 +1,85 @@
 // Replaying the splits of a removal: 25 of key bytes, 26 of value bytes.
-use records_spec::OWNER_LENGTH;
-use rows_spec::AnsweredRemoval;
-use splitting_spec::Splitting;
-use wire::{
-    TABLE_PLACES, byte_of, take_counts, take_epochs, take_head, take_ids, take_u32, tell_len,
-    tell_no_removal, tell_removal, tell_rows, tell_u8, turn,
-};
+use records_spec::Refusal;
+use rows_spec::{AnsweredRemoval, StorageRemovedBytes};
+use splitting_spec::{Splitting, ValueSplit};
+use wire::{Fault, Field, Flags, Question, Reply, RowTables};
 
 // A removal, or a refusal.
-pub fn tell_answered_removal(reply: &[u8], at: usize, answered: AnsweredRemoval) -> usize {
+pub fn removal_in(answered: AnsweredRemoval) -> Result<StorageRemovedBytes, Refusal> {
     match answered {
-        AnsweredRemoval::Done(removal) => tell_removal(reply, tell_u8(reply, at, 0), removal),
-        AnsweredRemoval::Refused(refusal) => {
-            tell_no_removal(reply, tell_u8(reply, at, byte_of(refusal)))
-        }
+        AnsweredRemoval::Done(removal) => Ok(removal),
+        AnsweredRemoval::Refused(refusal) => Err(refusal),
     }
 }
 
-// A removal and the number of records visited, or a refusal.
-fn tell_splitting(reply: &[u8], at: usize, splitting: Splitting) -> usize {
+// A split of a value's bytes, or a refusal.
+fn split_in(splitting: Splitting) -> Result<ValueSplit, Refusal> {
     match splitting {
-        Splitting::Done(split) => {
-            let visited = tell_removal(reply, tell_u8(reply, at, 0), split.removal);
-            tell_len(reply, visited, split.visited)
-        }
-        Splitting::Refused(refusal) => {
-            let visited = tell_no_removal(reply, tell_u8(reply, at, byte_of(refusal)));
-            tell_len(reply, visited, 0)
-        }
+        Splitting::Done(split) => Ok(split),
+        Splitting::Refused(refusal) => Err(refusal),
     }
 }
 
-// A split: flags, the bytes of the key (25) or the value (26), and the tables that are lent for its rows.
-pub fn split(call: u8, question: &[u8], reply: &[u8]) -> usize {
-    let mut at: usize = 1;
-    let flags = take_head(question, &mut at);
-    let mut epochs = [0u16; TABLE_PLACES];
-    let epochs = take_epochs(question, &mut at, &mut epochs);
-    let mut counts = [0u32; TABLE_PLACES];
-    let counts = take_counts(question, &mut at, &mut counts);
-    let removed = take_u32(question, &mut at);
-    let mut ids = [[0u8; OWNER_LENGTH]; TABLE_PLACES];
-    let ids = take_ids(question, &mut at, &mut ids);
-    let mut row_epochs = [0u16; TABLE_PLACES];
-    let row_epochs = take_epochs(question, &mut at, &mut row_epochs);
-    let mut bytes = [0u32; TABLE_PLACES];
-    let bytes = take_counts(question, &mut at, &mut bytes);
-    let to = turn(question, at);
-    if call == 25 {
-        let key = splitting::split_key_removed_bytes(
-            flags, epochs, counts, removed, ids, row_epochs, bytes,
-        );
-        return tell_rows(
-            reply,
-            tell_answered_removal(reply, to, key),
-            ids,
-            row_epochs,
-            bytes,
-        );
+// What a split is asked with: flags, how many bytes were removed, and the tables that are lent for the rows.
+#[derive(Drop)]
+struct Split {
+    flags: Flags,
+    removed: u32,
+    lent: RowTables<u32>,
+}
+
+impl Split {
+    // Reads it, up to the question's end.
+    fn read(mut question: Question<'_>) -> Result<Self, Fault> {
+        let split = Split {
+            flags: Flags::read(&mut question)?,
+            removed: u32::read(&mut question)?,
+            lent: RowTables::read(&mut question)?,
+        };
+        question.end()?;
+        Ok(split)
     }
-    let value = splitting::split_value_removed_bytes(
-        flags, epochs, counts, removed, ids, row_epochs, bytes,
+}
+
+// The split of key bytes.
+pub fn split_key_removed_bytes(question: Question<'_>, reply: &mut Reply<'_>) -> Result<(), Fault> {
+    let Split {
+        flags,
+        removed,
+        mut lent,
+    } = Split::read(question)?;
+    let split = splitting::split_key_removed_bytes(
+        flags.head,
+        flags.epochs.places(),
+        flags.counts.places(),
+        removed,
+        lent.ids.lent(),
+        lent.epochs.lent(),
+        lent.amounts.lent(),
     );
-    tell_rows(
-        reply,
-        tell_splitting(reply, to, value),
-        ids,
-        row_epochs,
-        bytes,
-    )
+    reply.tell_answer(removal_in(split))?;
+    lent.tell(reply)
+}
+
+// The split of value bytes, and how many records were visited.
+pub fn split_value_removed_bytes(
+    question: Question<'_>,
+    reply: &mut Reply<'_>,
+) -> Result<(), Fault> {
+    let Split {
+        flags,
+        removed,
+        mut lent,
+    } = Split::read(question)?;
+    let split = splitting::split_value_removed_bytes(
+        flags.head,
+        flags.epochs.places(),
+        flags.counts.places(),
+        removed,
+        lent.ids.lent(),
+        lent.epochs.lent(),
+        lent.amounts.lent(),
+    );
+    reply.tell_answer(split_in(split).map(|split| (split.removal, split.visited)))?;
+    lent.tell(reply)
 }
