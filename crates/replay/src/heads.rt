@@ -1,56 +1,54 @@
 // Replaying the calls on a head alone: 18 to 22.
-use records_spec::{Head, MaybeOwner};
-use wire::{
-    take_head, take_id, take_owner, take_u16, tell_bytes, tell_head, tell_u8, tell_u16, turn,
-};
+use records_spec::{Head, MaybeOwner, OWNER_LENGTH, OwnerId};
+use wire::{Fault, Field, Question, Reply};
+
+// An owner or none, as `records` takes it.
+fn maybe_owner(owner: Option<OwnerId>) -> MaybeOwner {
+    MaybeOwner {
+        owned: owner.is_some(),
+        id: owner.unwrap_or([0; OWNER_LENGTH]),
+    }
+}
+
+// An owner or none, of what `records` answers.
+fn owner_in(answer: MaybeOwner) -> Option<OwnerId> {
+    answer.owned.then_some(answer.id)
+}
 
 // The head of flags whose bytes were all paid in one epoch.
-pub fn new_single_epoch(question: &[u8], reply: &[u8]) -> usize {
-    let mut at: usize = 1;
-    let epoch = take_u16(question, &mut at);
-    let owner = take_owner(question, &mut at);
-    let head = records::new_single_epoch(epoch, owner);
-    tell_head(reply, turn(question, at), head)
+pub fn new_single_epoch(mut question: Question<'_>, reply: &mut Reply<'_>) -> Result<(), Fault> {
+    let epoch = u16::read(&mut question)?;
+    let owner = Option::<OwnerId>::read(&mut question)?;
+    question.end()?;
+    records::new_single_epoch(epoch, maybe_owner(owner)).tell(reply)
 }
 
 // The head with another owner.
-pub fn set_owner_id(question: &[u8], reply: &[u8]) -> usize {
-    let mut at: usize = 1;
-    let head = take_head(question, &mut at);
-    let owner = take_id(question, &mut at);
-    tell_head(
-        reply,
-        turn(question, at),
-        records::set_owner_id(head, owner),
-    )
+pub fn set_owner_id(mut question: Question<'_>, reply: &mut Reply<'_>) -> Result<(), Fault> {
+    let head = Head::read(&mut question)?;
+    let owner = OwnerId::read(&mut question)?;
+    question.end()?;
+    records::set_owner_id(head, owner).tell(reply)
+}
+
+// Reads a head, up to the question's end.
+fn read_head(mut question: Question<'_>) -> Result<Head, Fault> {
+    let head = Head::read(&mut question)?;
+    question.end()?;
+    Ok(head)
 }
 
 // The base epoch.
-pub fn base_epoch(question: &[u8], reply: &[u8]) -> usize {
-    let mut at: usize = 1;
-    let head = take_head(question, &mut at);
-    tell_u16(reply, turn(question, at), records::base_epoch(head))
-}
-
-// An owner or none.
-fn tell_owner(reply: &[u8], at: usize, owner: MaybeOwner) -> usize {
-    let id = owner.id;
-    if owner.owned {
-        return tell_bytes(reply, tell_u8(reply, at, 1), &id);
-    }
-    tell_bytes(reply, tell_u8(reply, at, 0), &id)
+pub fn base_epoch(question: Question<'_>, reply: &mut Reply<'_>) -> Result<(), Fault> {
+    records::base_epoch(read_head(question)?).tell(reply)
 }
 
 // The owner or none.
-pub fn owner_id(question: &[u8], reply: &[u8]) -> usize {
-    let mut at: usize = 1;
-    let head = take_head(question, &mut at);
-    tell_owner(reply, turn(question, at), records::owner_id(head))
+pub fn owner_id(question: Question<'_>, reply: &mut Reply<'_>) -> Result<(), Fault> {
+    owner_in(records::owner_id(read_head(question)?)).tell(reply)
 }
 
 // Byte 0.
-pub fn type_byte(question: &[u8], reply: &[u8]) -> usize {
-    let mut at: usize = 1;
-    let head = take_head(question, &mut at);
-    tell_u8(reply, turn(question, at), records::type_byte(head))
+pub fn type_byte(question: Question<'_>, reply: &mut Reply<'_>) -> Result<(), Fault> {
+    records::type_byte(read_head(question)?).tell(reply)
 }

@@ -7,44 +7,53 @@ mod reads;
 mod repairs;
 mod writes;
 
-use wire::{BEYOND, Comparison};
+use wire::{Call, Comparison, Fault, Field, Question, Reply};
 
-// Makes the call of a number, 1 to 26; answers the place in the reply behind what it answers. 14 was the split of key and value bytes at once,
-// and is not used again.
-fn make(call: u8, question: &[u8], reply: &[u8]) -> usize {
+// Makes a call, and holds what it answers against the reply.
+fn make(call: Call, question: Question<'_>, reply: &mut Reply<'_>) -> Result<(), Fault> {
     match call {
-        1..=5 => reads::deserialize(call, question, reply),
-        6 => writes::serialize(question, reply),
-        7 => writes::serialized_size(question, reply),
-        8 => writes::approximate_size(question, reply),
-        9 => owners::combine_owner_id(question, reply),
-        10..=11 => replay_merges::add(call, question, reply),
-        12..=13 => replay_merges::remove(call, question, reply),
-        15 => replay_removals::add_assign(question, reply),
-        16..=17 => replay_removals::count_removal(call, question, reply),
-        18 => heads::new_single_epoch(question, reply),
-        19 => heads::set_owner_id(question, reply),
-        20 => heads::base_epoch(question, reply),
-        21 => heads::owner_id(question, reply),
-        22 => heads::type_byte(question, reply),
-        23 => repairs::repair(question, reply),
-        24 => replay_totals::totals_replace(question, reply),
-        25..=26 => replay_removals::split(call, question, reply),
-        _ => BEYOND,
+        Call::Deserialize => reads::deserialize(question, reply),
+        Call::DeserializeSingleEpoch => reads::deserialize_single_epoch(question, reply),
+        Call::DeserializeMultiEpoch => reads::deserialize_multi_epoch(question, reply),
+        Call::DeserializeSingleEpochOwned => reads::deserialize_single_epoch_owned(question, reply),
+        Call::DeserializeMultiEpochOwned => reads::deserialize_multi_epoch_owned(question, reply),
+        Call::Serialize => writes::serialize(question, reply),
+        Call::SerializedSize => writes::serialized_size(question, reply),
+        Call::ApproximateSize => writes::approximate_size(question, reply),
+        Call::CombineOwnerId => owners::combine_owner_id(question, reply),
+        Call::CombineAddedBytes => replay_merges::combine_added_bytes(question, reply),
+        Call::OptionalCombineAddedBytes => {
+            replay_merges::optional_combine_added_bytes(question, reply)
+        }
+        Call::CombineRemovedBytes => replay_merges::combine_removed_bytes(question, reply),
+        Call::OptionalCombineRemovedBytes => {
+            replay_merges::optional_combine_removed_bytes(question, reply)
+        }
+        Call::AddAssign => replay_removals::add_assign(question, reply),
+        Call::HasRemoval => replay_removals::has_removal(question, reply),
+        Call::TotalRemovedBytes => replay_removals::total_removed_bytes(question, reply),
+        Call::NewSingleEpoch => heads::new_single_epoch(question, reply),
+        Call::SetOwnerId => heads::set_owner_id(question, reply),
+        Call::BaseEpoch => heads::base_epoch(question, reply),
+        Call::OwnerId => heads::owner_id(question, reply),
+        Call::TypeByte => heads::type_byte(question, reply),
+        Call::Repair => repairs::repair(question, reply),
+        Call::TotalsReplace => replay_totals::totals_replace(question, reply),
+        Call::SplitKeyRemovedBytes => replay_removals::split_key_removed_bytes(question, reply),
+        Call::SplitValueRemovedBytes => replay_removals::split_value_removed_bytes(question, reply),
     }
 }
 
-// Replays the call that byte 0 of a question names.
+// Replays the call whose number is a question's first field; the reply has to end where the answer does.
 pub fn replay(question: &[u8], reply: &[u8]) -> Comparison {
-    if question.len() == 0 {
+    let mut question = Question::new(question);
+    let Ok(call) = Call::read(&mut question) else {
         return Comparison::NoQuestion;
+    };
+    let mut reply = Reply::new(reply);
+    match make(call, question, &mut reply).and_then(|()| reply.end()) {
+        Ok(()) => Comparison::Agrees(call),
+        Err(Fault::Differs) => Comparison::Differs(call),
+        Err(Fault::NoQuestion) => Comparison::NoQuestion,
     }
-    let end = make(question[0], question, reply);
-    if end == BEYOND {
-        return Comparison::NoQuestion;
-    }
-    if end == reply.len() {
-        return Comparison::Agrees;
-    }
-    Comparison::Differs
 }

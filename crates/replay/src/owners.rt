@@ -1,36 +1,24 @@
 // Replaying the owner rule: 9.
 use flags_spec::Choice;
-use wire::{byte_of, take_part, take_strategy, tell_part, tell_u8, turn};
+use records_spec::Refusal;
+use wire::{Fault, Question, Reply};
 
-// The number of the refusal in a choice, or 0.
-fn refusal_in_choice(choice: Choice) -> u8 {
+// Whose owner is chosen, 0 none, 1 ours, 2 theirs; or a refusal.
+fn chosen_in(choice: Choice) -> Result<u8, Refusal> {
     match choice {
-        Choice::Neither => 0,
-        Choice::Ours => 0,
-        Choice::Theirs => 0,
-        Choice::Refused(refusal) => byte_of(refusal),
-    }
-}
-
-// Whose owner is chosen: 0 none, 1 ours, 2 theirs.
-fn chosen_in(choice: Choice) -> u8 {
-    match choice {
-        Choice::Neither => 0,
-        Choice::Ours => 1,
-        Choice::Theirs => 2,
-        Choice::Refused(_) => 0,
+        Choice::Neither => Ok(0),
+        Choice::Ours => Ok(1),
+        Choice::Theirs => Ok(2),
+        Choice::Refused(refusal) => Err(refusal),
     }
 }
 
 // The owner rule on two encodings, and the part that is handed back.
-pub fn combine_owner_id(question: &[u8], reply: &[u8]) -> usize {
-    let mut at: usize = 1;
-    let ours = take_part(question, &mut at);
-    let theirs = take_part(question, &mut at);
-    let strategy = take_strategy(question, &mut at);
-    let choice = flags::choose_owner_id(ours, theirs, strategy);
-    let owner = flags::combine_owner_id(ours, theirs, strategy);
-    let which = tell_u8(reply, turn(question, at), refusal_in_choice(choice));
-    let part = tell_u8(reply, which, chosen_in(choice));
-    tell_part(reply, part, owner)
+pub fn combine_owner_id(mut question: Question<'_>, reply: &mut Reply<'_>) -> Result<(), Fault> {
+    let ours = question.part()?;
+    let theirs = question.part()?;
+    let strategy = question.strategy()?;
+    question.end()?;
+    reply.tell_answer(chosen_in(flags::choose_owner_id(ours, theirs, strategy)))?;
+    reply.tell_part(flags::combine_owner_id(ours, theirs, strategy))
 }

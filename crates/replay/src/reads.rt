@@ -1,26 +1,73 @@
 // Replaying the readers: 1 to 5.
-use records_spec::Answered;
-use wire::{TABLE_PLACES, take_counts, take_epochs, take_part, tell_answer, turn};
+use wire::{Fault, Question, Reply, Tables};
 
-// The reader of a number.
-fn deserialize_by(call: u8, src: &[u8], epochs: &mut [u16], counts: &mut [u32]) -> Answered {
-    match call {
-        2 => codec::deserialize_single_epoch(src, epochs, counts),
-        3 => codec::deserialize_multi_epoch(src, epochs, counts),
-        4 => codec::deserialize_single_epoch_owned(src, epochs, counts),
-        5 => codec::deserialize_multi_epoch_owned(src, epochs, counts),
-        _ => codec::deserialize(src, epochs, counts),
+// What a reader is asked with: bytes, and the tables that are lent.
+#[derive(Drop)]
+struct Reading<'a> {
+    src: &'a [u8],
+    lent: Tables,
+}
+
+impl<'a> Reading<'a> {
+    // Reads it, up to the question's end.
+    fn read(mut question: Question<'a>) -> Result<Self, Fault> {
+        let reading = Reading {
+            src: question.part()?,
+            lent: Tables::read(&mut question)?,
+        };
+        question.end()?;
+        Ok(reading)
     }
 }
 
-// A reader: bytes, and the tables that are lent.
-pub fn deserialize(call: u8, question: &[u8], reply: &[u8]) -> usize {
-    let mut at: usize = 1;
-    let src = take_part(question, &mut at);
-    let mut epochs = [0u16; TABLE_PLACES];
-    let epochs = take_epochs(question, &mut at, &mut epochs);
-    let mut counts = [0u32; TABLE_PLACES];
-    let counts = take_counts(question, &mut at, &mut counts);
-    let answered = deserialize_by(call, src, epochs, counts);
-    tell_answer(reply, turn(question, at), answered, epochs, counts)
+// The reader that goes by byte 0.
+pub fn deserialize(question: Question<'_>, reply: &mut Reply<'_>) -> Result<(), Fault> {
+    let Reading { src, mut lent } = Reading::read(question)?;
+    let answered = codec::deserialize(src, lent.epochs.lent(), lent.counts.lent());
+    reply.tell_flags(answered, &lent)
+}
+
+// The reader of kind 0.
+pub fn deserialize_single_epoch(
+    question: Question<'_>,
+    reply: &mut Reply<'_>,
+) -> Result<(), Fault> {
+    let Reading { src, mut lent } = Reading::read(question)?;
+    let answered = codec::deserialize_single_epoch(src, lent.epochs.lent(), lent.counts.lent());
+    reply.tell_flags(answered, &lent)
+}
+
+// The reader of kind 1.
+pub fn deserialize_multi_epoch(question: Question<'_>, reply: &mut Reply<'_>) -> Result<(), Fault> {
+    let Reading { src, mut lent } = Reading::read(question)?;
+    let answered = codec::deserialize_multi_epoch(src, lent.epochs.lent(), lent.counts.lent());
+    reply.tell_flags(answered, &lent)
+}
+
+// The reader of kind 2.
+pub fn deserialize_single_epoch_owned(
+    question: Question<'_>,
+    reply: &mut Reply<'_>,
+) -> Result<(), Fault> {
+    let Reading { src, mut lent } = Reading::read(question)?;
+    let answered = codec::deserialize_single_epoch_owned(
+        src,
+        lent.epochs.lent(),
+        lent.counts.lent(),
+    );
+    reply.tell_flags(answered, &lent)
+}
+
+// The reader of kind 3.
+pub fn deserialize_multi_epoch_owned(
+    question: Question<'_>,
+    reply: &mut Reply<'_>,
+) -> Result<(), Fault> {
+    let Reading { src, mut lent } = Reading::read(question)?;
+    let answered = codec::deserialize_multi_epoch_owned(
+        src,
+        lent.epochs.lent(),
+        lent.counts.lent(),
+    );
+    reply.tell_flags(answered, &lent)
 }

@@ -1,72 +1,55 @@
 // Replaying the writer and the sizes: 6 to 8.
-ghost use Rattle.records_spec.specs.Answers.{counted};
-
 use codec_spec::Changes;
 use records_spec::Counted;
-use wire::{
-    DIFFERS, TABLE_PLACES, byte_of, take_bool, take_bytes, take_counts, take_epochs, take_head,
-    take_u8, take_u16, tell_number, tell_part, tell_u32, turn,
-};
+use wire::{Fault, Field, Flags, Question, Reply, TableOf, count_in};
 
 // The most bytes that are lent for writing in a stored question.
 const ROOM_TO_WRITE: usize = 1024;
 
-// A number of bytes, or a refusal.
-fn tell_counted(reply: &[u8], at: usize, counted: Counted) -> usize {
-    match counted {
-        Counted::Count(n) => {
-            if n < 4294967296 {
-                return tell_number(reply, at, 0, n as u32);
-            }
-            DIFFERS
-        }
-        Counted::Refused(refusal) => tell_number(reply, at, byte_of(refusal), 0),
-    }
+// Holds a number of bytes, which stands in four, or a refusal against a reply.
+fn tell_count(reply: &mut Reply<'_>, counted: Counted) -> Result<(), Fault> {
+    let count = match count_in(counted) {
+        Ok(n) => Ok(u32::try_from(n).map_err(|_| Fault::Differs)?),
+        Err(refusal) => Err(refusal),
+    };
+    reply.tell_answer(count)
 }
 
 // The writer: flags, and the bytes that are lent.
-pub fn serialize(question: &[u8], reply: &[u8]) -> usize {
-    let mut at: usize = 1;
-    let flags = take_head(question, &mut at);
-    let mut epochs = [0u16; TABLE_PLACES];
-    let epochs = take_epochs(question, &mut at, &mut epochs);
-    let mut counts = [0u32; TABLE_PLACES];
-    let counts = take_counts(question, &mut at, &mut counts);
-    let mut out = [0u8; ROOM_TO_WRITE];
-    let out = take_bytes(question, &mut at, &mut out);
-    let counted = codec::serialize(flags, epochs, counts, out);
-    let to = tell_counted(reply, turn(question, at), counted);
-    tell_part(reply, to, out)
+pub fn serialize(mut question: Question<'_>, reply: &mut Reply<'_>) -> Result<(), Fault> {
+    let flags = Flags::read(&mut question)?;
+    let mut out = TableOf::<u8, ROOM_TO_WRITE>::read(&mut question)?;
+    question.end()?;
+    let counted = codec::serialize(
+        flags.head,
+        flags.epochs.places(),
+        flags.counts.places(),
+        out.lent(),
+    );
+    tell_count(reply, counted)?;
+    out.tell(reply)
 }
 
 // The size of flags.
-pub fn serialized_size(question: &[u8], reply: &[u8]) -> usize {
-    let mut at: usize = 1;
-    let flags = take_head(question, &mut at);
-    let mut epochs = [0u16; TABLE_PLACES];
-    let epochs = take_epochs(question, &mut at, &mut epochs);
-    let mut counts = [0u32; TABLE_PLACES];
-    let counts = take_counts(question, &mut at, &mut counts);
-    let counted = codec::serialized_size(flags, epochs, counts);
-    tell_counted(reply, turn(question, at), counted)
+pub fn serialized_size(mut question: Question<'_>, reply: &mut Reply<'_>) -> Result<(), Fault> {
+    let flags = Flags::read(&mut question)?;
+    question.end()?;
+    let counted = codec::serialized_size(flags.head, flags.epochs.places(), flags.counts.places());
+    tell_count(reply, counted)
 }
 
 // The changes, if given.
-fn take_changes(question: &[u8], at: &mut usize) -> Changes {
-    let given = take_bool(question, at);
-    let changes = take_u16(question, at);
-    let size = take_u8(question, at);
-    if given {
-        return Changes::Given(changes, size);
+fn changes_of(changes: Option<(u16, u8)>) -> Changes {
+    match changes {
+        Some((changes, size)) => Changes::Given(changes, size),
+        None => Changes::NotGiven,
     }
-    Changes::NotGiven
 }
 
 // The size of flags before they are made.
-pub fn approximate_size(question: &[u8], reply: &[u8]) -> usize {
-    let mut at: usize = 1;
-    let has_owner = take_bool(question, &mut at);
-    let changes = take_changes(question, &mut at);
-    let size = codec::approximate_size(has_owner, changes);
-    tell_u32(reply, turn(question, at), size)
+pub fn approximate_size(mut question: Question<'_>, reply: &mut Reply<'_>) -> Result<(), Fault> {
+    let has_owner = bool::read(&mut question)?;
+    let changes = Option::<(u16, u8)>::read(&mut question)?;
+    question.end()?;
+    codec::approximate_size(has_owner, changes_of(changes)).tell(reply)
 }
