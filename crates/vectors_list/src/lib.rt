@@ -2,8 +2,7 @@
 #![tactic(auto)]
 
 mod line;
-mod names;
 mod tally;
 
 pub use line::TextLine;
-pub use tally::{PLACES, differs, note, print};
+pub use tally::Tally;

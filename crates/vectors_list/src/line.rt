@@ -1,142 +1,121 @@
-// A line of the list, read byte by byte: hex digits of a question, `=`, hex digits of the reply. Blanks may stand anywhere. The bytes of
-// both stand in one text, the reply's behind the question's.
+// A line of the list, read byte by byte: hex digits of a question, `=`, hex digits of the reply. Blanks may stand anywhere.
+ghost use Rattle.std.specs.Prelude.{◌≤◌};
+ghost use Rattle.vectors_list.specs.declared.line.TheConstants.{LINE_BYTES};
+
+// The most bytes that a line says: a question and its reply.
+const LINE_BYTES: usize = 2048;
 
 // What has come of a line.
-const NOTHING: u8 = 0;
-
-const QUESTION: u8 = 1;
-
-const REPLY: u8 = 2;
-
-const COMMENT: u8 = 3;
-
-const WRONG: u8 = 4;
-
-// No digit; also what is said of a byte that is none.
-const NO_DIGIT: u8 = 16;
-
-// The state of a line: its number, what has come, the first digit of a byte whose second is to come, and where the reply begins and ends in
-// the text.
 #[derive(Clone, Copy)]
+enum Part {
+    Nothing,
+    Question,
+    Reply,
+    Comment,
+    Wrong,
+}
+
+// A line: its number, what has come of it, the first digit of a byte whose second is to come, and the bytes of the question and the reply, one
+// behind the other, with the places where the reply begins and where it ends.
+#[derive(Drop)]
 pub struct TextLine {
-    pub number: u64,
-    pub part: u8,
-    pub digit: u8,
-    pub turn: usize,
-    pub end: usize,
+    number: u64,
+    part: Part,
+    digit: Option<u8>,
+    bytes: [u8; LINE_BYTES],
+    turn: usize,
+    end: usize,
+    ghost in_order: { turn ≤ end },
+    ghost in_bytes: { end ≤ LINE_BYTES },
 }
 
 impl TextLine {
-    // A line of which nothing has come.
-    pub fn new(number: u64) -> Self {
+    // The first line, of which nothing has come.
+    pub fn first() -> Self {
         TextLine {
-            number,
-            part: NOTHING,
-            digit: NO_DIGIT,
+            number: 1,
+            part: Part::Nothing,
+            digit: None,
+            bytes: [0; LINE_BYTES],
             turn: 0,
             end: 0,
         }
     }
 
-    // The line behind this one.
-    pub fn next(self) -> Self {
-        TextLine::new(std::num::wrapping_add_u64(self.number, 1))
+    // Goes on to the next line, of which nothing has come.
+    pub fn go_on(&mut self) {
+        self.number = self.number.wrapping_add(1);
+        self.part = Part::Nothing;
+        self.digit = None;
+        self.turn = 0;
+        self.end = 0;
+    }
+
+    // The line's number.
+    pub fn number(&self) -> u64 {
+        self.number
     }
 
     // Whether there is nothing on the line, or a comment.
-    pub fn is_passed_over(self) -> bool {
-        if self.part == NOTHING {
-            return true;
+    pub fn is_passed_over(&self) -> bool {
+        matches!(self.part, Part::Nothing | Part::Comment)
+    }
+
+    // The question and the reply, where the line has both, of whole bytes.
+    pub fn vector(&self) -> Option<(&[u8], &[u8])> {
+        match (self.part, self.digit) {
+            (Part::Reply, None) => Some((
+                &self.bytes[..self.turn],
+                &self.bytes[self.turn..self.end],
+            )),
+            _ => None,
         }
-        self.part == COMMENT
     }
 
-    // Whether the line has a question and a reply of whole bytes.
-    pub fn is_whole(self) -> bool {
-        if self.part == REPLY {
-            return self.digit == NO_DIGIT;
-        }
-        false
-    }
-
-    // The line with another part.
-    fn with(mut self, part: u8) -> Self {
-        self.part = part;
-        self
-    }
-
-    // The line with the `=`, which stands behind the question's whole bytes.
-    fn turned(mut self) -> Self {
-        self.turn = self.end;
-        if self.part == QUESTION {
-            if self.digit == NO_DIGIT {
-                return self.with(REPLY);
+    // Takes the next byte of the line.
+    pub fn take(&mut self, byte: u8) {
+        match (self.part, byte) {
+            (Part::Comment, _) | (_, b' ' | b'\t' | b'\r') => {}
+            (Part::Nothing, b'#') => self.part = Part::Comment,
+            (Part::Question, b'=') if self.digit.is_none() => {
+                self.part = Part::Reply;
+                self.turn = self.end;
             }
-            return self.with(WRONG);
+            _ => match digit_of(byte) {
+                Some(digit) => self.take_digit(digit),
+                None => self.part = Part::Wrong,
+            },
         }
-        self.with(WRONG)
     }
 
-    // The line with a first digit.
-    fn begun(mut self, digit: u8) -> Self {
-        self.digit = digit;
-        if self.part == NOTHING {
-            return self.with(QUESTION);
-        }
-        self
-    }
-
-    // The line with one byte more, if there is room for it.
-    fn with_byte(mut self, byte: u8, text: &mut [u8]) -> Self {
-        self.digit = NO_DIGIT;
-        let end = self.end;
-        if end < text.len() {
-            text[end] = byte;
-            self.end = end + 1;
-            return self;
-        }
-        self.with(WRONG)
-    }
-
-    // The line with one byte of the list more.
-    pub fn step(self, byte: u8, text: &mut [u8]) -> Self {
-        if self.part == COMMENT {
-            return self;
-        }
-        match byte {
-            b' ' | b'\t' | b'\r' => self,
-            b'=' => self.turned(),
-            b'#' => {
-                if self.part == NOTHING {
-                    return self.with(COMMENT);
+    // Takes a digit: the first of a byte, or the second, which makes the line wrong where there is no room for the byte.
+    fn take_digit(&mut self, digit: u8) {
+        match self.digit {
+            None => {
+                self.digit = Some(digit);
+                if let Part::Nothing = self.part {
+                    self.part = Part::Question;
                 }
-                self.with(WRONG)
             }
-            _ => self.with_digit(digit_of(byte), text),
+            Some(first) => {
+                self.digit = None;
+                if self.end < LINE_BYTES {
+                    self.bytes[self.end] = first << 4 | digit;
+                    self.end += 1;
+                } else {
+                    self.part = Part::Wrong;
+                }
+            }
         }
-    }
-
-    // The line with one digit more; what is none makes the line wrong.
-    fn with_digit(self, digit: u8, text: &mut [u8]) -> Self {
-        if NO_DIGIT <= digit {
-            return self.with(WRONG);
-        }
-        if self.part == WRONG {
-            return self;
-        }
-        if self.digit < NO_DIGIT {
-            return self.with_byte(self.digit * 16 + digit, text);
-        }
-        self.begun(digit)
     }
 }
 
-// The value of a hex digit, or `NO_DIGIT`.
-fn digit_of(byte: u8) -> u8 {
+// The value of a hex digit.
+fn digit_of(byte: u8) -> Option<u8> {
     match byte {
-        b'0'..=b'9' => byte - b'0',
-        b'a'..=b'f' => byte - b'a' + 10,
-        b'A'..=b'F' => byte - b'A' + 10,
-        _ => NO_DIGIT,
+        b'0'..=b'9' => Some(byte - b'0'),
+        b'a'..=b'f' => Some(byte - b'a' + 10),
+        b'A'..=b'F' => Some(byte - b'A' + 10),
+        _ => None,
     }
 }

@@ -1,123 +1,95 @@
-// How many answers agree and how many differ, by call: the first places of a tally count those that agree, one for each call number, and the
-// others those that differ. Place 0 of these counts lines that are no vectors.
-use crate::names::{print_name, put};
+// How many answers agree and how many differ.
+use std::fmt;
 use std::io::Write;
-use wire::Comparison;
+use wire::{CALLS, Comparison};
 
-// One more than the largest call number.
-const CALLS: usize = 27;
-
-// The places of a tally: two for each call number.
-pub const PLACES: usize = 2 * CALLS;
-
-// The number of a call that is there no more.
-const RETIRED: usize = 14;
+// One more than the largest number of a call.
+const NUMBERS: usize = 27;
 
 // The most faults that are named.
 const NAMED: u64 = 10;
 
-// What stands at a place.
-fn tally_at(tally: &[u64], at: usize) -> u64 {
-    if at < tally.len() {
-        return tally[at];
-    }
-    0
+// How many answers agree, and how many differ.
+#[derive(Clone, Copy)]
+struct Count {
+    agree: u64,
+    differ: u64,
 }
 
-// Counts one more at a place.
-fn add_one(tally: &mut [u64], at: usize) {
-    if at < tally.len() {
-        let n = tally[at];
-        tally[at] = std::num::wrapping_add_u64(n, 1);
+impl Count {
+    // Counts one that agrees.
+    fn agrees(&mut self) {
+        self.agree = self.agree.wrapping_add(1);
     }
-}
 
-// The sum of the places from one up to another.
-fn tally_between(tally: &[u64], from: usize, to: usize) -> u64 {
-    let mut sum: u64 = 0;
-    let mut at = from;
-    while at < to {
-        sum = std::num::wrapping_add_u64(sum, tally_at(tally, at));
-        at += 1;
-    }
-    sum
-}
-
-// Counts a line that differs, or under 0 one that is no vector; the first ones are named.
-pub fn differs<W: Write>(output: &mut W, number: u64, call: usize, tally: &mut [u64]) {
-    if tally_between(tally, CALLS, PLACES) < NAMED {
-        put(output, b"line ");
-        print_decimal(output, number);
-        put(output, b": ");
-        name_fault(output, call);
-    }
-    if call < CALLS {
-        add_one(tally, CALLS + call);
+    // Counts one that differs.
+    fn differs(&mut self) {
+        self.differ = self.differ.wrapping_add(1);
     }
 }
 
-// Counts what came of the question on a line, whose call has this number.
-pub fn note<W: Write>(
-    output: &mut W,
-    number: u64,
-    call: u8,
-    verdict: Comparison,
-    tally: &mut [u64],
-) {
-    match verdict {
-        Comparison::Agrees => add_one(tally, call as usize),
-        Comparison::Differs => differs(output, number, call as usize, tally),
-        Comparison::NoQuestion => differs(output, number, 0, tally),
+// How many of so many agree.
+impl fmt::Display for Count {
+    fn fmt<W: fmt::Write>(&self, f: &mut fmt::Formatter<W>) -> fmt::Result {
+        let agree = self.agree;
+        let all = agree.wrapping_add(self.differ);
+        write!(f, "{agree} of {all}")
     }
 }
 
-// Writes a number.
-fn print_decimal<W: Write>(output: &mut W, n: u64) {
-    let _ = write!(output, "{n}");
+// The answers of each call, by its number, and all answers, among which lines that are no vectors count as those that differ.
+#[derive(Drop)]
+pub struct Tally {
+    by_call: [Count; NUMBERS],
+    all: Count,
 }
 
-// Says what is wrong with a line.
-fn name_fault<W: Write>(output: &mut W, call: usize) {
-    if call == 0 {
-        put(output, b"not a vector\n");
-        return;
-    }
-    print_name(output, call);
-    put(output, b" differs\n");
-}
-
-// Writes how many of so many agree.
-fn print_share<W: Write>(output: &mut W, agree: u64, differ: u64) {
-    print_decimal(output, agree);
-    put(output, b" of ");
-    print_decimal(output, std::num::wrapping_add_u64(agree, differ));
-}
-
-// Writes the line of a call.
-fn print_call<W: Write>(output: &mut W, call: usize, tally: &[u64]) {
-    print_name(output, call);
-    put(output, b": ");
-    print_share(
-        output,
-        tally_at(tally, call),
-        tally_at(tally, std::num::wrapping_add_usize(CALLS, call)),
-    );
-    put(output, b"\n");
-}
-
-// Writes the line of each call, and the last line.
-pub fn print<W: Write>(output: &mut W, tally: &[u64]) {
-    let mut call: usize = 1;
-    while call < CALLS {
-        if call != RETIRED {
-            print_call(output, call, tally);
+impl Tally {
+    // The tally before the first line.
+    pub fn new() -> Self {
+        let none = Count {
+            agree: 0,
+            differ: 0,
+        };
+        Tally {
+            by_call: [none; NUMBERS],
+            all: none,
         }
-        call += 1;
     }
-    print_share(
-        output,
-        tally_between(tally, 0, CALLS),
-        tally_between(tally, CALLS, PLACES),
-    );
-    put(output, b" answers agree\n");
+
+    // Counts what came of the line of a number, and names it where it is one of the first that differ.
+    pub fn note<W: Write>(&mut self, output: &mut W, number: u64, comparison: Comparison) {
+        match comparison {
+            Comparison::Agrees(call) => {
+                self.by_call[call as usize].agrees();
+                self.all.agrees();
+            }
+            Comparison::Differs(call) => {
+                self.name(output, number, format_args!("{call} differs"));
+                self.by_call[call as usize].differs();
+                self.all.differs();
+            }
+            Comparison::NoQuestion => {
+                self.name(output, number, "not a vector");
+                self.all.differs();
+            }
+        }
+    }
+
+    // Says what is wrong with the line of a number, where not enough are named yet. A write that fails is passed over.
+    fn name<W: Write>(&self, output: &mut W, number: u64, fault: impl fmt::Display + Drop) {
+        if self.all.differ < NAMED {
+            let _ = writeln!(output, "line {number}: {fault}");
+        }
+    }
+
+    // Writes the line of each call, and the last line. A write that fails is passed over, and the next one is tried.
+    pub fn print<W: Write>(&self, output: &mut W) {
+        for call in CALLS {
+            let count = self.by_call[call as usize];
+            let _ = writeln!(output, "{call}: {count}");
+        }
+        let all = self.all;
+        let _ = writeln!(output, "{all} answers agree");
+    }
 }
