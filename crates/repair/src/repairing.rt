@@ -2,7 +2,7 @@
 ghost use Rattle.std.specs.Prelude.{◌≡◌, true, false, List, [], ℕ, ◌≤◌, ◌<◌, length};
 ghost use Rattle.records_spec.specs.Flags.{multi};
 ghost use Rattle.codec_spec.specs.Bytes.{head_size};
-ghost use Rattle.records_spec.specs.Outcomes.{ok, after, answered};
+ghost use Rattle.records_spec.specs.Outcomes.{answered, ok, after};
 ghost use Rattle.repair_spec.specs.Repairing.{repaired_as};
 ghost use Rattle.repair_spec.specs.Calls.{repaired_into, placing_repair, repair_lent, repair_was, repair_left};
 ghost use Rattle.repair_spec.specs.Inner.Steps.{kind_left, Blank, Settled, Ready};

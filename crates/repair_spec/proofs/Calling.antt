@@ -24,7 +24,7 @@ use Rattle.codec_spec.specs.declared.judging.Fault.{Fault}
 use Rattle.codec_spec.specs.Reading.{no_flags, some_flags, refused_at, with_records, base_in, owner_in, records_in, read_as, read_byte, read}
 use Rattle.repair_spec.specs.Repairing.{Repaired, repaired, repaired_as, repaired_byte}
 use Rattle.repair_spec.specs.Calls.{offsets_of, changes_of, repaired_into, placing_repair, repair_lent}
-use Rattle.std.specs.Prelude.{Result, Ok, Err}
+use Rattle.std.specs.Prelude.{Ok, Err}
 use Rattle.repair_spec.specs.declared.repairing.Sizes.{Sizes}
 use Rattle.records_spec.specs.Outcomes.{answered}
 use Rattle.repair_spec.proofs.CanonicalBack.{canonical_back, nothing_back}

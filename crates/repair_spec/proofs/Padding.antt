@@ -1,29 +1,32 @@
 -- Varints longer than minimal: where one ends, and what its groups say, summed from the last down and never past the first number that
 -- is too large. Assumes nothing.
-use Prim.Native.Nat.{ℕ, suc, ◌+◌, ◌-◌, ◌*◌, ◌%◌, ◌≤◌, ◌<◌}
-use native.Mathlib.Decide.{dec_lt}
-use native.Mathlib.Numerals.{add-one}
-use native.Mathlib.Omega.{arith}
-use mathlib.Core.Path.{◌≡◌, sym, ap, ◌∙◌}
-use mathlib.Core.List.{List}
-use borrow.Author.Tests.{le-leb, lt-leb}
-use lib.ListN.{length, get_or, take, drop, drop_of_length-le}
-use lib.Seq.{drop-cons}
+use Rattle.std.proofs.Common.{◌≡◌, refl, sym, ap, ◌∙◌, ℕ, suc, ◌+◌, ◌-◌, ◌*◌, ◌%◌, ◌≤◌, ◌<◌, ltb, List, [], ◌∷◌, length, get_or, take, drop, reverse}
+use Rattle.std.proofs.Common.{Some, position, arith, le-leb, lt-ltb, le-ltb, drop-cons, drop_of_length-le}
+use Rattle.std.proofs.Math.Decide.{dec_lt}
+use Rattle.std.proofs.lemmas.List.{get_or-reverse, length-reverse, get_or_default}
+use Rattle.std.specs.List.{position_or_len}
+use borrow.Author.Tests.{lt-leb}
 use Rattle.fields_spec.specs.Varint.{largest, high, value}
 use Rattle.fields_spec.proofs.Places.{high_low, high_high, high_nil, value_cons, value_nil}
 use Rattle.repair_spec.specs.Inner.Steps.{count_capped}
 
 -- ---- where it ends
 
-module _ (d : List ℕ) (k : ℕ) where
-  pub high_ends : k < length d → get_or d k 0 < 128 → high (drop k d) ≡ 0
-  high_ends h l = ap high (drop-cons d k 0 h) ∙ high_low (get_or d k 0) (drop (suc k) d) l
-
-  pub high_goes : k < length d → 128 ≤ get_or d k 0 → high (drop k d) ≡ suc (high (drop (k + 1) d))
-  high_goes h l = rw add-one (ap high (drop-cons d k 0 h) ∙ high_high (get_or d k 0) (drop (suc k) d) l)
-
-  pub high_out : length d ≤ k → high (drop k d) ≡ 0
-  high_out h = ap high (drop_of_length-le d {i = k} h) ∙ high_nil
+-- its last byte is the first without the top bit
+pub first_low : (xs : List ℕ) → high xs < length xs → position (λ (b : ℕ). ltb b 128) xs ≡ Some (high xs)
+first_low xs h =
+    let m : position_or_len (λ (b : ℕ). ltb b 128) xs ≡ high xs = low_high xs in
+    rw m (rw (lt-ltb (high xs) (length xs) h) refl)
+  where
+    low_high : (xs : List ℕ) → position_or_len (λ (b : ℕ). ltb b 128) xs ≡ high xs
+    low_high [] = sym high_nil
+    low_high (x ∷ xs) =
+        elim (dec_lt x 128) [
+          | yes l ↦ simp (lt-ltb x 128 l) (omega (arith, high_low x xs l))
+          | no h ↦
+              let l : 128 ≤ x = omega arith in
+              simp (le-ltb x 128 l) (omega (arith, low_high xs, high_high x xs l))
+        ]
 
 -- ---- what it says
 
@@ -32,13 +35,6 @@ capped_fits n h = rw (le-leb n largest h)
 
 pub capped_large : (n : ℕ) → largest < n → count_capped n ≡ suc largest
 capped_large n h = rw (lt-leb n largest h)
-
-pub capped_most : (n : ℕ) → count_capped n ≤ suc largest
-capped_most n =
-    elim (dec_lt largest n) [
-      | yes h ↦ omega (arith, capped_large n h)
-      | no h ↦ omega (arith, capped_fits n (omega arith))
-    ]
 
 pub capped_small : (n : ℕ) → count_capped n ≤ largest → count_capped n ≡ n
 capped_small n h =
@@ -71,14 +67,20 @@ capped_turn n b =
 abbrev pub says : List ℕ → ℕ → ℕ → ℕ
 says d i end = value (take (end - i) (drop i d))
 
-pub says_none : (d : List ℕ) (end : ℕ) → says d end end ≡ 0
-says_none d end =
-    let z : end - end ≡ 0 = omega arith in
-    ap (λ (n : ℕ). value (take n (drop end d))) z ∙ value_nil
+-- of groups that are walked from the back, the item after k turns stands before the last k
+pub group_from_back : (xs : List ℕ) (k x : ℕ) → (k < length (reverse xs)) × (x ≡ get_or (reverse xs) k x)
+    → value (drop (length xs - (k + 1)) xs) ≡ x % 128 + 128 * value (drop (length xs - k) xs)
+group_from_back xs k x t =
+    let h : k < length xs = omega (arith, length-reverse xs) in
+    let i : ℕ = length xs - (k + 1) in
+    let same : length xs - 1 - k ≡ i = omega arith in
+    let more : suc i ≡ length xs - k = omega arith in
+    let item : x ≡ get_or xs i 0 = t.1 ∙ get_or-reverse xs k x h ∙ rw same (get_or_default xs i x 0 (omega arith)) in
+    ap value (drop-cons xs i 0 (omega arith)) ∙ value_cons (get_or xs i 0) (drop (suc i) xs)
+    ∙ ap (λ (y : ℕ). y % 128 + 128 * value (drop (suc i) xs)) (sym item)
+    ∙ ap (λ (j : ℕ). x % 128 + 128 * value (drop j xs)) more
 
-pub says_more : (d : List ℕ) (i end : ℕ) → i < end → end ≤ length d → says d i end ≡ get_or d i 0 % 128 + 128 * says d (suc i) end
-says_more d i end h l =
-    let z : end - i ≡ suc (end - suc i) = omega arith in
-    ap (λ (n : ℕ). value (take n (drop i d))) z
-    ∙ ap (λ (xs : List ℕ). value (take (suc (end - suc i)) xs)) (drop-cons d i 0 (omega arith))
-    ∙ value_cons (get_or d i 0) (take (end - suc i) (drop (suc i) d))
+-- none of them are passed yet
+pub capped_none : (xs : List ℕ) → count_capped (value (drop (length xs - 0) xs)) ≡ 0
+capped_none xs =
+    ap (λ (ys : List ℕ). count_capped (value ys)) (drop_of_length-le xs (omega arith)) ∙ ap count_capped value_nil ∙ capped_fits 0 (omega arith)

@@ -5,20 +5,19 @@ use native.Mathlib.Omega.{arith}
 use mathlib.Core.Path.{◌≡◌, refl, sym, ap, ap₂, ◌∙◌}
 use mathlib.Core.Bool.{Bool, true, false, cond}
 use mathlib.Core.List.{List, []}
-use borrow.Author.Tests.{lt-ltb}
 use lib.Dec.{ltb}
 use lib.ListN.{length, get_or, take, drop, replicate, length-replicate}
 use Rattle.fields_spec.specs.Big.{said}
 use Rattle.fields_spec.specs.Theorems.{Bytes}
 use Rattle.records_spec.specs.Tables.{At, epochs_of, counts_of}
 use Rattle.records_spec.specs.Inner.Tables.{Placed}
-use Rattle.records_spec.specs.Flags.{owned, multi, owner_length, owner_if, head_for, head_of, agrees}
+use Rattle.records_spec.specs.Flags.{owned, multi, owner_length, owner_if, head_for, head_of}
 use Rattle.records_spec.specs.declared.head.Kind.{Kind}
 use Rattle.records_spec.specs.declared.head.Kind.TheVariants.{SingleEpoch, SingleEpochOwned}
 use Rattle.records_spec.specs.declared.head.Head.{Head}
 use Rattle.records_spec.proofs.Tables.{length_epochs_of, length_counts_of, over_sets, over_first, placed_long}
 use Rattle.records_spec.proofs.Proper.{stand_proper, stand_flags}
-use Rattle.codec_spec.specs.Bytes.{behind_kind, behind_owner, unowned_head, owned_head, head_size}
+use Rattle.codec_spec.specs.Bytes.{behind_kind, behind_owner, head_size}
 use Rattle.codec_spec.specs.Reading.{base_in, owner_in}
 use Rattle.codec_spec.specs.Theorems.{Canonical}
 use Rattle.repair_spec.specs.Olds.{Old, Olds}

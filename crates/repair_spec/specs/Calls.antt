@@ -1,7 +1,7 @@
 -- What the call of this crate answers and leaves. Assumes nothing.
 use Rattle.std.specs.Prelude.{ℕ, ◌&&◌, List, [], ◌∷◌, leb, length}
 use Rattle.records_spec.specs.Tables.{over}
-use Rattle.records_spec.specs.Outcomes.{Answer, ok, ◌>>=◌, After, leaving, placed}
+use Rattle.records_spec.specs.Outcomes.{Answer, ◌>>=◌, After, leaving, placed}
 use Rattle.records_spec.specs.Answers.{room_for}
 use Rattle.repair_spec.specs.Changes.{Line, change_number}
 use Rattle.repair_spec.specs.Repairing.{Repaired, repaired}

@@ -14,11 +14,13 @@ repair_faulty-requires c =
 pub returns-in-Ok-None : goal.returns-in-Ok-None
 returns-in-Ok-None c =
     let a = c.args in
-    call_nothing a.src.now a.out.now a.offsets.now a.changes.now (judged_absent (read a.src.now) (sym c.judge.ensures ∙ (rw c.in-Ok-None.field-0-is at c.in-Ok-None.is)))
+    let judged = sym c.judge.ensures ∙ rw c.in-Ok-None.field-0-is at c.in-Ok-None.is in
+    call_nothing a.src.now a.out.now a.offsets.now a.changes.now (judged_absent (read a.src.now) judged)
 
 pub returns-in-Ok-Some : goal.returns-in-Ok-Some
 returns-in-Ok-Some c =
     let a = c.args in
     let bytes : Bytes a.src.now = λ i. (c.type_inv.src i).fits in
-    let flags = judged_present (read a.src.now) _ (sym c.judge.ensures ∙ (rw c.in-Ok-Some.field-0-is at c.in-Ok-Some.is)) in
+    let judged = sym c.judge.ensures ∙ rw c.in-Ok-Some.field-0-is at c.in-Ok-Some.is in
+    let flags = judged_present (read a.src.now) _ judged in
     c.keep.ensures a.offsets.now a.changes.now ∙ call_canonical a.src.now a.out.now a.offsets.now a.changes.now flags.0 bytes flags.1
