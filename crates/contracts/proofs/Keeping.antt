@@ -6,8 +6,8 @@ use mathlib.Core.Bool.{true, ◌&&◌}
 use Prim.Native.Nat.{ℕ}
 use Rattle.records_spec.specs.Refusals.{number}
 use Rattle.records_spec.specs.declared.refusal.Refusal.{Refusal}
-use Rattle.std.specs.Prelude.{Result, Ok, Err}
-use Rattle.records_spec.specs.Outcomes.{answered}
+use Rattle.std.specs.Prelude.{List, Option, None, Some, Result, Ok, Err}
+use Rattle.records_spec.specs.Outcomes.{answered, ok}
 use Rattle.records_spec.specs.Answers.{placing_if, writing}
 use Rattle.codec_spec.specs.Calls.{serialized}
 use Rattle.flags_spec.specs.Calls.{handed_on, combined_added}
@@ -84,6 +84,11 @@ choice_keeps x (Err r) e h =
     let z : x.refusal ≡ number r = ap (λ (a : COwner). a.refusal) e in
     e ∙ ap (λ (n : ℕ). record { refusal = n; which = 0 }) (sym z)
 
+-- an owner that is answered, or none, has no refusal's number
+owner_id_number : (o : Option (List ℕ)) → (owner_id_told (ok o)).refusal ≡ 0
+owner_id_number None = refl
+owner_id_number (Some o) = refl
+
 pub keeps_c : (c : CallForC) → Keeps (contract_c c)
 unfolding placing_if writing serialized handed_on combined_added combined_removed handed_on_beside summed split_key split_value placing_repair replacing
     replacing_structs placing_structs
@@ -105,7 +110,7 @@ keeps_c CallsForC.petasunok_set_owner_id κs i x e p h =
 keeps_c CallsForC.petasunok_base_epoch κs i x e p h =
     (c_keeps count_told (λ (a : CCount). a.refusal) (λ a. refl) (λ n. refl) x (base_c i.0) p h, refl)
 keeps_c CallsForC.petasunok_owner_id κs i x e p h =
-    (c_keeps owner_id_told (λ (a : CMaybeOwner). a.refusal) (λ a. refl) (λ n. refl) x (owner_id_c i.0) p h, refl)
+    (c_keeps owner_id_told (λ (a : CMaybeOwner). a.refusal) owner_id_number (λ n. refl) x (owner_id_c i.0) p h, refl)
 keeps_c CallsForC.petasunok_type_byte κs i x e p h =
     (c_keeps count_told (λ (a : CCount). a.refusal) (λ a. refl) (λ n. refl) x (type_byte_c i.0) p h, refl)
 keeps_c CallsForC.petasunok_combine_owner_id κs i x e p h = (choice_keeps x (owner_c i.1.1.0 i.0.now i.1.0.now) p h, refl)

@@ -7,7 +7,7 @@ ghost use Rattle.records_spec.specs.Refusals.{number};
 ghost use Rattle.listing_spec.specs.Text.{word_line};
 
 use records_spec::Refusal;
-use repair_spec::{AnsweredRepair, LONGEST_FLAGS};
+use repair_spec::LONGEST_FLAGS;
 use std::io;
 use streams::say;
 
@@ -29,7 +29,7 @@ fn refusal_text(refusal: Refusal, out: &mut [u8]) -> usize
     ensures prefix_len { IsPrefixLen result out.new }
     ensures out_value { take result out.new ≡ word_line "refused " (number refusal) }
 {
-    listing::put_number_line(out, 0, b"refused ", records::number(refusal) as u64)
+    listing::put_number_line(out, 0, b"refused ", u64::from(u32::from(refusal)))
 }
 
 // Says which refusal there is.
@@ -84,8 +84,8 @@ fn migrate(rt: &HostRuntime, n: usize, room: &mut Room) -> io::Result<()>
         &mut room.offsets,
         &mut room.changes,
     ) {
-        AnsweredRepair::Done { bytes, lines } => write_repaired(rt, bytes, lines, room),
-        AnsweredRepair::Refused(refusal) => say_refused(rt, refusal),
+        Ok(sizes) => write_repaired(rt, sizes.bytes, sizes.lines, room),
+        Err(refusal) => say_refused(rt, refusal),
     }
 }
 

@@ -1,26 +1,13 @@
 // Replaying the calls on a head alone: 18 to 22.
-use records_spec::{Head, MaybeOwner, OWNER_LENGTH, OwnerId};
+use records_spec::{Head, OwnerId};
 use wire::{Fault, Field, Question, Reply};
-
-// An owner or none, as `records` takes it.
-fn maybe_owner(owner: Option<OwnerId>) -> MaybeOwner {
-    MaybeOwner {
-        owned: owner.is_some(),
-        id: owner.unwrap_or([0; OWNER_LENGTH]),
-    }
-}
-
-// An owner or none, of what `records` answers.
-fn owner_in(answer: MaybeOwner) -> Option<OwnerId> {
-    answer.owned.then_some(answer.id)
-}
 
 // The head of flags whose bytes were all paid in one epoch.
 pub fn new_single_epoch(mut question: Question<'_>, reply: &mut Reply<'_>) -> Result<(), Fault> {
     let epoch = u16::read(&mut question)?;
     let owner = Option::<OwnerId>::read(&mut question)?;
     question.end()?;
-    records::new_single_epoch(epoch, maybe_owner(owner)).tell(reply)
+    records::new_single_epoch(epoch, owner).tell(reply)
 }
 
 // The head with another owner.
@@ -45,7 +32,7 @@ pub fn base_epoch(question: Question<'_>, reply: &mut Reply<'_>) -> Result<(), F
 
 // The owner or none.
 pub fn owner_id(question: Question<'_>, reply: &mut Reply<'_>) -> Result<(), Fault> {
-    owner_in(records::owner_id(read_head(question)?)).tell(reply)
+    records::owner_id(read_head(question)?).tell(reply)
 }
 
 // Byte 0.

@@ -1,15 +1,13 @@
 // Replaying the owner rule: 9.
 use flags_spec::Choice;
-use records_spec::Refusal;
 use wire::{Fault, Question, Reply};
 
-// Whose owner is chosen, 0 none, 1 ours, 2 theirs; or a refusal.
-fn chosen_in(choice: Choice) -> Result<u8, Refusal> {
+// Whose owner is chosen: 0 none, 1 ours, 2 theirs.
+fn chosen(choice: Choice) -> u8 {
     match choice {
-        Choice::Neither => Ok(0),
-        Choice::Ours => Ok(1),
-        Choice::Theirs => Ok(2),
-        Choice::Refused(refusal) => Err(refusal),
+        Choice::Neither => 0,
+        Choice::Ours => 1,
+        Choice::Theirs => 2,
     }
 }
 
@@ -19,6 +17,7 @@ pub fn combine_owner_id(mut question: Question<'_>, reply: &mut Reply<'_>) -> Re
     let theirs = question.part()?;
     let strategy = question.strategy()?;
     question.end()?;
-    reply.tell_answer(chosen_in(flags::choose_owner_id(ours, theirs, strategy)))?;
+    let choice = flags::choose_owner_id(ours, theirs, strategy);
+    reply.tell_answer(choice.map(|choice| chosen(choice)))?;
     reply.tell_part(flags::combine_owner_id(ours, theirs, strategy))
 }

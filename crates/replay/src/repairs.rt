@@ -1,18 +1,8 @@
 // Replaying the repair: 23.
-use records_spec::Refusal;
-use repair_spec::AnsweredRepair;
 use wire::{Fault, Question, Reply, Table, TableOf};
 
 // The most bytes that are lent for a repair in a stored question.
 const ROOM_TO_REPAIR: usize = 64;
-
-// How many bytes and lines, or a refusal.
-fn sizes_in(outcome: AnsweredRepair) -> Result<(usize, usize), Refusal> {
-    match outcome {
-        AnsweredRepair::Done { bytes, lines } => Ok((bytes, lines)),
-        AnsweredRepair::Refused(refusal) => Err(refusal),
-    }
-}
 
 // The repair: bytes, and the output and the list that are lent.
 pub fn repair(mut question: Question<'_>, reply: &mut Reply<'_>) -> Result<(), Fault> {
@@ -22,7 +12,7 @@ pub fn repair(mut question: Question<'_>, reply: &mut Reply<'_>) -> Result<(), F
     let mut changes = Table::<u8>::read(&mut question)?;
     question.end()?;
     let repaired = repair::repair(src, out.lent(), offsets.lent(), changes.lent());
-    reply.tell_answer(sizes_in(repaired))?;
+    reply.tell_answer(repaired.map(|sizes| (sizes.bytes, sizes.lines)))?;
     out.tell(reply)?;
     offsets.tell(reply)?;
     changes.tell(reply)

@@ -1,14 +1,14 @@
 // Replaying the writer and the sizes: 6 to 8.
 use codec_spec::Changes;
-use records_spec::Counted;
-use wire::{Fault, Field, Flags, Question, Reply, TableOf, count_in};
+use records_spec::Refusal;
+use wire::{Fault, Field, Flags, Question, Reply, TableOf};
 
 // The most bytes that are lent for writing in a stored question.
 const ROOM_TO_WRITE: usize = 1024;
 
 // Holds a number of bytes, which stands in four, or a refusal against a reply.
-fn tell_count(reply: &mut Reply<'_>, counted: Counted) -> Result<(), Fault> {
-    let count = match count_in(counted) {
+fn tell_count(reply: &mut Reply<'_>, counted: Result<usize, Refusal>) -> Result<(), Fault> {
+    let count = match counted {
         Ok(n) => Ok(u32::try_from(n).map_err(|_| Fault::Differs)?),
         Err(refusal) => Err(refusal),
     };
@@ -38,18 +38,10 @@ pub fn serialized_size(mut question: Question<'_>, reply: &mut Reply<'_>) -> Res
     tell_count(reply, counted)
 }
 
-// The changes, if given.
-fn changes_of(changes: Option<(u16, u8)>) -> Changes {
-    match changes {
-        Some((changes, size)) => Changes::Given(changes, size),
-        None => Changes::NotGiven,
-    }
-}
-
 // The size of flags before they are made.
 pub fn approximate_size(mut question: Question<'_>, reply: &mut Reply<'_>) -> Result<(), Fault> {
     let has_owner = bool::read(&mut question)?;
     let changes = Option::<(u16, u8)>::read(&mut question)?;
     question.end()?;
-    codec::approximate_size(has_owner, changes_of(changes)).tell(reply)
+    codec::approximate_size(has_owner, changes.map(|(count, size)| Changes { count, size })).tell(reply)
 }

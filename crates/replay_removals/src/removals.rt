@@ -1,7 +1,4 @@
 // Replaying removal sums: 15 to 17.
-use crate::splits::removal_in;
-use records_spec::Refusal;
-use rows_spec::{HasRemoval, TotalBytes};
 use wire::{Fault, Field, Question, Reply, Rows};
 
 // The sum of two removals, the first of which is lent.
@@ -21,7 +18,7 @@ pub fn add_assign(mut question: Question<'_>, reply: &mut Reply<'_>) -> Result<(
         rhs.tables.amounts.places(),
         version,
     );
-    reply.tell_answer(removal_in(summed))?;
+    reply.tell_answer(summed)?;
     ours.tables.tell(reply)
 }
 
@@ -30,15 +27,6 @@ fn read_rows(mut question: Question<'_>) -> Result<Rows, Fault> {
     let rows = Rows::read(&mut question)?;
     question.end()?;
     Ok(rows)
-}
-
-// Whether something was removed, or a refusal.
-fn has_in(answer: HasRemoval) -> Result<bool, Refusal> {
-    match answer {
-        HasRemoval::Yes => Ok(true),
-        HasRemoval::No => Ok(false),
-        HasRemoval::Refused(refusal) => Err(refusal),
-    }
 }
 
 // Whether something was removed: 1 or 0, in four bytes.
@@ -50,15 +38,7 @@ pub fn has_removal(question: Question<'_>, reply: &mut Reply<'_>) -> Result<(), 
         rows.tables.epochs.places(),
         rows.tables.amounts.places(),
     );
-    reply.tell_answer(has_in(has).map(|has| u32::from(has)))
-}
-
-// A number of bytes, or a refusal.
-fn total_in(answer: TotalBytes) -> Result<u32, Refusal> {
-    match answer {
-        TotalBytes::Bytes(n) => Ok(n),
-        TotalBytes::Refused(refusal) => Err(refusal),
-    }
+    reply.tell_answer(has.map(|has| u32::from(has)))
 }
 
 // How many bytes were removed.
@@ -70,5 +50,5 @@ pub fn total_removed_bytes(question: Question<'_>, reply: &mut Reply<'_>) -> Res
         rows.tables.epochs.places(),
         rows.tables.amounts.places(),
     );
-    reply.tell_answer(total_in(total))
+    reply.tell_answer(total)
 }

@@ -1,24 +1,5 @@
 // Replaying the splits of a removal: 25 of key bytes, 26 of value bytes.
-use records_spec::Refusal;
-use rows_spec::{AnsweredRemoval, StorageRemovedBytes};
-use splitting_spec::{Splitting, ValueSplit};
 use wire::{Fault, Field, Flags, Question, Reply, RowTables};
-
-// A removal, or a refusal.
-pub fn removal_in(answered: AnsweredRemoval) -> Result<StorageRemovedBytes, Refusal> {
-    match answered {
-        AnsweredRemoval::Done(removal) => Ok(removal),
-        AnsweredRemoval::Refused(refusal) => Err(refusal),
-    }
-}
-
-// A split of a value's bytes, or a refusal.
-fn split_in(splitting: Splitting) -> Result<ValueSplit, Refusal> {
-    match splitting {
-        Splitting::Done(split) => Ok(split),
-        Splitting::Refused(refusal) => Err(refusal),
-    }
-}
 
 // What a split is asked with: flags, how many bytes were removed, and the tables that are lent for the rows.
 #[derive(Drop)]
@@ -57,7 +38,7 @@ pub fn split_key_removed_bytes(question: Question<'_>, reply: &mut Reply<'_>) ->
         lent.epochs.lent(),
         lent.amounts.lent(),
     );
-    reply.tell_answer(removal_in(split))?;
+    reply.tell_answer(split)?;
     lent.tell(reply)
 }
 
@@ -80,6 +61,6 @@ pub fn split_value_removed_bytes(
         lent.epochs.lent(),
         lent.amounts.lent(),
     );
-    reply.tell_answer(split_in(split).map(|split| (split.removal, split.visited)))?;
+    reply.tell_answer(split.map(|split| (split.removal, split.visited)))?;
     lent.tell(reply)
 }

@@ -1,7 +1,7 @@
 // Replaying the change of a table of totals: 24.
 #![tactic(auto)]
 
-use wire::{Fault, Field, Flags, Question, Reply, RowTables, count_in};
+use wire::{Fault, Field, Flags, Question, Reply, RowTables};
 
 // One element's old flags replaced by new ones: the table that is lent, and both flags, each of which may be absent.
 pub fn totals_replace(mut question: Question<'_>, reply: &mut Reply<'_>) -> Result<(), Fault> {
@@ -26,6 +26,6 @@ pub fn totals_replace(mut question: Question<'_>, reply: &mut Reply<'_>) -> Resu
         new.epochs.places(),
         new.counts.places(),
     );
-    reply.tell_answer(count_in(replaced))?;
+    reply.tell_answer(replaced)?;
     lent.tell(reply)
 }

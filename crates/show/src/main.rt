@@ -6,7 +6,6 @@ ghost use Rattle.io.specs.Counts.{IsPrefixLen};
 ghost use Rattle.listing_spec.specs.Listed.{listed, longest_text};
 
 use listing_spec::{LONGEST_TEXT, MOST_LISTED};
-use records_spec::Counted;
 use std::io;
 
 // Puts the text at the start of `out`, which has room for every text, so that the refusal does not occur.
@@ -15,10 +14,7 @@ fn text_of(src: &[u8], out: &mut [u8]) -> usize
     ensures prefix_len { IsPrefixLen result out.new }
     ensures out_value { take result out.new ≡ listed src.now }
 {
-    match listing::list(src, out) {
-        Counted::Count(n) => n,
-        Counted::Refused(_) => 0,
-    }
+    listing::list(src, out).unwrap_or(0)
 }
 
 // Lists bytes, with what is lent for the text.

@@ -1,7 +1,7 @@
 // What stands in the fields of questions and replies. Numbers are big-endian.
 use crate::question::{Fault, Question};
 use crate::reply::Reply;
-use records_spec::{Head, Kind, KindByte, OWNER_LENGTH, OwnerId};
+use records_spec::{Head, Kind, OWNER_LENGTH, OwnerId};
 use rows_spec::{Removed, StorageRemovedBytes};
 
 // What can stand in a field.
@@ -138,14 +138,6 @@ impl<A: Field, B: Field> Field for (A, B) {
     }
 }
 
-// The kind that a byte names.
-fn kind_of(byte: u8) -> Option<Kind> {
-    match records::kind_of_byte(byte) {
-        KindByte::Known(kind) => Some(kind),
-        KindByte::Unknown => None,
-    }
-}
-
 // The head of flags.
 impl Field for Head {
     const ZERO: Head = Head {
@@ -157,7 +149,7 @@ impl Field for Head {
 
     fn read(question: &mut Question<'_>) -> Result<Head, Fault> {
         Ok(Head {
-            kind: kind_of(u8::read(question)?).ok_or(Fault::NoQuestion)?,
+            kind: Kind::try_from(u8::read(question)?).map_err(|_| Fault::NoQuestion)?,
             base: u16::read(question)?,
             owner: OwnerId::read(question)?,
             records: usize::read(question)?,

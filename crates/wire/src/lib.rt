@@ -8,7 +8,6 @@ mod question;
 mod reply;
 mod table;
 
-pub use answers::count_in;
 pub use call::{CALLS, Call};
 pub use field::Field;
 pub use question::{Fault, Question};

@@ -40,7 +40,7 @@ impl<'a> Reply<'a> {
     pub fn tell_answer<T: Field>(&mut self, answer: Result<T, Refusal>) -> Result<(), Fault> {
         let (number, answered) = match answer {
             Ok(answered) => (0, answered),
-            Err(refusal) => (records::number(refusal), T::ZERO),
+            Err(refusal) => (u32::from(refusal), T::ZERO),
         };
         u8::try_from(number)
             .map_err(|_| Fault::Differs)?

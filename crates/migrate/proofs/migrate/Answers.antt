@@ -4,5 +4,5 @@ use Rattle.migrate.proofs.migrate.Goals as goal
 
 pub write_repaired-requires : goal.write_repaired-requires
 write_repaired-requires c =
-    let left = left_repair _ _ _ _ _ _ _ _ _ c.in-Done.ensures in
+    let left = left_repair _ _ _ _ _ _ _ _ _ c.in-Ok.ensures in
     record { bytes_fit = left.bytes_fit; offsets_fit = left.offsets_fit; changes_fit = left.changes_fit }
