@@ -29,7 +29,7 @@ stands xs old new fits e =
 pub returns : goal.returns
 returns c =
     let text = listed c.args.src.now in
-    let fits = omega (arith, listed_fits c.args.src.now (λ i. (c.type_inv.src i).fits), c.requires) in
+    let fits : length text ≤ length c.args.out.now = omega (arith, listed_fits c.args.src.now (λ i. (c.type_inv.src i).fits), c.requires) in
     let w = written c.list.result text c.args.out.now c.list.new.out fits c.list.ensures in
     let n = rw w.0 at c.unwrap_or.ensures in
     let s = stands text c.args.out.now c.list.new.out fits w.1 in
