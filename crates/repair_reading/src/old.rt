@@ -18,7 +18,8 @@ fn read_padded(src: &[u8], at: usize, epoch: u16) -> GotOld
 {
     let next = end_of(src, at + 2);
     let count = capped_value(src, at + 2, next);
-    if count < TOO_LARGE {
+    let fits = count < TOO_LARGE;
+    if fits {
         GotOld::Fits {
             epoch,
             count: count as u32,

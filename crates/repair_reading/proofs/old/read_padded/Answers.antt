@@ -17,16 +17,16 @@ capped_value-count-requires c =
     let l = length-drop (a.at + 2) a.src.now in
     (omega (arith, c.end_of-next.ensures), omega (arith, c.end_of-next.ensures, p.at_in_bounds))
 
-pub returns-then-count-lt-TOO_LARGE : goal.returns-then-count-lt-TOO_LARGE
-returns-then-count-lt-TOO_LARGE c =
+pub returns-then-fits : goal.returns-then-fits
+returns-then-fits c =
     let a = c.args in
     let p = c.requires in
     padded_fits a.src.now a.at p.at_in_bounds p.src_value a.epoch c.end_of-next.result c.capped_value-count.result p.epoch_value
-    c.end_of-next.ensures c.capped_value-count.ensures (omega (arith, c.if-count-lt-TOO_LARGE.true))
+    c.end_of-next.ensures c.capped_value-count.ensures (omega (arith, c.if-fits.true))
 
-pub returns-else-count-lt-TOO_LARGE : goal.returns-else-count-lt-TOO_LARGE
-returns-else-count-lt-TOO_LARGE c =
+pub returns-else-fits : goal.returns-else-fits
+returns-else-fits c =
     let a = c.args in
     let p = c.requires in
     padded_large a.src.now a.at p.at_in_bounds p.src_value a.epoch c.end_of-next.result c.capped_value-count.result p.epoch_value
-    c.end_of-next.ensures c.capped_value-count.ensures (omega (arith, c.if-count-lt-TOO_LARGE.false))
+    c.end_of-next.ensures c.capped_value-count.ensures (omega (arith, c.if-fits.false))
