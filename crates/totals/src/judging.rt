@@ -1,6 +1,6 @@
 // Judging a change before anything is written: whether the totals hold the old counts, whether the new ones fit, and how many rows go
 // and are made.
-ghost use Rattle.std.specs.Prelude.{◌≡◌, true, cond, ◌&&◌, ◌≤◌};
+ghost use Rattle.std.specs.Prelude.{◌≡◌, true};
 ghost use Rattle.records_spec.specs.Inner.Tables.{Table};
 ghost use Rattle.rows_spec.specs.Rows.{row, tables, rows_in, rows_were};
 ghost use Rattle.records_spec.specs.Outcomes.{answered};

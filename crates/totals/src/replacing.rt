@@ -1,5 +1,5 @@
 // Replacing one element's flags: the table is judged and counted first, then written.
-ghost use Rattle.std.specs.Prelude.{◌≡◌, true, ◌&&◌};
+ghost use Rattle.std.specs.Prelude.{◌≡◌, ◌&&◌};
 ghost use Rattle.records_spec.specs.Inner.Tables.{Table};
 ghost use Rattle.rows_spec.specs.Rows.{tables, rows_in, rows_were, rows_left};
 ghost use Rattle.records_spec.specs.Outcomes.{ok, after, answered};

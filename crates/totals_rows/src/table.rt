@@ -1,7 +1,6 @@
 // The table in three slices: place i of them holds an owner, an epoch and a total.
-ghost use Rattle.std.specs.Prelude.{◌≡◌, [], ◌+◌, ◌<◌, length, get_or};
-ghost use Rattle.rows_spec.specs.Order.{is_less};
-ghost use Rattle.rows_spec.specs.Rows.{row, compared, ascends, tables, rows_in, room_in, set_row, Room, rows_were, rows_left};
+ghost use Rattle.std.specs.Prelude.{◌≡◌, ◌+◌};
+ghost use Rattle.rows_spec.specs.Rows.{row, ascends, tables, rows_in, room_in, set_row, Room, rows_were, rows_left};
 ghost use Rattle.totals_spec.specs.Table.{all_positive};
 ghost use Rattle.totals_spec.specs.Calls.{proper_table};
 

@@ -1,5 +1,5 @@
 // The order of two rows by words: eight bytes of an owner make one number, so four comparisons decide instead of thirty-two.
-ghost use Rattle.std.specs.Prelude.{◌≡◌, true, false, cond, ◌+◌, ◌≤◌, ltb, length, take, drop};
+ghost use Rattle.std.specs.Prelude.{◌≡◌, ◌+◌, ◌≤◌, length, take, drop};
 ghost use Rattle.fields_spec.specs.Big.{said};
 ghost use Rattle.records_spec.specs.Flags.{owner_length};
 ghost use Rattle.rows_spec.specs.Order.{is_less};
