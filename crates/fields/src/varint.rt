@@ -1,5 +1,5 @@
 // Varints: minimal ones of counts up to 32 bits.
-ghost use Rattle.std.specs.Prelude.{◌≡◌, true, ◌+◌, ◌≤◌, ◌<◌, nat_lt, length, take, drop, position, Ok};
+ghost use Rattle.std.specs.Prelude.{◌≡◌, true, ◌+◌, ◌≤◌, ◌<◌, nat_lt, length, take, drop, position, IfSome, Ok};
 ghost use Rattle.fields_spec.specs.Varint.{varint, found};
 ghost use Rattle.fields_spec.specs.Inner.Varints.{Begun, Ending, is_whole, judged_at, read_at};
 ghost use Rattle.fields_spec.specs.Writing.{Put};
@@ -139,7 +139,10 @@ pub fn varint_at(src: &[u8], at: usize) -> Varint
     varint_third(src, at, two)
 }
 
-// Reads the varint at `at` byte by byte, as judging found it: where the bytes end soon, and where it is refused.
+// Reads the varint at `at` byte by byte, as judging found it. Few are read so: where the bytes end soon, and where it is refused. Kept apart from
+// what calls it, whose frequent paths then stay in registers.
+#[cold]
+#[inline(never)]
 fn read_judged(src: &[u8], at: usize) -> Result<Varint, VarintFault>
     ensures { result ≡ read_at at (found (drop at src.now)) }
 {
@@ -147,40 +150,29 @@ fn read_judged(src: &[u8], at: usize) -> Result<Varint, VarintFault>
     Ok(varint_at(src, at))
 }
 
-// Reads the varint at `at`, of which four bytes are passed, that say `four`.
-fn read_fifth(src: &[u8], at: usize, four: u32) -> Result<Varint, VarintFault>
-    requires at_in_bounds { at + 4 < length src.now }
-    requires begun { Begun src.now at 4 four }
-    ensures { result ≡ read_at at (found (drop at src.now)) }
-{
-    let fifth = src[at + 4];
-    if fifth == 0 {
-        Err(VarintFault::NotCanonical(at))
-    } else if fifth < 16 {
-        Ok(Varint {
-            count: four + fifth as u32 * 268435456,
-            next: at + 5,
-        })
-    } else {
-        read_judged(src, at)
-    }
-}
-
-// Reads the varint at `at`, of which two bytes are passed, that say `two`. One test is for both bytes, so that nothing is guessed of the first
-// alone. Which of them is the last is chosen without a jump, since of mixed counts it cannot be guessed.
-fn read_third(src: &[u8], at: usize, two: u32) -> Result<Varint, VarintFault>
+// Reads the varint at `at`, of which two bytes are passed, that say `two`, where it is right and five bytes are there. One test is for the third
+// and the fourth byte, so that nothing is guessed of the third alone. Which of the two is the last is chosen without a jump, since of mixed
+// counts it cannot be guessed.
+fn quick_third(src: &[u8], at: usize, two: u32) -> Option<Varint>
     requires at_in_bounds { at + 2 ≤ length src.now }
     requires begun { Begun src.now at 2 two }
-    ensures { result ≡ read_at at (found (drop at src.now)) }
+    ensures { IfSome result (λ v. Ok v ≡ read_at at (found (drop at src.now))) }
 {
     if src.len() - at < 5 {
-        return read_judged(src, at);
+        return None;
     }
     let third = src[at + 2];
     let fourth = src[at + 3];
     let three = two + (third % 128) as u32 * 16384;
     if (127 < third) & (127 < fourth) {
-        return read_fifth(src, at, three + (fourth % 128) as u32 * 2097152);
+        let four = three + (fourth % 128) as u32 * 2097152;
+        return match src[at + 4] {
+            fifth @ 1..16 => Some(Varint {
+                count: four + fifth as u32 * 268435456,
+                next: at + 5,
+            }),
+            _ => None,
+        };
     }
     let (last, part, used) = if 127 < third {
         (fourth, fourth as u32 * 2097152, 4)
@@ -188,41 +180,47 @@ fn read_third(src: &[u8], at: usize, two: u32) -> Result<Varint, VarintFault>
         (third, 0, 3)
     };
     if last == 0 {
-        return Err(VarintFault::NotCanonical(at));
+        None
+    } else {
+        Some(Varint {
+            count: three + part,
+            next: at + used,
+        })
     }
-    Ok(Varint {
-        count: three + part,
-        next: at + used,
-    })
 }
 
-// Reads the varint at `at`. One and two bytes are the most frequent, and have tests of their own.
-pub fn read_varint(src: &[u8], at: usize) -> Result<Varint, VarintFault>
-    ensures { result ≡ read_at at (found (drop at src.now)) }
+// Reads the varint at `at` where it is right and has one or two bytes, or five are there. One and two bytes are the most frequent, and have tests
+// of their own.
+fn quick_varint(src: &[u8], at: usize) -> Option<Varint>
+    ensures { IfSome result (λ v. Ok v ≡ read_at at (found (drop at src.now))) }
 {
-    if src.len() <= at {
-        return Err(VarintFault::Incomplete(at));
-    }
-    let first = src[at];
+    let first = *src.get(at)?;
     if first < 128 {
-        return Ok(Varint {
+        return Some(Varint {
             count: first as u32,
             next: at + 1,
         });
     }
-    if src.len() - at < 2 {
-        return Err(VarintFault::Incomplete(at));
-    }
-    let second = src[at + 1];
+    let second = *src.get(at + 1)?;
     let two = (first % 128) as u32 + (second % 128) as u32 * 128;
     if 127 < second {
-        return read_third(src, at, two);
+        quick_third(src, at, two)
+    } else if second == 0 {
+        None
+    } else {
+        Some(Varint {
+            count: two,
+            next: at + 2,
+        })
     }
-    if second == 0 {
-        return Err(VarintFault::NotCanonical(at));
+}
+
+// Reads the varint at `at`: quickly where that can be done, and else as judging found it.
+pub fn read_varint(src: &[u8], at: usize) -> Result<Varint, VarintFault>
+    ensures { result ≡ read_at at (found (drop at src.now)) }
+{
+    match quick_varint(src, at) {
+        Some(varint) => Ok(varint),
+        None => read_judged(src, at),
     }
-    Ok(Varint {
-        count: two,
-        next: at + 2,
-    })
 }

@@ -4,9 +4,9 @@ use Rattle.std.proofs.Common.{ℕ, suc, ◌+◌, ◌*◌, ◌%◌, ◌^◌, ◌�
 use Rattle.std.proofs.Common.{sym, ap, ◌∙◌, arith, length-take}
 use Rattle.std.proofs.Math.Decide.{dec_lt}
 use Rattle.fields_spec.specs.Varint.{largest, value, found, notCanonical}
-use Rattle.fields_spec.specs.Inner.Varints.{is_whole, judged_at, read_at, Passed, Begun, Ending}
-use Rattle.fields_spec.specs.declared.varint.VarintFault.TheVariants.{Incomplete, NotCanonical}
-use Rattle.fields_spec.proofs.Places.{value_below, value_on, first_more, first_value, passed_cut, passed_more, passed_zero, passed_whole}
+use Rattle.fields_spec.specs.Inner.Varints.{is_whole, judged_at, read_at, Begun, Ending}
+use Rattle.fields_spec.specs.declared.varint.VarintFault.TheVariants.{NotCanonical}
+use Rattle.fields_spec.proofs.Places.{value_below, value_on, first_more, first_value, passed_more, passed_zero, passed_whole}
 use Rattle.fields_spec.proofs.Places.{passed_small, passed_read, passed_long, fifth_fits, fifth_large}
 
 -- ---- as judging answers it
@@ -38,10 +38,6 @@ module _ {d : List ℕ} {at k : ℕ} (e : Ending d at k) where
 
 -- ---- as reading answers it
 
--- the bytes end
-pub read_cut : (d : List ℕ) (at k : ℕ) → Passed d at k → length d ≤ at + k → Err (Incomplete at) ≡ read_at at (found (drop at d))
-read_cut d at k p h = ap (read_at at) (sym (passed_cut d at k p h))
-
 pub begun_first : (d : List ℕ) (at : ℕ) → at < length d → 128 ≤ get_or d at 0 → Begun d at 1 (get_or d at 0 % 128)
 begun_first d at inside h = record { passed = first_more d at inside h; says = first_value d at inside }
 
@@ -57,9 +53,6 @@ module _ {d : List ℕ} {at k v : ℕ} (b : Begun d at k v) where
         record { passed = passed_more d at k b.passed inside j ej h; says = rw z (ew ∙ value_on d at k v inside b.says) }
 
     module _ (low : get_or d (at + k) 0 < 128) (ten : k < 10) where
-      pub begun_zero : 1 ≤ k → get_or d (at + k) 0 ≡ 0 → Err (NotCanonical at) ≡ read_at at (found (drop at d))
-      begun_zero some e = ap (read_at at) (sym (passed_zero d at k b.passed inside low ten some e))
-
       -- the varint ends here: it is known to be whole, or is by what its last byte says
       module _ {count next : ℕ} (all : count ≡ v + get_or d (at + k) 0 * 128 ^ k) (behind : next ≡ at + suc k) where
         of_all : count ≡ value (take (suc k) (drop at d))

@@ -13,9 +13,6 @@ use Rattle.fields_spec.specs.declared.varint.VarintFault.TheVariants.{Incomplete
 use Rattle.fields_spec.proofs.Bases.{size_below}
 use Rattle.fields_spec.proofs.Varints.{length_last, length_more, length_pos, length_five}
 
-no_false : ◌≡◌ {A = Bool} false true → ⊥
-no_false e = let z : ◌≡◌ {A = ℕ} 0 1 = cc in omega arith
-
 -- ---- one byte
 
 pub high_low : (b : ℕ) (bs : List ℕ) → b < 128 → high (b ∷ bs) ≡ 0
@@ -114,7 +111,7 @@ canonical_inv v u = by (leb v largest && eqb (length (varint v)) u)
   where
     by : (b : Bool) → is_whole (cond b (whole v u) notCanonical) ≡ true → cond b (whole v u) notCanonical ≡ whole v u
     by true w = refl
-    by false w = let z : ◌≡◌ {A = Bool} false true = w in cc
+    by false w = cc
 
 -- ---- at a place of a list
 
@@ -207,7 +204,7 @@ module _ (d : List ℕ) (at k : ℕ) (p : Passed d at k) where
   whole_inside w =
       elim (dec_lt (at + k) (length d)) [
         | yes h ↦ h
-        | no h ↦ let z : ◌≡◌ {A = Bool} false true = sym (ap is_whole (passed_cut (omega arith))) ∙ w in absurd (no_false z)
+        | no h ↦ let z = passed_cut (omega arith) in cc
       ]
 
 -- ---- the first byte
@@ -241,14 +238,14 @@ module _ (d : List ℕ) (at : ℕ) where
 
 -- no varint with k bytes passed, five or more, is whole; f bytes are left up to ten
 pub long_never : (d : List ℕ) (at k f : ℕ) → Passed d at k → 5 ≤ k → 10 ≤ k + f → is_whole (found (drop at d)) ≡ true → ⊥
-long_never d at k zero p five ten w = no_false (sym (ap is_whole (passed_ten d at k p (omega arith))) ∙ w)
+long_never d at k zero p five ten w = let z = passed_ten d at k p (omega arith) in cc
 long_never d at k (suc f) p five ten w =
     let i = whole_inside d at k p w in
     elim (dec_lt (get_or d (at + k) 0) 128) [
       | yes l ↦
           elim (dec_lt k 10) [
-            | yes t ↦ no_false (sym (ap is_whole (passed_long d at k p i l t five)) ∙ w)
-            | no t ↦ no_false (sym (ap is_whole (passed_ten d at k p (omega arith))) ∙ w)
+            | yes t ↦ let z = passed_long d at k p i l t five in cc
+            | no t ↦ let z = passed_ten d at k p (omega arith) in cc
           ]
       | no l ↦ long_never d at (k + 1) f (passed_more d at k p i (k + 1) refl (omega arith)) (omega arith) (omega arith) w
     ]
@@ -277,7 +274,7 @@ module _ (d : List ℕ) (at k : ℕ) (fifth : k ≡ 4) (p : Passed d at k) (insi
         | yes h ↦ h
         | no h ↦
             elim (dec_lt (get_or d (at + k) 0) 128) [
-              | yes l ↦ absurd (no_false (sym (ap is_whole (fifth_large l (omega arith))) ∙ w))
+              | yes l ↦ let z = fifth_large l (omega arith) in cc
               | no l ↦ absurd (long_never d at (k + 1) 5 (passed_more d at k p inside (k + 1) refl (omega arith)) (omega arith) (omega arith) w)
             ]
       ]

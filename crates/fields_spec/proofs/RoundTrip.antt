@@ -70,11 +70,11 @@ pub record Accepted (xs : List ℕ) (v u : ℕ) : Type 0 where
 canonical_parts : (w n v u : ℕ) → canonical w n ≡ whole v u → (v ≡ w) × (u ≡ n) × (w ≤ largest) × (length (varint w) ≡ n)
 canonical_parts w n v u e =
     elim (dec_lt largest w) [
-      | yes a ↦ let s = canonical_large w n a in let z : ◌≡◌ {A = ℕ} 0 1 = cc in absurd (omega arith)
+      | yes a ↦ let s = canonical_large w n a in cc
       | no a ↦
           elim (ℕ_discrete (length (varint w)) n) [
             | yes q ↦ let s = canonical_whole w n (omega arith) q in (cc, cc, omega arith, q)
-            | no q ↦ let s = unequal w n (omega arith) q in let z : ◌≡◌ {A = ℕ} 0 1 = cc in absurd (omega arith)
+            | no q ↦ let s = unequal w n (omega arith) q in cc
           ]
     ]
   where
@@ -95,9 +95,9 @@ found_inv xs v u e =
                   says = p.0 ∙ ap (λ (n : ℕ). value (take n xs)) (sym p.1);
                   least = ap (λ (n : ℕ). length (varint n)) p.0 ∙ p.3 ∙ sym p.1;
                 }
-            | no b ↦ let r = found_cut xs (omega arith) in let z : ◌≡◌ {A = ℕ} 0 1 = cc in absurd (omega arith)
+            | no b ↦ let r = found_cut xs (omega arith) in cc
           ]
-      | no a ↦ let r = found_ten xs (omega arith) in let z : ◌≡◌ {A = ℕ} 0 1 = cc in absurd (omega arith)
+      | no a ↦ let r = found_ten xs (omega arith) in cc
     ]
 
 pub found_written : (xs : List ℕ) (v u : ℕ) → Bytes xs → found xs ≡ whole v u → varint v ≡ take u xs
