@@ -15,6 +15,9 @@ const LENGTHS: [usize; 33] = [
     5,
 ];
 
+// The fifth byte of a count of 32 bits is below this.
+const FIFTH_LIMIT: u8 = 16;
+
 // The number of bytes of the minimal varint of `count`.
 pub fn varint_len(count: u32) -> usize
     ensures { result ≡ length (varint count) }
@@ -52,14 +55,14 @@ pub fn put_varint(out: &mut [u8], at: usize, count: u32) -> usize
     at + 5
 }
 
-// Judges the varint at `at` that ends `k` bytes behind its first: it is longer than minimal where its last byte is 0, and five bytes hold
-// 32 bits where the fifth is below 16.
+// Judges the varint at `at` that ends `k` bytes behind its first: it is longer than minimal where its last byte is 0, and says more than 32 bits
+// hold where the fifth byte is too large, or is not the last.
 fn end_at(src: &[u8], at: usize, k: usize) -> Result<usize, VarintFault>
     requires { Ending src.now at k }
     ensures { result ≡ judged_at at (found (drop at src.now)) }
 {
     let last = src[at + k];
-    if last != 0 && (k < 4 || k == 4 && last < 16) {
+    if last != 0 && (k < 4 || k == 4 && last < FIFTH_LIMIT) {
         Ok(at + k + 1)
     } else {
         Err(VarintFault::NotCanonical(at))
@@ -167,7 +170,7 @@ fn quick_third(src: &[u8], at: usize, two: u32) -> Option<Varint>
     if (127 < third) & (127 < fourth) {
         let four = three + (fourth % 128) as u32 * 2097152;
         return match src[at + 4] {
-            fifth @ 1..16 => Some(Varint {
+            fifth @ 1..FIFTH_LIMIT => Some(Varint {
                 count: four + fifth as u32 * 268435456,
                 next: at + 5,
             }),
