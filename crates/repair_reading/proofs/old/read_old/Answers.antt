@@ -1,7 +1,7 @@
 -- `repair_reading::old::read_old` meets its contract: the epoch's length and what is found of the varint lead to each case. Assumes nothing.
 use Rattle.std.proofs.Common.{◌+◌, drop, length-drop, sym, ap, ◌∙◌, arith}
 use Rattle.fields_spec.specs.Varint.{found}
-use Rattle.fields_spec.proofs.Told.{told_incomplete, told_read}
+use Rattle.fields_spec.proofs.Told.{judged_incomplete, told_read}
 use Rattle.repair_spec.specs.Inner.Steps.{got_old_of}
 use Rattle.repair_spec.proofs.Reading.{old_short}
 use Rattle.repair_spec.proofs.Getting.{at_incomplete, at_whole}
@@ -17,7 +17,7 @@ returns-in-Err-Incomplete c =
     let a = c.args in
     let d = a.src.now in
     let judged = sym c.judge_varint.ensures ∙ rw c.in-Err-Incomplete.field-0-is at c.in-Err-Incomplete.is in
-    let cut = (told_incomplete (a.at + 2) _ (found (drop (a.at + 2) d)) judged).0 in
+    let cut = judged_incomplete (a.at + 2) _ (found (drop (a.at + 2) d)) judged in
     sym (ap got_old_of (at_incomplete d a.at (omega (arith, c.if-src-at-lt2.false)) cut))
 
 pub returns-in-Ok : goal.returns-in-Ok
