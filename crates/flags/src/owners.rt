@@ -67,7 +67,7 @@ pub fn combine_owners(
 }
 
 // The owner in an encoding, or none, or why it is refused.
-fn owner_in(encoding: &[u8]) -> Result<Option<OwnerId>, Refusal>
+fn owner_read(encoding: &[u8]) -> Result<Option<OwnerId>, Refusal>
     ensures { result ≡ owner_found (read encoding.now) }
 {
     match codec::judge(encoding) {
@@ -85,8 +85,8 @@ pub fn choose_owner_id(
 ) -> Result<Choice, Refusal>
     ensures { result ≡ owner_choice strategy ours.now theirs.now }
 {
-    let our_owner = owner_in(ours)?;
-    let their_owner = owner_in(theirs)?;
+    let our_owner = owner_read(ours)?;
+    let their_owner = owner_read(theirs)?;
     choose(our_owner, their_owner, strategy)
 }
 

@@ -35,7 +35,7 @@ fn list_flags(
 }
 
 // Writes a text at the start of `out`, where it has room.
-fn write(text: &[u8], out: &mut [u8]) -> Result<usize, Refusal>
+fn write_text(text: &[u8], out: &mut [u8]) -> Result<usize, Refusal>
     ensures { after (answered result) out.new ≡ writing text.now out.old }
 {
     if out.len() < text.len() {
@@ -50,7 +50,7 @@ pub fn list(src: &[u8], out: &mut [u8]) -> Result<usize, Refusal>
     ensures { after (answered result) out.new ≡ writing (listed src.now) out.old }
 {
     if MOST_LISTED < src.len() {
-        return write(b"too long\n", out);
+        return write_text(b"too long\n", out);
     }
     let mut epochs = [0u16; RECORD_PLACES];
     let mut counts = [0u32; RECORD_PLACES];

@@ -57,7 +57,7 @@ fn write_list(rt: &HostRuntime, offsets: &[usize], changes: &[u8]) -> io::Result
 // What is lent: room for the bytes and one more, so that too many are seen; for the largest answer; and for the longest list that so many bytes
 // can have.
 #[derive(Drop)]
-struct Room {
+struct Buffers {
     src: [u8; MOST_REPAIRED + 1],
     out: [u8; LONGEST_FLAGS],
     offsets: [usize; MOST_LINES],
@@ -65,7 +65,7 @@ struct Room {
 }
 
 // Writes so many bytes, and then the list of so many lines.
-fn write_repaired(rt: &HostRuntime, bytes: usize, lines: usize, room: &Room) -> io::Result<()>
+fn write_repaired(rt: &HostRuntime, bytes: usize, lines: usize, room: &Buffers) -> io::Result<()>
     requires bytes_fit { bytes ≤ length room.now.out }
     requires offsets_fit { lines ≤ length room.now.offsets }
     requires changes_fit { lines ≤ length room.now.changes }
@@ -75,7 +75,7 @@ fn write_repaired(rt: &HostRuntime, bytes: usize, lines: usize, room: &Room) -> 
 }
 
 // Repairs the first n bytes of what was read.
-fn migrate(rt: &HostRuntime, n: usize, room: &mut Room) -> io::Result<()>
+fn migrate(rt: &HostRuntime, n: usize, room: &mut Buffers) -> io::Result<()>
     requires { n ≤ length room.old.src }
 {
     match repair::repair(
@@ -90,7 +90,7 @@ fn migrate(rt: &HostRuntime, n: usize, room: &mut Room) -> io::Result<()>
 }
 
 // Reads bytes and repairs them.
-fn run(rt: &HostRuntime, room: &mut Room) -> io::Result<()> {
+fn run(rt: &HostRuntime, room: &mut Buffers) -> io::Result<()> {
     match streams::read_all(&mut rt.stdin(), &mut room.src) {
         Ok(n) if MOST_REPAIRED < n => say(&mut rt.stderr(), b"too long\n"),
         Ok(n) => migrate(rt, n, room),
@@ -100,7 +100,7 @@ fn run(rt: &HostRuntime, room: &mut Room) -> io::Result<()> {
 
 // The program's status is 0, also where something could not be written.
 fn main(rt: HostRuntime) {
-    let mut room = Room {
+    let mut room = Buffers {
         src: [0; MOST_REPAIRED + 1],
         out: [0; LONGEST_FLAGS],
         offsets: [0; MOST_LINES],

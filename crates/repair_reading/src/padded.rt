@@ -7,7 +7,7 @@ ghost use Rattle.repair_spec.specs.Inner.Steps.{count_capped};
 pub const TOO_LARGE: u64 = 4294967296;
 
 // The place of the first byte without the top bit.
-fn first_low(src: &[u8]) -> Option<usize>
+fn closing_byte(src: &[u8]) -> Option<usize>
     ensures { result ≡ position (λ b. nat_lt b 128) src.now }
 {
     src.iter().position(|byte| *byte < 128)
@@ -18,7 +18,7 @@ pub fn end_of(src: &[u8], at: usize) -> usize
     requires { high (drop at src.now) < length (drop at src.now) }
     ensures { result ≡ at + suc (high (drop at src.now)) }
 {
-    let last = first_low(&src[at..]).unwrap_or(0);
+    let last = closing_byte(&src[at..]).unwrap_or(0);
     at + last + 1
 }
 

@@ -1,9 +1,9 @@
 // Replaying the calls on a head alone: 18 to 22.
 use records_spec::{Head, OwnerId};
-use wire::{Fault, Field, Question, Reply};
+use wire::{Mismatch, Field, QuestionBytes, ReplyBytes};
 
 // The head of flags whose bytes were all paid in one epoch.
-pub fn new_single_epoch(mut question: Question<'_>, reply: &mut Reply<'_>) -> Result<(), Fault> {
+pub fn new_single_epoch(mut question: QuestionBytes<'_>, reply: &mut ReplyBytes<'_>) -> Result<(), Mismatch> {
     let epoch = u16::read(&mut question)?;
     let owner = Option::<OwnerId>::read(&mut question)?;
     question.end()?;
@@ -11,7 +11,7 @@ pub fn new_single_epoch(mut question: Question<'_>, reply: &mut Reply<'_>) -> Re
 }
 
 // The head with another owner.
-pub fn set_owner_id(mut question: Question<'_>, reply: &mut Reply<'_>) -> Result<(), Fault> {
+pub fn set_owner_id(mut question: QuestionBytes<'_>, reply: &mut ReplyBytes<'_>) -> Result<(), Mismatch> {
     let head = Head::read(&mut question)?;
     let owner = OwnerId::read(&mut question)?;
     question.end()?;
@@ -19,23 +19,23 @@ pub fn set_owner_id(mut question: Question<'_>, reply: &mut Reply<'_>) -> Result
 }
 
 // Reads a head, up to the question's end.
-fn read_head(mut question: Question<'_>) -> Result<Head, Fault> {
+fn read_head(mut question: QuestionBytes<'_>) -> Result<Head, Mismatch> {
     let head = Head::read(&mut question)?;
     question.end()?;
     Ok(head)
 }
 
 // The base epoch.
-pub fn base_epoch(question: Question<'_>, reply: &mut Reply<'_>) -> Result<(), Fault> {
+pub fn base_epoch(question: QuestionBytes<'_>, reply: &mut ReplyBytes<'_>) -> Result<(), Mismatch> {
     records::base_epoch(read_head(question)?).tell(reply)
 }
 
 // The owner or none.
-pub fn owner_id(question: Question<'_>, reply: &mut Reply<'_>) -> Result<(), Fault> {
+pub fn owner_id(question: QuestionBytes<'_>, reply: &mut ReplyBytes<'_>) -> Result<(), Mismatch> {
     records::owner_id(read_head(question)?).tell(reply)
 }
 
 // Byte 0.
-pub fn type_byte(question: Question<'_>, reply: &mut Reply<'_>) -> Result<(), Fault> {
+pub fn type_byte(question: QuestionBytes<'_>, reply: &mut ReplyBytes<'_>) -> Result<(), Mismatch> {
     records::type_byte(read_head(question)?).tell(reply)
 }

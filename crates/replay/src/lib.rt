@@ -7,10 +7,10 @@ mod reads;
 mod repairs;
 mod writes;
 
-use wire::{Call, Comparison, Fault, Field, Question, Reply};
+use wire::{Call, Comparison, Mismatch, Field, QuestionBytes, ReplyBytes};
 
 // Makes a call, and holds what it answers against the reply.
-fn make(call: Call, question: Question<'_>, reply: &mut Reply<'_>) -> Result<(), Fault> {
+fn make(call: Call, question: QuestionBytes<'_>, reply: &mut ReplyBytes<'_>) -> Result<(), Mismatch> {
     match call {
         Call::Deserialize => reads::deserialize(question, reply),
         Call::DeserializeSingleEpoch => reads::deserialize_single_epoch(question, reply),
@@ -46,14 +46,14 @@ fn make(call: Call, question: Question<'_>, reply: &mut Reply<'_>) -> Result<(),
 
 // Replays the call whose number is a question's first field; the reply has to end where the answer does.
 pub fn replay(question: &[u8], reply: &[u8]) -> Comparison {
-    let mut question = Question::new(question);
+    let mut question = QuestionBytes::new(question);
     let Ok(call) = Call::read(&mut question) else {
         return Comparison::NoQuestion;
     };
-    let mut reply = Reply::new(reply);
+    let mut reply = ReplyBytes::new(reply);
     match make(call, question, &mut reply).and_then(|()| reply.end()) {
         Ok(()) => Comparison::Agrees(call),
-        Err(Fault::Differs) => Comparison::Differs(call),
-        Err(Fault::NoQuestion) => Comparison::NoQuestion,
+        Err(Mismatch::Differs) => Comparison::Differs(call),
+        Err(Mismatch::NoQuestion) => Comparison::NoQuestion,
     }
 }

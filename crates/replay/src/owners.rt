@@ -1,6 +1,6 @@
 // Replaying the owner rule: 9.
 use flags_spec::Choice;
-use wire::{Fault, Question, Reply};
+use wire::{Mismatch, QuestionBytes, ReplyBytes};
 
 // Whose owner is chosen: 0 none, 1 ours, 2 theirs.
 fn chosen(choice: Choice) -> u8 {
@@ -12,7 +12,7 @@ fn chosen(choice: Choice) -> u8 {
 }
 
 // The owner rule on two encodings, and the part that is handed back.
-pub fn combine_owner_id(mut question: Question<'_>, reply: &mut Reply<'_>) -> Result<(), Fault> {
+pub fn combine_owner_id(mut question: QuestionBytes<'_>, reply: &mut ReplyBytes<'_>) -> Result<(), Mismatch> {
     let ours = question.part()?;
     let theirs = question.part()?;
     let strategy = question.strategy()?;

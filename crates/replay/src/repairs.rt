@@ -1,11 +1,11 @@
 // Replaying the repair: 23.
-use wire::{Fault, Question, Reply, Table, TableOf};
+use wire::{Mismatch, QuestionBytes, ReplyBytes, Table, TableOf};
 
 // The most bytes that are lent for a repair in a stored question.
 const ROOM_TO_REPAIR: usize = 64;
 
 // The repair: bytes, and the output and the list that are lent.
-pub fn repair(mut question: Question<'_>, reply: &mut Reply<'_>) -> Result<(), Fault> {
+pub fn repair(mut question: QuestionBytes<'_>, reply: &mut ReplyBytes<'_>) -> Result<(), Mismatch> {
     let src = question.part()?;
     let mut out = TableOf::<u8, ROOM_TO_REPAIR>::read(&mut question)?;
     let mut offsets = Table::<usize>::read(&mut question)?;

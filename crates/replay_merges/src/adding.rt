@@ -1,26 +1,26 @@
 // Replaying the adding merges: 10 and 11.
 use flags_spec::MergingOwnersStrategy;
-use wire::{Fault, Field, Flags, Question, Reply, Tables};
+use wire::{Mismatch, Field, FlagsAsked, QuestionBytes, ReplyBytes, TablesAsked};
 
 // What an adding merge is asked with: ours, theirs, the amount, the strategy, and the tables that are lent.
 #[derive(Drop)]
 struct Adding {
-    ours: Flags,
-    theirs: Flags,
+    ours: FlagsAsked,
+    theirs: FlagsAsked,
     amount: u32,
     strategy: MergingOwnersStrategy,
-    lent: Tables,
+    lent: TablesAsked,
 }
 
 impl Adding {
     // Reads it, up to the question's end.
-    fn read(mut question: Question<'_>) -> Result<Self, Fault> {
+    fn read(mut question: QuestionBytes<'_>) -> Result<Self, Mismatch> {
         let adding = Adding {
-            ours: Flags::read(&mut question)?,
-            theirs: Flags::read(&mut question)?,
+            ours: FlagsAsked::read(&mut question)?,
+            theirs: FlagsAsked::read(&mut question)?,
             amount: u32::read(&mut question)?,
             strategy: question.strategy()?,
-            lent: Tables::read(&mut question)?,
+            lent: TablesAsked::read(&mut question)?,
         };
         question.end()?;
         Ok(adding)
@@ -28,7 +28,7 @@ impl Adding {
 }
 
 // The adding merge.
-pub fn combine_added_bytes(question: Question<'_>, reply: &mut Reply<'_>) -> Result<(), Fault> {
+pub fn combine_added_bytes(question: QuestionBytes<'_>, reply: &mut ReplyBytes<'_>) -> Result<(), Mismatch> {
     let Adding {
         ours,
         theirs,
@@ -53,9 +53,9 @@ pub fn combine_added_bytes(question: Question<'_>, reply: &mut Reply<'_>) -> Res
 
 // The adding merge where ours may be absent: whether it is present, and the rest as above.
 pub fn optional_combine_added_bytes(
-    mut question: Question<'_>,
-    reply: &mut Reply<'_>,
-) -> Result<(), Fault> {
+    mut question: QuestionBytes<'_>,
+    reply: &mut ReplyBytes<'_>,
+) -> Result<(), Mismatch> {
     let present = bool::read(&mut question)?;
     let Adding {
         ours,

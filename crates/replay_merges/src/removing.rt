@@ -1,26 +1,26 @@
 // Replaying the removing merges: 12 and 13.
 use flags_spec::MergingOwnersStrategy;
-use wire::{Fault, Field, Flags, Question, Reply, Rows, Tables};
+use wire::{Mismatch, Field, FlagsAsked, QuestionBytes, ReplyBytes, Rows, TablesAsked};
 
 // What a removing merge is asked with: ours, theirs, the removal, the strategy, and the tables that are lent.
 #[derive(Drop)]
 struct Removing {
-    ours: Flags,
-    theirs: Flags,
+    ours: FlagsAsked,
+    theirs: FlagsAsked,
     rows: Rows,
     strategy: MergingOwnersStrategy,
-    lent: Tables,
+    lent: TablesAsked,
 }
 
 impl Removing {
     // Reads it, up to the question's end.
-    fn read(mut question: Question<'_>) -> Result<Self, Fault> {
+    fn read(mut question: QuestionBytes<'_>) -> Result<Self, Mismatch> {
         let removing = Removing {
-            ours: Flags::read(&mut question)?,
-            theirs: Flags::read(&mut question)?,
+            ours: FlagsAsked::read(&mut question)?,
+            theirs: FlagsAsked::read(&mut question)?,
             rows: Rows::read(&mut question)?,
             strategy: question.strategy()?,
-            lent: Tables::read(&mut question)?,
+            lent: TablesAsked::read(&mut question)?,
         };
         question.end()?;
         Ok(removing)
@@ -28,7 +28,7 @@ impl Removing {
 }
 
 // The removing merge.
-pub fn combine_removed_bytes(question: Question<'_>, reply: &mut Reply<'_>) -> Result<(), Fault> {
+pub fn combine_removed_bytes(question: QuestionBytes<'_>, reply: &mut ReplyBytes<'_>) -> Result<(), Mismatch> {
     let Removing {
         ours,
         theirs,
@@ -56,9 +56,9 @@ pub fn combine_removed_bytes(question: Question<'_>, reply: &mut Reply<'_>) -> R
 
 // The removing merge where ours may be absent: whether it is present, and the rest as above.
 pub fn optional_combine_removed_bytes(
-    mut question: Question<'_>,
-    reply: &mut Reply<'_>,
-) -> Result<(), Fault> {
+    mut question: QuestionBytes<'_>,
+    reply: &mut ReplyBytes<'_>,
+) -> Result<(), Mismatch> {
     let present = bool::read(&mut question)?;
     let Removing {
         ours,

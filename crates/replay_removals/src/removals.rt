@@ -1,8 +1,8 @@
 // Replaying removal sums: 15 to 17.
-use wire::{Fault, Field, Question, Reply, Rows};
+use wire::{Mismatch, Field, QuestionBytes, ReplyBytes, Rows};
 
 // The sum of two removals, the first of which is lent.
-pub fn add_assign(mut question: Question<'_>, reply: &mut Reply<'_>) -> Result<(), Fault> {
+pub fn add_assign(mut question: QuestionBytes<'_>, reply: &mut ReplyBytes<'_>) -> Result<(), Mismatch> {
     let mut ours = Rows::read(&mut question)?;
     let rhs = Rows::read(&mut question)?;
     let version = u16::read(&mut question)?;
@@ -23,14 +23,14 @@ pub fn add_assign(mut question: Question<'_>, reply: &mut Reply<'_>) -> Result<(
 }
 
 // Reads a removal, up to the question's end.
-fn read_rows(mut question: Question<'_>) -> Result<Rows, Fault> {
+fn read_rows(mut question: QuestionBytes<'_>) -> Result<Rows, Mismatch> {
     let rows = Rows::read(&mut question)?;
     question.end()?;
     Ok(rows)
 }
 
 // Whether something was removed: 1 or 0, in four bytes.
-pub fn has_removal(question: Question<'_>, reply: &mut Reply<'_>) -> Result<(), Fault> {
+pub fn has_removal(question: QuestionBytes<'_>, reply: &mut ReplyBytes<'_>) -> Result<(), Mismatch> {
     let rows = read_rows(question)?;
     let has = rows::has_removal(
         rows.removal,
@@ -42,7 +42,7 @@ pub fn has_removal(question: Question<'_>, reply: &mut Reply<'_>) -> Result<(), 
 }
 
 // How many bytes were removed.
-pub fn total_removed_bytes(question: Question<'_>, reply: &mut Reply<'_>) -> Result<(), Fault> {
+pub fn total_removed_bytes(question: QuestionBytes<'_>, reply: &mut ReplyBytes<'_>) -> Result<(), Mismatch> {
     let rows = read_rows(question)?;
     let total = rows::total_removed_bytes(
         rows.removal,

@@ -1,19 +1,19 @@
 // Replaying the splits of a removal: 25 of key bytes, 26 of value bytes.
-use wire::{Fault, Field, Flags, Question, Reply, RowTables};
+use wire::{Mismatch, Field, FlagsAsked, QuestionBytes, ReplyBytes, RowTables};
 
 // What a split is asked with: flags, how many bytes were removed, and the tables that are lent for the rows.
 #[derive(Drop)]
 struct Split {
-    flags: Flags,
+    flags: FlagsAsked,
     removed: u32,
     lent: RowTables<u32>,
 }
 
 impl Split {
     // Reads it, up to the question's end.
-    fn read(mut question: Question<'_>) -> Result<Self, Fault> {
+    fn read(mut question: QuestionBytes<'_>) -> Result<Self, Mismatch> {
         let split = Split {
-            flags: Flags::read(&mut question)?,
+            flags: FlagsAsked::read(&mut question)?,
             removed: u32::read(&mut question)?,
             lent: RowTables::read(&mut question)?,
         };
@@ -23,7 +23,7 @@ impl Split {
 }
 
 // The split of key bytes.
-pub fn split_key_removed_bytes(question: Question<'_>, reply: &mut Reply<'_>) -> Result<(), Fault> {
+pub fn split_key_removed_bytes(question: QuestionBytes<'_>, reply: &mut ReplyBytes<'_>) -> Result<(), Mismatch> {
     let Split {
         flags,
         removed,
@@ -44,9 +44,9 @@ pub fn split_key_removed_bytes(question: Question<'_>, reply: &mut Reply<'_>) ->
 
 // The split of value bytes, and how many records were visited.
 pub fn split_value_removed_bytes(
-    question: Question<'_>,
-    reply: &mut Reply<'_>,
-) -> Result<(), Fault> {
+    question: QuestionBytes<'_>,
+    reply: &mut ReplyBytes<'_>,
+) -> Result<(), Mismatch> {
     let Split {
         flags,
         removed,

@@ -1,16 +1,16 @@
 // Replaying the change of a table of totals: 24.
 #![tactic(auto)]
 
-use wire::{Fault, Field, Flags, Question, Reply, RowTables};
+use wire::{Mismatch, Field, FlagsAsked, QuestionBytes, ReplyBytes, RowTables};
 
 // One element's old flags replaced by new ones: the table that is lent, and both flags, each of which may be absent.
-pub fn totals_replace(mut question: Question<'_>, reply: &mut Reply<'_>) -> Result<(), Fault> {
+pub fn totals_replace(mut question: QuestionBytes<'_>, reply: &mut ReplyBytes<'_>) -> Result<(), Mismatch> {
     let rows = usize::read(&mut question)?;
     let mut lent = RowTables::<u64>::read(&mut question)?;
     let old_present = bool::read(&mut question)?;
-    let old = Flags::read(&mut question)?;
+    let old = FlagsAsked::read(&mut question)?;
     let new_present = bool::read(&mut question)?;
-    let new = Flags::read(&mut question)?;
+    let new = FlagsAsked::read(&mut question)?;
     question.end()?;
     let replaced = totals::replace(
         rows,

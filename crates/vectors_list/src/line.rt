@@ -7,7 +7,7 @@ const LINE_BYTES: usize = 2048;
 
 // What has come of a line.
 #[derive(Clone, Copy)]
-enum Part {
+enum LinePart {
     Nothing,
     Question,
     Reply,
@@ -20,7 +20,7 @@ enum Part {
 #[derive(Drop)]
 pub struct TextLine {
     number: u64,
-    part: Part,
+    part: LinePart,
     digit: Option<u8>,
     bytes: [u8; LINE_BYTES],
     turn: usize,
@@ -34,7 +34,7 @@ impl TextLine {
     pub fn first() -> Self {
         TextLine {
             number: 1,
-            part: Part::Nothing,
+            part: LinePart::Nothing,
             digit: None,
             bytes: [0; LINE_BYTES],
             turn: 0,
@@ -45,7 +45,7 @@ impl TextLine {
     // Goes on to the next line, of which nothing has come.
     pub fn go_on(&mut self) {
         self.number = self.number.wrapping_add(1);
-        self.part = Part::Nothing;
+        self.part = LinePart::Nothing;
         self.digit = None;
         self.turn = 0;
         self.end = 0;
@@ -58,13 +58,13 @@ impl TextLine {
 
     // Whether there is nothing on the line, or a comment.
     pub fn is_passed_over(&self) -> bool {
-        matches!(self.part, Part::Nothing | Part::Comment)
+        matches!(self.part, LinePart::Nothing | LinePart::Comment)
     }
 
     // The question and the reply, where the line has both, of whole bytes.
     pub fn vector(&self) -> Option<(&[u8], &[u8])> {
         match (self.part, self.digit) {
-            (Part::Reply, None) => Some((
+            (LinePart::Reply, None) => Some((
                 &self.bytes[..self.turn],
                 &self.bytes[self.turn..self.end],
             )),
@@ -75,15 +75,15 @@ impl TextLine {
     // Takes the next byte of the line.
     pub fn take(&mut self, byte: u8) {
         match (self.part, byte) {
-            (Part::Comment, _) | (_, b' ' | b'\t' | b'\r') => {}
-            (Part::Nothing, b'#') => self.part = Part::Comment,
-            (Part::Question, b'=') if self.digit.is_none() => {
-                self.part = Part::Reply;
+            (LinePart::Comment, _) | (_, b' ' | b'\t' | b'\r') => {}
+            (LinePart::Nothing, b'#') => self.part = LinePart::Comment,
+            (LinePart::Question, b'=') if self.digit.is_none() => {
+                self.part = LinePart::Reply;
                 self.turn = self.end;
             }
             _ => match digit_of(byte) {
                 Some(digit) => self.take_digit(digit),
-                None => self.part = Part::Wrong,
+                None => self.part = LinePart::Wrong,
             },
         }
     }
@@ -93,8 +93,8 @@ impl TextLine {
         match self.digit {
             None => {
                 self.digit = Some(digit);
-                if let Part::Nothing = self.part {
-                    self.part = Part::Question;
+                if let LinePart::Nothing = self.part {
+                    self.part = LinePart::Question;
                 }
             }
             Some(first) => {
@@ -103,7 +103,7 @@ impl TextLine {
                     self.bytes[self.end] = first << 4 | digit;
                     self.end += 1;
                 } else {
-                    self.part = Part::Wrong;
+                    self.part = LinePart::Wrong;
                 }
             }
         }

@@ -1,6 +1,6 @@
 // The calls that questions ask for.
 use crate::field::Field;
-use crate::question::{Fault, Question};
+use crate::question::{Mismatch, QuestionBytes};
 use std::fmt;
 
 // The calls, by their numbers. 14 was the split of key and value bytes at once, and is not used again.
@@ -64,13 +64,13 @@ pub const CALLS: [Call; 25] = [
 
 impl Call {
     // Reads a call's number.
-    pub fn read(question: &mut Question<'_>) -> Result<Self, Fault> {
+    pub fn read(question: &mut QuestionBytes<'_>) -> Result<Self, Mismatch> {
         let number = u8::read(question)?;
         CALLS
             .iter()
             .copied()
             .find(|call| *call as u8 == number)
-            .ok_or(Fault::NoQuestion)
+            .ok_or(Mismatch::NoQuestion)
     }
 }
 

@@ -1,6 +1,6 @@
 // What stands in the fields of questions and replies. Numbers are big-endian.
-use crate::question::{Fault, Question};
-use crate::reply::Reply;
+use crate::question::{Mismatch, QuestionBytes};
+use crate::reply::ReplyBytes;
 use records_spec::{Head, Kind, OWNER_LENGTH, OwnerId};
 use rows_spec::{Removed, StorageRemovedBytes};
 
@@ -10,21 +10,21 @@ pub trait Field: Copy {
     const ZERO: Self;
 
     // Reads the next field of a question.
-    fn read(question: &mut Question<'_>) -> Result<Self, Fault>;
+    fn read(question: &mut QuestionBytes<'_>) -> Result<Self, Mismatch>;
 
     // Holds it against the next field of a reply.
-    fn tell(&self, reply: &mut Reply<'_>) -> Result<(), Fault>;
+    fn tell(&self, reply: &mut ReplyBytes<'_>) -> Result<(), Mismatch>;
 }
 
 // The numbers have an impl for each width: `from_be_bytes` is each type's own, and the kit's verdict refuses impls that a macro writes.
 impl Field for u8 {
     const ZERO: u8 = 0;
 
-    fn read(question: &mut Question<'_>) -> Result<u8, Fault> {
+    fn read(question: &mut QuestionBytes<'_>) -> Result<u8, Mismatch> {
         Ok(u8::from_be_bytes(question.array()?))
     }
 
-    fn tell(&self, reply: &mut Reply<'_>) -> Result<(), Fault> {
+    fn tell(&self, reply: &mut ReplyBytes<'_>) -> Result<(), Mismatch> {
         reply.tell_bytes(&self.to_be_bytes())
     }
 }
@@ -32,11 +32,11 @@ impl Field for u8 {
 impl Field for u16 {
     const ZERO: u16 = 0;
 
-    fn read(question: &mut Question<'_>) -> Result<u16, Fault> {
+    fn read(question: &mut QuestionBytes<'_>) -> Result<u16, Mismatch> {
         Ok(u16::from_be_bytes(question.array()?))
     }
 
-    fn tell(&self, reply: &mut Reply<'_>) -> Result<(), Fault> {
+    fn tell(&self, reply: &mut ReplyBytes<'_>) -> Result<(), Mismatch> {
         reply.tell_bytes(&self.to_be_bytes())
     }
 }
@@ -44,11 +44,11 @@ impl Field for u16 {
 impl Field for u32 {
     const ZERO: u32 = 0;
 
-    fn read(question: &mut Question<'_>) -> Result<u32, Fault> {
+    fn read(question: &mut QuestionBytes<'_>) -> Result<u32, Mismatch> {
         Ok(u32::from_be_bytes(question.array()?))
     }
 
-    fn tell(&self, reply: &mut Reply<'_>) -> Result<(), Fault> {
+    fn tell(&self, reply: &mut ReplyBytes<'_>) -> Result<(), Mismatch> {
         reply.tell_bytes(&self.to_be_bytes())
     }
 }
@@ -56,11 +56,11 @@ impl Field for u32 {
 impl Field for u64 {
     const ZERO: u64 = 0;
 
-    fn read(question: &mut Question<'_>) -> Result<u64, Fault> {
+    fn read(question: &mut QuestionBytes<'_>) -> Result<u64, Mismatch> {
         Ok(u64::from_be_bytes(question.array()?))
     }
 
-    fn tell(&self, reply: &mut Reply<'_>) -> Result<(), Fault> {
+    fn tell(&self, reply: &mut ReplyBytes<'_>) -> Result<(), Mismatch> {
         reply.tell_bytes(&self.to_be_bytes())
     }
 }
@@ -69,13 +69,13 @@ impl Field for u64 {
 impl Field for usize {
     const ZERO: usize = 0;
 
-    fn read(question: &mut Question<'_>) -> Result<usize, Fault> {
+    fn read(question: &mut QuestionBytes<'_>) -> Result<usize, Mismatch> {
         Ok(usize::from(u16::read(question)?))
     }
 
-    fn tell(&self, reply: &mut Reply<'_>) -> Result<(), Fault> {
+    fn tell(&self, reply: &mut ReplyBytes<'_>) -> Result<(), Mismatch> {
         u16::try_from(*self)
-            .map_err(|_| Fault::Differs)?
+            .map_err(|_| Mismatch::Differs)?
             .tell(reply)
     }
 }
@@ -84,11 +84,11 @@ impl Field for usize {
 impl Field for bool {
     const ZERO: bool = false;
 
-    fn read(question: &mut Question<'_>) -> Result<bool, Fault> {
+    fn read(question: &mut QuestionBytes<'_>) -> Result<bool, Mismatch> {
         Ok(u8::read(question)? != 0)
     }
 
-    fn tell(&self, reply: &mut Reply<'_>) -> Result<(), Fault> {
+    fn tell(&self, reply: &mut ReplyBytes<'_>) -> Result<(), Mismatch> {
         u8::from(*self).tell(reply)
     }
 }
@@ -97,11 +97,11 @@ impl Field for bool {
 impl Field for OwnerId {
     const ZERO: OwnerId = [0; OWNER_LENGTH];
 
-    fn read(question: &mut Question<'_>) -> Result<OwnerId, Fault> {
+    fn read(question: &mut QuestionBytes<'_>) -> Result<OwnerId, Mismatch> {
         question.array()
     }
 
-    fn tell(&self, reply: &mut Reply<'_>) -> Result<(), Fault> {
+    fn tell(&self, reply: &mut ReplyBytes<'_>) -> Result<(), Mismatch> {
         reply.tell_bytes(self)
     }
 }
@@ -110,13 +110,13 @@ impl Field for OwnerId {
 impl<T: Field> Field for Option<T> {
     const ZERO: Option<T> = None;
 
-    fn read(question: &mut Question<'_>) -> Result<Option<T>, Fault> {
+    fn read(question: &mut QuestionBytes<'_>) -> Result<Option<T>, Mismatch> {
         let given = bool::read(question)?;
         let field = T::read(question)?;
         Ok(given.then_some(field))
     }
 
-    fn tell(&self, reply: &mut Reply<'_>) -> Result<(), Fault> {
+    fn tell(&self, reply: &mut ReplyBytes<'_>) -> Result<(), Mismatch> {
         self.is_some().tell(reply)?;
         self.unwrap_or(T::ZERO).tell(reply)
     }
@@ -126,13 +126,13 @@ impl<T: Field> Field for Option<T> {
 impl<A: Field, B: Field> Field for (A, B) {
     const ZERO: (A, B) = (A::ZERO, B::ZERO);
 
-    fn read(question: &mut Question<'_>) -> Result<(A, B), Fault> {
+    fn read(question: &mut QuestionBytes<'_>) -> Result<(A, B), Mismatch> {
         let first = A::read(question)?;
         let second = B::read(question)?;
         Ok((first, second))
     }
 
-    fn tell(&self, reply: &mut Reply<'_>) -> Result<(), Fault> {
+    fn tell(&self, reply: &mut ReplyBytes<'_>) -> Result<(), Mismatch> {
         self.0.tell(reply)?;
         self.1.tell(reply)
     }
@@ -147,16 +147,16 @@ impl Field for Head {
         records: 0,
     };
 
-    fn read(question: &mut Question<'_>) -> Result<Head, Fault> {
+    fn read(question: &mut QuestionBytes<'_>) -> Result<Head, Mismatch> {
         Ok(Head {
-            kind: Kind::try_from(u8::read(question)?).map_err(|_| Fault::NoQuestion)?,
+            kind: Kind::try_from(u8::read(question)?).map_err(|_| Mismatch::NoQuestion)?,
             base: u16::read(question)?,
             owner: OwnerId::read(question)?,
             records: usize::read(question)?,
         })
     }
 
-    fn tell(&self, reply: &mut Reply<'_>) -> Result<(), Fault> {
+    fn tell(&self, reply: &mut ReplyBytes<'_>) -> Result<(), Mismatch> {
         records::type_byte(*self).tell(reply)?;
         self.base.tell(reply)?;
         self.owner.tell(reply)?;
@@ -171,7 +171,7 @@ impl Field for StorageRemovedBytes {
         removed: Removed::None,
     };
 
-    fn read(question: &mut Question<'_>) -> Result<StorageRemovedBytes, Fault> {
+    fn read(question: &mut QuestionBytes<'_>) -> Result<StorageRemovedBytes, Mismatch> {
         let kind = u8::read(question)?;
         let bytes = u32::read(question)?;
         let rows = usize::read(question)?;
@@ -179,12 +179,12 @@ impl Field for StorageRemovedBytes {
             0 => Removed::None,
             1 => Removed::Basic(bytes),
             2 => Removed::Sectioned(rows),
-            _ => return Err(Fault::NoQuestion),
+            _ => return Err(Mismatch::NoQuestion),
         };
         Ok(StorageRemovedBytes { removed })
     }
 
-    fn tell(&self, reply: &mut Reply<'_>) -> Result<(), Fault> {
+    fn tell(&self, reply: &mut ReplyBytes<'_>) -> Result<(), Mismatch> {
         let (kind, bytes, rows) = match self.removed {
             Removed::None => (0u8, 0u32, 0usize),
             Removed::Basic(bytes) => (1, bytes, 0),

@@ -10,6 +10,6 @@ mod table;
 
 pub use call::{CALLS, Call};
 pub use field::Field;
-pub use question::{Fault, Question};
-pub use reply::{Comparison, Reply};
-pub use table::{Flags, RowTables, Rows, TABLE_PLACES, Table, TableOf, Tables};
+pub use question::{Mismatch, QuestionBytes};
+pub use reply::{Comparison, ReplyBytes};
+pub use table::{FlagsAsked, RowTables, Rows, TABLE_PLACES, Table, TableOf, TablesAsked};

@@ -1,9 +1,9 @@
-// Tables: a number of places, then what stands in them. And what else stands together in questions and replies.
+// TablesAsked: a number of places, then what stands in them. And what else stands together in questions and replies.
 ghost use Rattle.std.specs.Prelude.{◌≤◌};
 
 use crate::field::Field;
-use crate::question::{Fault, Question};
-use crate::reply::Reply;
+use crate::question::{Mismatch, QuestionBytes};
+use crate::reply::ReplyBytes;
 use records_spec::{Head, OwnerId};
 use rows_spec::StorageRemovedBytes;
 
@@ -23,10 +23,10 @@ pub type Table<T> = TableOf<T, TABLE_PLACES>;
 
 impl<T: Field, const N: usize> TableOf<T, N> {
     // Reads a table.
-    pub fn read(question: &mut Question<'_>) -> Result<Self, Fault> {
+    pub fn read(question: &mut QuestionBytes<'_>) -> Result<Self, Mismatch> {
         let used = usize::read(question)?;
         if N < used {
-            return Err(Fault::NoQuestion);
+            return Err(Mismatch::NoQuestion);
         }
         let mut places = [T::ZERO; N];
         for place in places[..used].iter_mut() {
@@ -36,7 +36,7 @@ impl<T: Field, const N: usize> TableOf<T, N> {
     }
 
     // Holds a table against a reply.
-    pub fn tell(&self, reply: &mut Reply<'_>) -> Result<(), Fault> {
+    pub fn tell(&self, reply: &mut ReplyBytes<'_>) -> Result<(), Mismatch> {
         self.used.tell(reply)?;
         for place in self.places() {
             place.tell(reply)?;
@@ -59,39 +59,39 @@ impl<T: Field, const N: usize> TableOf<T, N> {
 
 // The two tables of records.
 #[derive(Drop)]
-pub struct Tables {
+pub struct TablesAsked {
     pub epochs: Table<u16>,
     pub counts: Table<u32>,
 }
 
-impl Tables {
+impl TablesAsked {
     // Reads them.
-    pub fn read(question: &mut Question<'_>) -> Result<Self, Fault> {
-        Ok(Tables {
+    pub fn read(question: &mut QuestionBytes<'_>) -> Result<Self, Mismatch> {
+        Ok(TablesAsked {
             epochs: Table::read(question)?,
             counts: Table::read(question)?,
         })
     }
 
     // Holds them against a reply.
-    pub fn tell(&self, reply: &mut Reply<'_>) -> Result<(), Fault> {
+    pub fn tell(&self, reply: &mut ReplyBytes<'_>) -> Result<(), Mismatch> {
         self.epochs.tell(reply)?;
         self.counts.tell(reply)
     }
 }
 
-// Flags: a head, and the two tables of its records.
+// FlagsAsked: a head, and the two tables of its records.
 #[derive(Drop)]
-pub struct Flags {
+pub struct FlagsAsked {
     pub head: Head,
     pub epochs: Table<u16>,
     pub counts: Table<u32>,
 }
 
-impl Flags {
+impl FlagsAsked {
     // Reads them.
-    pub fn read(question: &mut Question<'_>) -> Result<Self, Fault> {
-        Ok(Flags {
+    pub fn read(question: &mut QuestionBytes<'_>) -> Result<Self, Mismatch> {
+        Ok(FlagsAsked {
             head: Head::read(question)?,
             epochs: Table::read(question)?,
             counts: Table::read(question)?,
@@ -109,7 +109,7 @@ pub struct RowTables<T> {
 
 impl<T: Field> RowTables<T> {
     // Reads them.
-    pub fn read(question: &mut Question<'_>) -> Result<Self, Fault> {
+    pub fn read(question: &mut QuestionBytes<'_>) -> Result<Self, Mismatch> {
         Ok(RowTables {
             ids: Table::read(question)?,
             epochs: Table::read(question)?,
@@ -118,7 +118,7 @@ impl<T: Field> RowTables<T> {
     }
 
     // Holds them against a reply.
-    pub fn tell(&self, reply: &mut Reply<'_>) -> Result<(), Fault> {
+    pub fn tell(&self, reply: &mut ReplyBytes<'_>) -> Result<(), Mismatch> {
         self.ids.tell(reply)?;
         self.epochs.tell(reply)?;
         self.amounts.tell(reply)
@@ -134,7 +134,7 @@ pub struct Rows {
 
 impl Rows {
     // Reads them.
-    pub fn read(question: &mut Question<'_>) -> Result<Self, Fault> {
+    pub fn read(question: &mut QuestionBytes<'_>) -> Result<Self, Mismatch> {
         Ok(Rows {
             removal: StorageRemovedBytes::read(question)?,
             tables: RowTables::read(question)?,

@@ -7,5 +7,5 @@ use Rattle.repair_reading.proofs.padded.end_of.Goals as goal
 pub returns : goal.returns
 returns c =
     let a = c.args in
-    let e = (rw take_rest at c.first_low.ensures) ∙ first_low (drop a.at a.src.now) c.requires in
+    let e = (rw take_rest at c.closing_byte.ensures) ∙ first_low (drop a.at a.src.now) c.requires in
     rw (c.unwrap_or-last.ensures, e) (omega arith)
