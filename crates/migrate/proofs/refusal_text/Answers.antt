@@ -23,11 +23,11 @@ short : (refusal : Refusal) (out : List ℕ) → 11 ≤ length out → length (w
 short refusal out room = omega (arith, short_number (ascii "refused ") 1 (number refusal) (number_below refusal), room)
 
 pub put_number_line-requires : goal.put_number_line-requires
-put_number_line-requires c = rw c.from.ensures (omega (arith, short c.args.refusal c.args.out.now c.requires))
+put_number_line-requires c = rw (c.from-2.ensures, c.from.ensures) (omega (arith, short c.args.refusal c.args.out.now c.requires))
 
 pub returns : goal.returns
 returns c =
     let text = word_line "refused " (number c.args.refusal) in
-    let put = rw c.from.ensures at c.put_number_line.ensures in
+    let put = rw (c.from-2.ensures, c.from.ensures) at c.put_number_line.ensures in
     let stands = at-start text _ _ _ (short c.args.refusal c.args.out.now c.requires) put in
     record { prefix_len = stands.0; out_value = stands.1 }
