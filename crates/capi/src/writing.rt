@@ -14,12 +14,7 @@ pub fn petasunok_serialize(flags: CHead, epochs: &[u16], counts: &[u32], out: &m
     ensures { after result out.new ≡ told_as count_told (serialized_c (flags_were_c flags epochs.now counts.now) out.old) }
 {
     if capi_given::is_kind(flags.kind) {
-        capi_told::count_told(codec::serialize(
-            capi_given::head_given(flags),
-            epochs,
-            counts,
-            out,
-        ))
+        capi_told::count_told(codec::serialize(capi_given::head_given(flags), epochs, counts, out))
     } else {
         capi_told::count_told(Err(Refusal::BadTable))
     }
@@ -30,11 +25,7 @@ pub fn petasunok_serialized_size(flags: CHead, epochs: &[u16], counts: &[u32]) -
     ensures { result ≡ count_told (size_c (flags_were_c flags epochs.now counts.now)) }
 {
     if capi_given::is_kind(flags.kind) {
-        capi_told::count_told(codec::serialized_size(
-            capi_given::head_given(flags),
-            epochs,
-            counts,
-        ))
+        capi_told::count_told(codec::serialized_size(capi_given::head_given(flags), epochs, counts))
     } else {
         capi_told::count_told(Err(Refusal::BadTable))
     }

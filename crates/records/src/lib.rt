@@ -7,8 +7,8 @@ mod room;
 mod table;
 
 pub use head::{
-    base_epoch, id_of, is_multi, is_owned, new_head, new_single_epoch, no_head, owner_id, same_owner,
-    set_owner_id, type_byte,
+    base_epoch, id_of, is_multi, is_owned, new_head, new_single_epoch, no_head, owner_id,
+    same_owner, set_owner_id, type_byte,
 };
 pub use joining::copy_run;
 pub use room::fit;

@@ -1,9 +1,12 @@
 // Replaying the calls on a head alone: 18 to 22.
 use records_spec::{Head, OwnerId};
-use wire::{Mismatch, Field, QuestionBytes, ReplyBytes};
+use wire::{Field, Mismatch, QuestionBytes, ReplyBytes};
 
 // The head of flags whose bytes were all paid in one epoch.
-pub fn new_single_epoch(mut question: QuestionBytes<'_>, reply: &mut ReplyBytes<'_>) -> Result<(), Mismatch> {
+pub fn new_single_epoch(
+    mut question: QuestionBytes<'_>,
+    reply: &mut ReplyBytes<'_>,
+) -> Result<(), Mismatch> {
     let epoch = u16::read(&mut question)?;
     let owner = Option::<OwnerId>::read(&mut question)?;
     question.end()?;
@@ -11,7 +14,10 @@ pub fn new_single_epoch(mut question: QuestionBytes<'_>, reply: &mut ReplyBytes<
 }
 
 // The head with another owner.
-pub fn set_owner_id(mut question: QuestionBytes<'_>, reply: &mut ReplyBytes<'_>) -> Result<(), Mismatch> {
+pub fn set_owner_id(
+    mut question: QuestionBytes<'_>,
+    reply: &mut ReplyBytes<'_>,
+) -> Result<(), Mismatch> {
     let head = Head::read(&mut question)?;
     let owner = OwnerId::read(&mut question)?;
     question.end()?;

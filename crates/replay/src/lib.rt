@@ -7,10 +7,14 @@ mod reads;
 mod repairs;
 mod writes;
 
-use wire::{Call, Comparison, Mismatch, Field, QuestionBytes, ReplyBytes};
+use wire::{Call, Comparison, Field, Mismatch, QuestionBytes, ReplyBytes};
 
 // Makes a call, and holds what it answers against the reply.
-fn make(call: Call, question: QuestionBytes<'_>, reply: &mut ReplyBytes<'_>) -> Result<(), Mismatch> {
+fn make(
+    call: Call,
+    question: QuestionBytes<'_>,
+    reply: &mut ReplyBytes<'_>,
+) -> Result<(), Mismatch> {
     match call {
         Call::Deserialize => reads::deserialize(question, reply),
         Call::DeserializeSingleEpoch => reads::deserialize_single_epoch(question, reply),

@@ -12,7 +12,10 @@ fn chosen(choice: Choice) -> u8 {
 }
 
 // The owner rule on two encodings, and the part that is handed back.
-pub fn combine_owner_id(mut question: QuestionBytes<'_>, reply: &mut ReplyBytes<'_>) -> Result<(), Mismatch> {
+pub fn combine_owner_id(
+    mut question: QuestionBytes<'_>,
+    reply: &mut ReplyBytes<'_>,
+) -> Result<(), Mismatch> {
     let ours = question.part()?;
     let theirs = question.part()?;
     let strategy = question.strategy()?;

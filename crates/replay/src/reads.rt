@@ -21,7 +21,10 @@ impl<'a> Reading<'a> {
 }
 
 // The reader that goes by byte 0.
-pub fn deserialize(question: QuestionBytes<'_>, reply: &mut ReplyBytes<'_>) -> Result<(), Mismatch> {
+pub fn deserialize(
+    question: QuestionBytes<'_>,
+    reply: &mut ReplyBytes<'_>,
+) -> Result<(), Mismatch> {
     let Reading { src, mut lent } = Reading::read(question)?;
     let answered = codec::deserialize(src, lent.epochs.lent(), lent.counts.lent());
     reply.tell_flags(answered, &lent)
@@ -38,7 +41,10 @@ pub fn deserialize_single_epoch(
 }
 
 // The reader of kind 1.
-pub fn deserialize_multi_epoch(question: QuestionBytes<'_>, reply: &mut ReplyBytes<'_>) -> Result<(), Mismatch> {
+pub fn deserialize_multi_epoch(
+    question: QuestionBytes<'_>,
+    reply: &mut ReplyBytes<'_>,
+) -> Result<(), Mismatch> {
     let Reading { src, mut lent } = Reading::read(question)?;
     let answered = codec::deserialize_multi_epoch(src, lent.epochs.lent(), lent.counts.lent());
     reply.tell_flags(answered, &lent)

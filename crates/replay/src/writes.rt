@@ -1,7 +1,7 @@
 // Replaying the writer and the sizes: 6 to 8.
 use codec_spec::Changes;
 use records_spec::Refusal;
-use wire::{Mismatch, Field, FlagsAsked, QuestionBytes, ReplyBytes, TableOf};
+use wire::{Field, FlagsAsked, Mismatch, QuestionBytes, ReplyBytes, TableOf};
 
 // The most bytes that are lent for writing in a stored question.
 const ROOM_TO_WRITE: usize = 1024;
@@ -16,7 +16,10 @@ fn tell_count(reply: &mut ReplyBytes<'_>, counted: Result<usize, Refusal>) -> Re
 }
 
 // The writer: flags, and the bytes that are lent.
-pub fn serialize(mut question: QuestionBytes<'_>, reply: &mut ReplyBytes<'_>) -> Result<(), Mismatch> {
+pub fn serialize(
+    mut question: QuestionBytes<'_>,
+    reply: &mut ReplyBytes<'_>,
+) -> Result<(), Mismatch> {
     let flags = FlagsAsked::read(&mut question)?;
     let mut out = TableOf::<u8, ROOM_TO_WRITE>::read(&mut question)?;
     question.end()?;
@@ -31,7 +34,10 @@ pub fn serialize(mut question: QuestionBytes<'_>, reply: &mut ReplyBytes<'_>) ->
 }
 
 // The size of flags.
-pub fn serialized_size(mut question: QuestionBytes<'_>, reply: &mut ReplyBytes<'_>) -> Result<(), Mismatch> {
+pub fn serialized_size(
+    mut question: QuestionBytes<'_>,
+    reply: &mut ReplyBytes<'_>,
+) -> Result<(), Mismatch> {
     let flags = FlagsAsked::read(&mut question)?;
     question.end()?;
     let counted = codec::serialized_size(flags.head, flags.epochs.places(), flags.counts.places());
@@ -39,9 +45,16 @@ pub fn serialized_size(mut question: QuestionBytes<'_>, reply: &mut ReplyBytes<'
 }
 
 // The size of flags before they are made.
-pub fn approximate_size(mut question: QuestionBytes<'_>, reply: &mut ReplyBytes<'_>) -> Result<(), Mismatch> {
+pub fn approximate_size(
+    mut question: QuestionBytes<'_>,
+    reply: &mut ReplyBytes<'_>,
+) -> Result<(), Mismatch> {
     let has_owner = bool::read(&mut question)?;
     let changes = Option::<(u16, u8)>::read(&mut question)?;
     question.end()?;
-    codec::approximate_size(has_owner, changes.map(|(count, size)| Changes { count, size })).tell(reply)
+    codec::approximate_size(
+        has_owner,
+        changes.map(|(count, size)| Changes { count, size }),
+    )
+    .tell(reply)
 }

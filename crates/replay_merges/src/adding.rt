@@ -1,6 +1,6 @@
 // Replaying the adding merges: 10 and 11.
 use flags_spec::MergingOwnersStrategy;
-use wire::{Mismatch, Field, FlagsAsked, QuestionBytes, ReplyBytes, TablesAsked};
+use wire::{Field, FlagsAsked, Mismatch, QuestionBytes, ReplyBytes, TablesAsked};
 
 // What an adding merge is asked with: ours, theirs, the amount, the strategy, and the tables that are lent.
 #[derive(Drop)]
@@ -28,7 +28,10 @@ impl Adding {
 }
 
 // The adding merge.
-pub fn combine_added_bytes(question: QuestionBytes<'_>, reply: &mut ReplyBytes<'_>) -> Result<(), Mismatch> {
+pub fn combine_added_bytes(
+    question: QuestionBytes<'_>,
+    reply: &mut ReplyBytes<'_>,
+) -> Result<(), Mismatch> {
     let Adding {
         ours,
         theirs,

@@ -1,6 +1,6 @@
 // Replaying the removing merges: 12 and 13.
 use flags_spec::MergingOwnersStrategy;
-use wire::{Mismatch, Field, FlagsAsked, QuestionBytes, ReplyBytes, Rows, TablesAsked};
+use wire::{Field, FlagsAsked, Mismatch, QuestionBytes, ReplyBytes, Rows, TablesAsked};
 
 // What a removing merge is asked with: ours, theirs, the removal, the strategy, and the tables that are lent.
 #[derive(Drop)]
@@ -28,7 +28,10 @@ impl Removing {
 }
 
 // The removing merge.
-pub fn combine_removed_bytes(question: QuestionBytes<'_>, reply: &mut ReplyBytes<'_>) -> Result<(), Mismatch> {
+pub fn combine_removed_bytes(
+    question: QuestionBytes<'_>,
+    reply: &mut ReplyBytes<'_>,
+) -> Result<(), Mismatch> {
     let Removing {
         ours,
         theirs,

@@ -1,8 +1,11 @@
 // Replaying removal sums: 15 to 17.
-use wire::{Mismatch, Field, QuestionBytes, ReplyBytes, Rows};
+use wire::{Field, Mismatch, QuestionBytes, ReplyBytes, Rows};
 
 // The sum of two removals, the first of which is lent.
-pub fn add_assign(mut question: QuestionBytes<'_>, reply: &mut ReplyBytes<'_>) -> Result<(), Mismatch> {
+pub fn add_assign(
+    mut question: QuestionBytes<'_>,
+    reply: &mut ReplyBytes<'_>,
+) -> Result<(), Mismatch> {
     let mut ours = Rows::read(&mut question)?;
     let rhs = Rows::read(&mut question)?;
     let version = u16::read(&mut question)?;
@@ -30,7 +33,10 @@ fn read_rows(mut question: QuestionBytes<'_>) -> Result<Rows, Mismatch> {
 }
 
 // Whether something was removed: 1 or 0, in four bytes.
-pub fn has_removal(question: QuestionBytes<'_>, reply: &mut ReplyBytes<'_>) -> Result<(), Mismatch> {
+pub fn has_removal(
+    question: QuestionBytes<'_>,
+    reply: &mut ReplyBytes<'_>,
+) -> Result<(), Mismatch> {
     let rows = read_rows(question)?;
     let has = rows::has_removal(
         rows.removal,
@@ -42,7 +48,10 @@ pub fn has_removal(question: QuestionBytes<'_>, reply: &mut ReplyBytes<'_>) -> R
 }
 
 // How many bytes were removed.
-pub fn total_removed_bytes(question: QuestionBytes<'_>, reply: &mut ReplyBytes<'_>) -> Result<(), Mismatch> {
+pub fn total_removed_bytes(
+    question: QuestionBytes<'_>,
+    reply: &mut ReplyBytes<'_>,
+) -> Result<(), Mismatch> {
     let rows = read_rows(question)?;
     let total = rows::total_removed_bytes(
         rows.removal,

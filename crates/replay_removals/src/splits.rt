@@ -1,5 +1,5 @@
 // Replaying the splits of a removal: 25 of key bytes, 26 of value bytes.
-use wire::{Mismatch, Field, FlagsAsked, QuestionBytes, ReplyBytes, RowTables};
+use wire::{Field, FlagsAsked, Mismatch, QuestionBytes, ReplyBytes, RowTables};
 
 // What a split is asked with: flags, how many bytes were removed, and the tables that are lent for the rows.
 #[derive(Drop)]
@@ -23,7 +23,10 @@ impl Split {
 }
 
 // The split of key bytes.
-pub fn split_key_removed_bytes(question: QuestionBytes<'_>, reply: &mut ReplyBytes<'_>) -> Result<(), Mismatch> {
+pub fn split_key_removed_bytes(
+    question: QuestionBytes<'_>,
+    reply: &mut ReplyBytes<'_>,
+) -> Result<(), Mismatch> {
     let Split {
         flags,
         removed,

@@ -1,10 +1,13 @@
 // Replaying the change of a table of totals: 24.
 #![tactic(auto)]
 
-use wire::{Mismatch, Field, FlagsAsked, QuestionBytes, ReplyBytes, RowTables};
+use wire::{Field, FlagsAsked, Mismatch, QuestionBytes, ReplyBytes, RowTables};
 
 // One element's old flags replaced by new ones: the table that is lent, and both flags, each of which may be absent.
-pub fn totals_replace(mut question: QuestionBytes<'_>, reply: &mut ReplyBytes<'_>) -> Result<(), Mismatch> {
+pub fn totals_replace(
+    mut question: QuestionBytes<'_>,
+    reply: &mut ReplyBytes<'_>,
+) -> Result<(), Mismatch> {
     let rows = usize::read(&mut question)?;
     let mut lent = RowTables::<u64>::read(&mut question)?;
     let old_present = bool::read(&mut question)?;

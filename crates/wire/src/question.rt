@@ -23,7 +23,10 @@ impl<'a> QuestionBytes<'a> {
 
     // The next N bytes.
     pub(crate) fn array<const N: usize>(&mut self) -> Result<[u8; N], Mismatch> {
-        let (bytes, rest) = self.rest.split_first_chunk::<N>().ok_or(Mismatch::NoQuestion)?;
+        let (bytes, rest) = self
+            .rest
+            .split_first_chunk::<N>()
+            .ok_or(Mismatch::NoQuestion)?;
         self.rest = rest;
         Ok(*bytes)
     }
