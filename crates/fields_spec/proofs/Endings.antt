@@ -1,5 +1,5 @@
 -- The byte that ends a varint, as judging and reading answer it: the bytes end first, the last byte is 0, or the varint is whole. `Begun` says
--- what is known of the bytes before it. By the laws of `Places`.
+-- what is known of the bytes before it. By the laws of `Places`. Assumes nothing.
 use Rattle.std.proofs.Common.{ℕ, suc, ◌+◌, ◌*◌, ◌%◌, ◌^◌, ◌≤◌, ◌<◌, ◌≡◌, ◌⊎◌, inl, inr, true, List, length, get_or, take, drop, Ok, Err}
 use Rattle.std.proofs.Common.{sym, ap, ◌∙◌, arith, length-take}
 use Rattle.std.proofs.Math.Decide.{dec_lt}

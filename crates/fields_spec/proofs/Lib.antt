@@ -1,3 +1,4 @@
+-- The proofs that stand in files of their own. Assumes nothing.
 pub mod Marked
 pub mod Bigs
 pub mod Bases

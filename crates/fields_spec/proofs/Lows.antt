@@ -1,4 +1,5 @@
 -- The first byte without the top bit, as `position` finds it: it ends the varint, and where none is among the first ten bytes it is incomplete.
+-- Assumes nothing.
 use Rattle.std.proofs.Common.{ℕ, zero, suc, ◌+◌, ◌≤◌, ◌<◌, ◌≡◌, min, Bool, ltb, List, [], ◌∷◌, length, get_or, take, drop}
 use Rattle.std.proofs.Common.{Some, None, position, refl, sym, ap, ◌∙◌, arith, length-take, Ok, add-zero, le-ltb, lt-ltb, drop-drop, length-drop, get_or-drop}
 use Rattle.std.proofs.Math.Decide.{dec_lt}

@@ -1,4 +1,4 @@
--- What judging and reading answer tells what is found: each answer is given for one case of it. By cases.
+-- What judging and reading answer tells what is found: each answer is given for one case of it. By cases. Assumes nothing.
 use Rattle.std.proofs.Common.{ℕ, ◌+◌, ◌≡◌, true, refl, sym, ap, Ok, Err}
 use Rattle.fields_spec.specs.Varint.{Found, incomplete, notCanonical, whole}
 use Rattle.fields_spec.specs.Inner.Varints.{judged_at, read_at, is_whole}

@@ -94,7 +94,7 @@ fn run(rt: &HostRuntime, room: &mut Buffers) -> io::Result<()> {
     match streams::read_all(&mut rt.stdin(), &mut room.src) {
         Ok(n) if MOST_REPAIRED < n => say(&mut rt.stderr(), b"too long\n"),
         Ok(n) => migrate(rt, n, room),
-        Err(_) => streams::say_unread(&mut rt.stderr()),
+        Err(_) => streams::try_say_unread(&mut rt.stderr()),
     }
 }
 

@@ -1,4 +1,4 @@
--- The length of a run of records.
+-- The length of a run of records. Assumes nothing.
 use Rattle.std.proofs.Common.{◌≡◌, ℕ, ◌-◌, ◌≤◌, List, length, ◌∙◌}
 use Rattle.std.proofs.lemmas.List.{length-drop}
 use Rattle.records_spec.specs.Tables.{records_of}

@@ -1,4 +1,4 @@
--- What the conversion of a byte tells of the kind that it names. By cases on what is named.
+-- What the conversion of a byte tells of the kind that it names. By cases on what is named. Assumes nothing.
 use Rattle.std.proofs.Common.{◌≡◌, ℕ, arith}
 use Rattle.std.specs.Prelude.{Option, None, Some, Result, Ok, Err, ok_or}
 use Rattle.records_spec.specs.declared.head.Kind.{Kind}

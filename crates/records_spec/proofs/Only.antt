@@ -8,7 +8,7 @@ use native.Mathlib.Omega.{arith}
 use Rattle.records_spec.specs.Refusals.{number, refusal_of}
 use Rattle.records_spec.specs.Outcomes.{Answer, ok, refused, answered, number_in, After, after, kept, leaving}
 use Rattle.records_spec.specs.Flags.{Lent, lending}
-use Rattle.records_spec.specs.Answers.{FlagsAfter, shown}
+use Rattle.records_spec.specs.Answers.{FlagsAfter, present_in, head_in, shown}
 use Rattle.records_spec.specs.declared.refusal.Refusal.{Refusal}
 use Rattle.records_spec.proofs.Answers.{refused_not_ok}
 use Rattle.records_spec.specs.declared.refusal.Refusal.TheVariants.{UnknownType, WrongSize, NonCanonical, DifferentBaseEpoch, DifferentOwners}
@@ -90,21 +90,18 @@ pub answered_back : {A : Type 0} (r : Result A Refusal) → answered_as (answere
 answered_back (Ok a) = refl
 answered_back (Err r) = ap Err (named_back r)
 
--- the flags' head, none or the refusal, by what a call left
-abbrev shown_as : FlagsAfter → Result (Option Head) Refusal
-shown_as x = by x.answer
-  where
-    by : Answer Bool → Result (Option Head) Refusal
-    by (ok true) = Ok (Some x.lent.head)
-    by (ok false) = Ok None
-    by (refused n) = Err (refusal_of n)
+-- what was answered, by whether there are flags, and by the head that is left
+abbrev shown_as : Answer Bool → Head → Result (Option Head) Refusal
+shown_as (ok true) h = Ok (Some h)
+shown_as (ok false) h = Ok None
+shown_as (refused n) h = Err (refusal_of n)
 
-shown_back : (t : Lent) (a : Result (Option Head) Refusal) → shown_as (shown a t) ≡ a
-shown_back t (Ok None) = refl
-shown_back t (Ok (Some h)) = refl
-shown_back t (Err r) = ap Err (named_back r)
+shown_back : (a : Result (Option Head) Refusal) → shown_as (present_in a) (head_in a) ≡ a
+shown_back (Ok None) = refl
+shown_back (Ok (Some h)) = refl
+shown_back (Err r) = ap Err (named_back r)
 
 pub shown_only : (a b : Result (Option Head) Refusal) (t u : Lent) (x : FlagsAfter) → shown a t ≡ x → shown b u ≡ x → (a ≡ b) × (t ≡ u)
 shown_only a b t u x p q =
-    let e = same_only (shown a t) (shown b u) x p q in
-    (sym (shown_back t a) ∙ ap shown_as e ∙ shown_back u b, ap (λ (w : FlagsAfter). lending w.lent.epochs w.lent.counts) e)
+    let e = left_only (λ y. y) (λ y. y) (λ y. refl) (present_in a) (present_in b) _ _ x p q in
+    (sym (shown_back a) ∙ (λ i. shown_as (e.0 i) (e.1 i).head) ∙ shown_back b, (λ i. lending (e.1 i).epochs (e.1 i).counts))

@@ -5,7 +5,7 @@ ghost use Rattle.records_spec.specs.declared.refusal.Refusal.TheVariants.{Unknow
 
 use crate::refusal::Refusal;
 
-// The bytes of an owner: `owner_length`, by what `records::no_owner` ensures.
+// The bytes of an owner: `owner_length`, by what `records::no_head` ensures.
 pub const OWNER_LENGTH: usize = 32;
 
 // Who paid.

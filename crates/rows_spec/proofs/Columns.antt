@@ -3,11 +3,10 @@
 use mathlib.Core.Path.{◌≡◌, refl, sym, ap, ◌∙◌}
 use mathlib.Core.List.{List, [], ◌∷◌, ◌++◌}
 use Prim.Native.Nat.{ℕ, zero, suc, ◌+◌, ◌-◌, ◌≤◌}
-use native.Mathlib.Nat.{le_of_suc-le-suc, not-suc-le-zero}
+use native.Mathlib.Nat.{le_of_suc-le-suc, not-suc-le-zero, sub-zero}
 use native.Mathlib.Omega.{arith}
 use lib.ListN.{length, take, drop, length-drop, length-append}
-use lib.Seq.{drop-append-add, drop-drop}
-use Rattle.std.proofs.lemmas.List.{drop-take, take_rest}
+use lib.Seq.{drop-append-add, drop-drop, take-nil, take_all}
 use Rattle.records_spec.specs.Tables.{At, records_of, epochs_of, counts_of, over}
 use Rattle.records_spec.proofs.Tables.{over-holds, over-long, take_records, drop_records, length_column, column_append}
 use Rattle.rows_spec.specs.Rows.{Row, ascends, ids_of, parts_of, Tables, tables, rows_of, rows_in, room_in, over_rows, Room}
@@ -166,14 +165,17 @@ drop_rows_of (suc k) (i ∷ is) (p ∷ ps) = drop_rows_of k is ps
 abbrev pub part {ℓ} : {A : Type ℓ} → ℕ → List A → List A
 part k l = take (length l - k) (drop k l)
 
-module _ {A : Type 0} where
+module _ {ℓ} {A : Type ℓ} where
   pub take_behind : (k m : ℕ) (l : List A) → k ≤ m → take (m - k) (drop k l) ≡ drop k (take m l)
-  take_behind k m l h =
-      let e : k + (m - k) ≡ m = omega arith in
-      sym (drop-take k (m - k) l) ∙ ap (λ (n : ℕ). drop k (take n l)) e
+  take_behind zero m l h = rw (sub-zero m)
+  take_behind (suc k) zero l h = absurd (not-suc-le-zero h)
+  take_behind (suc k) (suc m) [] h = take-nil (suc m - suc k)
+  take_behind (suc k) (suc m) (x ∷ l) h =
+      let e : suc m - suc k ≡ m - k = omega arith in
+      rw e (take_behind k m l (omega arith))
 
   part_is : (k : ℕ) (l : List A) → part k l ≡ drop k l
-  part_is k l = take_rest l k
+  part_is k l = take_all (length l - k) (drop k l) (omega (arith, length-drop k l))
 
   part_long : (k : ℕ) (l : List A) → length (part k l) ≡ length l - k
   part_long k l = ap (length {A = A}) (part_is k l) ∙ length-drop k l

@@ -29,8 +29,10 @@ fn show(rt: &HostRuntime, src: &[u8], out: &mut [u8]) -> io::Result<()>
 fn main(rt: HostRuntime) {
     let mut src = [0u8; MOST_LISTED + 1];
     let mut out = [0u8; LONGEST_TEXT];
-    let _ = match streams::read_all(&mut rt.stdin(), &mut src) {
-        Ok(n) => show(&rt, &src[..n], &mut out),
+    match streams::read_all(&mut rt.stdin(), &mut src) {
+        Ok(n) => {
+            let _ = show(&rt, &src[..n], &mut out);
+        }
         Err(_) => streams::say_unread(&mut rt.stderr()),
-    };
+    }
 }

@@ -1,4 +1,4 @@
--- Walks over slices from the back, one or two at once: the item after k turns is the last of the j that are left.
+-- Walks over slices from the back, one or two at once: the item after k turns is the last of the j that are left. Assumes nothing.
 use Rattle.std.proofs.Common.{◌≡◌, ℕ, ◌+◌, ◌-◌, ◌<◌, List, length, get_or, reverse, arith, ap, ◌∙◌}
 use Rattle.std.specs.List.{zip}
 use Rattle.std.proofs.lemmas.List.{get_or-reverse, length-reverse, get_or_default}

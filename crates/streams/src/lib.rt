@@ -44,10 +44,15 @@ pub fn say<E: Write>(errors: &mut E, text: &[u8]) -> io::Result<()>
 }
 
 // Says that standard input could not be read.
-pub fn say_unread<E: Write>(errors: &mut E) -> io::Result<()>
+pub fn try_say_unread<E: Write>(errors: &mut E) -> io::Result<()>
     ensures { OnOk result (Appends (E.contents errors.old) (E.contents errors.new) (codes "cannot read\n")) }
 {
     say(errors, b"cannot read\n")
+}
+
+// The same for a caller who has nothing left to do where it is not taken.
+pub fn say_unread<E: Write>(errors: &mut E) {
+    let _ = try_say_unread(errors);
 }
 
 // Writes bytes to standard output, and says so where they are not all taken.

@@ -1,2 +1,2 @@
--- What the loops that judge counts share.
+-- What the loops that judge counts share. Assumes nothing.
 pub mod Told

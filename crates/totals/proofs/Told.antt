@@ -1,4 +1,4 @@
--- A count at hand while counts are judged: it is the next of them, and the look-up tells the total of its row.
+-- A count at hand while counts are judged: it is the next of them, and the look-up tells the total of its row. Assumes nothing.
 use Rattle.std.proofs.Common.{◌≡◌, ℕ, ◌+◌, List, ◌∷◌, drop, get_or, ap, ◌∙◌}
 use Rattle.records_spec.specs.Inner.Tables.{Table}
 use Rattle.rows_spec.specs.Rows.{Row, row}

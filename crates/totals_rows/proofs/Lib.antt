@@ -1,2 +1,2 @@
--- What the loops over records share.
+-- What the loops over records share. Assumes nothing.
 pub mod Turns

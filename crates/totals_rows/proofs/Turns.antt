@@ -1,5 +1,5 @@
 -- Loops over the records of a table, an epoch and a count in each turn: the record at hand, from the front or from the back, and that none is
--- left where the loop ends. From the front by the place of the turn, from the back by what the iterator has left.
+-- left where the loop ends. From the front by the place of the turn, from the back by what the iterator has left. Assumes nothing.
 use Rattle.std.proofs.Common.{◌≡◌, ℕ, ◌+◌, ◌-◌, ◌<◌, ◌≤◌, List, Iter, [], ◌∷◌, ◌++◌, length, get_or, take, refl, sym, ap, ◌∙◌, arith}
 use Rattle.std.proofs.lemmas.List.{length_push, take_at, get_or_at, take-take, get_or-take, take_all}
 use Rattle.std.proofs.lemmas.Iterator.{zips}

@@ -1,6 +1,8 @@
 // Replays the list of stored answers on standard input, and says how many agree.
 #![tactic(auto)]
 
+ghost use Rattle.std.specs.Prelude.{◌≤◌, length};
+
 use std::io::{Read, Write};
 use vectors_list::{Tally, TextLine};
 use wire::Comparison;
@@ -41,15 +43,31 @@ impl List {
     }
 }
 
-// Reads all of standard input, up to its end or a read that fails, behind which the last line ends. A loop has to end, so it has a number of turns
-// that no run uses up.
+// Reads until the piece is full, the input ends or a read fails; answers how many bytes came.
+fn fill<R: Read>(input: &mut R, piece: &mut [u8]) -> usize
+    ensures { result ≤ length piece.new }
+{
+    let mut done: usize = 0;
+    // no `for`: the place moves by what a read has brought
+    while done < piece.len() {
+        match input.read(&mut piece[done..]) {
+            Ok(n) if 0 < n => done += n,
+            _ => return done,
+        }
+    }
+    done
+}
+
+// Reads all of standard input, up to a piece of which nothing came, behind which the last line ends. So an input that goes on behind an end, as a
+// terminal's, is read on. A loop has to end, so it has a number of turns that no run uses up.
 fn read_list(rt: &HostRuntime, list: &mut List) {
     let mut piece = [0u8; PIECE_BYTES];
     for _ in 0..u64::MAX {
-        match rt.stdin().read(&mut piece) {
-            Ok(n) if 0 < n => list.take(&mut rt.stdout(), &piece[..n]),
-            _ => break,
+        let got = fill(&mut rt.stdin(), &mut piece);
+        if got == 0 {
+            break;
         }
+        list.take(&mut rt.stdout(), &piece[..got]);
     }
     list.end_line(&mut rt.stdout());
 }

@@ -17,7 +17,7 @@ enum LinePart {
 
 // A line: its number, what has come of it, the first digit of a byte whose second is to come, and the bytes of the question and the reply, one
 // behind the other, with the places where the reply begins and where it ends.
-#[derive(Drop)]
+#[derive(Clone, Copy)]
 pub struct TextLine {
     number: u64,
     part: LinePart,

@@ -1,5 +1,6 @@
 // How many answers agree and how many differ.
 use std::fmt;
+use std::fmt::Write as _;
 use std::io::Write;
 use wire::{CALLS, Comparison};
 
@@ -37,6 +38,19 @@ impl fmt::Display for Count {
     }
 }
 
+// An output that is written piece by piece: of a piece that is not taken the next one is tried.
+#[derive(Drop)]
+struct Pieces<'a, W> {
+    output: &'a mut W,
+}
+
+impl<W: Write> fmt::Write for Pieces<'_, W> {
+    fn write_str(&mut self, text: &str) -> fmt::Result {
+        let _ = self.output.write_all(text.as_bytes());
+        Ok(())
+    }
+}
+
 // The answers of each call, by its number, and all answers, among which lines that are no vectors count as those that differ.
 #[derive(Drop)]
 pub struct Tally {
@@ -65,31 +79,31 @@ impl Tally {
                 self.all.agrees();
             }
             Comparison::Differs(call) => {
-                self.name(output, number, format_args!("{call} differs"));
+                self.name(output, number, format_args!("{call} differs\n"));
                 self.by_call[call as usize].differs();
                 self.all.differs();
             }
             Comparison::NoQuestion => {
-                self.name(output, number, "not a vector");
+                self.name(output, number, "not a vector\n");
                 self.all.differs();
             }
         }
     }
 
-    // Says what is wrong with the line of a number, where not enough are named yet. A write that fails is passed over.
+    // Says what is wrong with the line of a number, where not enough are named yet.
     fn name<W: Write>(&self, output: &mut W, number: u64, fault: impl fmt::Display + Drop) {
         if self.all.differ < NAMED {
-            let _ = writeln!(output, "line {number}: {fault}");
+            let _ = write!(Pieces { output }, "line {number}: {fault}");
         }
     }
 
-    // Writes the line of each call, and the last line. A write that fails is passed over, and the next one is tried.
+    // Writes the line of each call, and the last line.
     pub fn print<W: Write>(&self, output: &mut W) {
         for call in CALLS {
             let count = self.by_call[call as usize];
-            let _ = writeln!(output, "{call}: {count}");
+            let _ = writeln!(Pieces { output }, "{call}: {count}");
         }
         let all = self.all;
-        let _ = writeln!(output, "{all} answers agree");
+        let _ = writeln!(Pieces { output }, "{all} answers agree");
     }
 }

@@ -1,4 +1,4 @@
--- The call's own answer is told, or 11.
+-- The call's own answer is told, or 11. Assumes nothing.
 use Rattle.rows_spec.specs.Calls.{told_removal}
 use Rattle.capi_spec.specs.Told.{sum_answer}
 use Rattle.records_spec.specs.declared.refusal.Refusal.TheVariants.{BadTable}

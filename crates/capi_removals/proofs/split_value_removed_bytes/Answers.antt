@@ -1,4 +1,4 @@
--- The call's own answer is told, or 11.
+-- The call's own answer is told, or 11. Assumes nothing.
 use Rattle.splitting_spec.specs.Calls.{told_split}
 use Rattle.capi_spec.specs.Told.{split_answer}
 use Rattle.records_spec.specs.declared.refusal.Refusal.TheVariants.{BadTable}

@@ -1,4 +1,4 @@
--- The call's own answer is told, or 11.
+-- The call's own answer is told, or 11. Assumes nothing.
 use mathlib.Core.Path.{refl, sym, ap, ◌∙◌}
 use Rattle.capi_spec.proofs.Telling.{when_true, when_false}
 use Rattle.capi_spec.specs.Told.{count_told}

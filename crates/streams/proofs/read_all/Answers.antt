@@ -1,4 +1,4 @@
--- What a turn reads stands behind what was read before, and is what the reader has lost.
+-- What a turn reads stands behind what was read before, and is what the reader has lost. Assumes nothing.
 use Rattle.std.proofs.Common.{◌≡◌, ℕ, zero, suc, ◌+◌, ◌-◌, ◌≤◌, List, ◌++◌, length, take, arith, ap, ◌∙◌, length-take-le}
 use Rattle.std.specs.Prelude.{Some, Result, Ok, Err}
 use Rattle.std.proofs.Math.Seq.{take-append-add}

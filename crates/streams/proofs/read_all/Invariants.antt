@@ -1,4 +1,4 @@
--- `read_all` ends, since each turn reads a byte at least, and what was read stands at the start of what was lent.
+-- `read_all` ends, since each turn reads a byte at least, and what was read stands at the start of what was lent. Assumes nothing.
 use Rattle.std.proofs.Common.{◌-◌, ◌≤◌, length, take}
 use Rattle.std.specs.Io.KnownBytes.{Consumes}
 use Rattle.streams.proofs.read_all.Given as goal

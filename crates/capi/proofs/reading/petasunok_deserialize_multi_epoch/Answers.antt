@@ -1,4 +1,4 @@
--- The call's own answer is told.
+-- The call's own answer is told. Assumes nothing.
 use Rattle.records_spec.specs.Flags.{lending}
 use Rattle.capi_spec.proofs.Telling.{flags_told_lem}
 use Rattle.capi.proofs.reading.petasunok_deserialize_multi_epoch.Goals as goal

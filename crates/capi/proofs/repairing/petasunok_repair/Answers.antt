@@ -1,4 +1,4 @@
--- The call's own answer is told.
+-- The call's own answer is told. Assumes nothing.
 use Rattle.repair_spec.specs.Calls.{repair_lent}
 use Rattle.records_spec.specs.Outcomes.{answered}
 use Rattle.capi_spec.specs.Told.{repair_answer}

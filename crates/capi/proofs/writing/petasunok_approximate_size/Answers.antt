@@ -1,4 +1,4 @@
--- The size is that of what C gave.
+-- The size is that of what C gave. Assumes nothing.
 use mathlib.Core.Path.{◌∙◌}
 use Rattle.capi.proofs.writing.petasunok_approximate_size.Goals as goal
 

@@ -1,4 +1,4 @@
--- The call's own answer is told, or 11.
+-- The call's own answer is told, or 11. Assumes nothing.
 use Rattle.records_spec.specs.Outcomes.{answered}
 use Rattle.capi_spec.specs.Told.{count_told}
 use Rattle.records_spec.specs.declared.refusal.Refusal.TheVariants.{BadTable}

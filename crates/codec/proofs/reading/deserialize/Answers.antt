@@ -1,4 +1,4 @@
--- Byte 0 names the kind by which the bytes are read.
+-- Byte 0 names the kind by which the bytes are read. Assumes nothing.
 use Rattle.std.proofs.Common.{length, refl, sym, ap, ◌∙◌, arith, Err}
 use Rattle.std.specs.Prelude.{Option}
 use Rattle.std.proofs.lemmas.Result.{err_from_is_err_and}

@@ -1,4 +1,4 @@
--- The size and what reading the records found lead to each case of `read_as`.
+-- The size and what reading the records found lead to each case of `read_as`. Assumes nothing.
 use Rattle.std.proofs.Common.{length, refl, arith}
 use Rattle.codec_spec.specs.Reading.{read_as}
 use Rattle.codec_spec.proofs.Readings.{multi_short}

@@ -1,4 +1,4 @@
--- The size is right and there are no records, or it is wrong.
+-- The size is right and there are no records, or it is wrong. Assumes nothing.
 use Rattle.std.proofs.Common.{[], length, refl, sym, ap, ◌∙◌, arith}
 use Rattle.records_spec.specs.Flags.{flags, lending}
 use Rattle.records_spec.specs.Answers.{placing_if}

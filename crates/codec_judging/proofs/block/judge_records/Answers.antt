@@ -1,4 +1,4 @@
--- A block passes some bytes or has the first fault; behind the loop nothing is left to read.
+-- A block passes some bytes or has the first fault; behind the loop nothing is left to read. Assumes nothing.
 use Rattle.std.proofs.Common.{◌≡◌, length, refl, sym, ap, ◌∙◌, arith, Err}
 use Rattle.std.specs.Prelude.{Option, None}
 use Rattle.std.proofs.lemmas.Result.{err_from_is_err_and}

@@ -1,4 +1,4 @@
--- What is found from the place reached on has the first fault of all, and with the records passed as many.
+-- What is found from the place reached on has the first fault of all, and with the records passed as many. Assumes nothing.
 use Rattle.std.proofs.Common.{◌≡◌, ◌+◌, ◌-◌, ◌≤◌, length}
 use Rattle.codec_spec.proofs.Parsing.{rest}
 use Rattle.codec_judging.proofs.block.judge_records.Given as goal

@@ -1,4 +1,4 @@
--- Each turn takes a record more or ends with its fault; the block ends where it is full or the bytes end.
+-- Each turn takes a record more or ends with its fault; the block ends where it is full or the bytes end. Assumes nothing.
 use Rattle.std.proofs.Common.{sym, arith}
 use Rattle.std.proofs.lemmas.Result.{err_from_is_err_and}
 use Rattle.codec_spec.proofs.Taking.{taken_start, taken_bad, taken_more, blocked_faulty, blocked_taken}

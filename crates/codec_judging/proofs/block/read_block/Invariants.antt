@@ -1,4 +1,4 @@
--- The records of the block were taken, and are not too many.
+-- The records of the block were taken, and are not too many. Assumes nothing.
 use Rattle.std.proofs.Common.{◌≤◌, ◌-◌}
 use Rattle.codec_spec.specs.Inner.Blocks.{block_records, Taken}
 use Rattle.codec_judging.proofs.block.read_block.Given as goal

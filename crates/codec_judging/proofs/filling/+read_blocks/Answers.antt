@@ -1,4 +1,4 @@
--- A block is read; where records are left behind it, the call for those gives what stands after its own.
+-- A block is read; where records are left behind it, the call for those gives what stands after its own. Assumes nothing.
 use Rattle.std.proofs.Common.{refl, sym, ◌∙◌, ◌+◌, length, arith}
 use Rattle.std.proofs.lemmas.Result.{err_from_is_err_and}
 use Rattle.codec_spec.proofs.Stacking.{filled_faulty, filled_whole, filled_alike, taken_long, last_filled, stacked_room, stacked}

@@ -1,4 +1,4 @@
--- The measure is the number of bytes that are left.
+-- The measure is the number of bytes that are left. Assumes nothing.
 use Rattle.std.proofs.Common.{◌-◌, length}
 use Rattle.codec_judging.proofs.filling.+read_blocks.Given as goal
 

@@ -1,4 +1,4 @@
--- The block has no room: what was found is the refusal. Where it has room, `search` finds that it was placed.
+-- The block has no room: what was found is the refusal. Where it has room, `search` finds that it was placed. Assumes nothing.
 use Rattle.std.proofs.Common.{◌+◌, length, take, refl, sym, ap, ◌∙◌, Err}
 use Rattle.std.specs.Prelude.{None}
 use Rattle.records_spec.specs.Tables.{records_of}

@@ -1,4 +1,4 @@
--- Byte 0 names a kind, or none; no bytes are no flags.
+-- Byte 0 names a kind, or none; no bytes are no flags. Assumes nothing.
 use Rattle.std.proofs.Common.{sym, ap, ◌∙◌, length, arith, Err}
 use borrow.Author.Tests.{eqb-true, eqb-false}
 use Rattle.records_spec.specs.declared.head.Kind.{Kind}

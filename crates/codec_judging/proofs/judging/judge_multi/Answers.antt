@@ -1,4 +1,4 @@
--- The size and what judging the records found lead to each case of `read_as`.
+-- The size and what judging the records found lead to each case of `read_as`. Assumes nothing.
 use Rattle.std.proofs.Common.{length, refl, sym, ap, ◌∙◌, arith, Ok, Err}
 use Rattle.std.specs.Prelude.{Some}
 use Rattle.std.proofs.lemmas.Result.{err_from_is_err_and}

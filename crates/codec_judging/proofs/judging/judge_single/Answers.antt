@@ -1,4 +1,4 @@
--- The size decides.
+-- The size decides. Assumes nothing.
 use Rattle.std.proofs.Common.{sym, ap, ◌∙◌, Ok, Err}
 use Rattle.std.specs.Prelude.{Some}
 use Rattle.codec_spec.specs.Calls.{judgement}

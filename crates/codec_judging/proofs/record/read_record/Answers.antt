@@ -1,4 +1,4 @@
--- The epoch's length, the varint and the order of epochs lead to each case of `next`.
+-- The epoch's length, the varint and the order of epochs lead to each case of `next`. Assumes nothing.
 use Rattle.std.proofs.Common.{◌≡◌, ℕ, ◌+◌, Err, drop, length-drop, sym, ap, ◌∙◌, arith}
 use Rattle.fields_spec.specs.Varint.{found}
 use Rattle.fields_spec.proofs.Told.{told_read, read_incomplete, read_strange}

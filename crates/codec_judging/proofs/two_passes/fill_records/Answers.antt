@@ -1,4 +1,4 @@
--- A record is ahead as long as the places go on; it is read whole, and goes to its place.
+-- A record is ahead as long as the places go on; it is read whole, and goes to its place. Assumes nothing.
 use Rattle.std.proofs.Common.{◌≡◌, ◌+◌, arith}
 use Rattle.codec_spec.proofs.Fills.{Ahead, going_start, going_ahead, going_more, going_done, ahead_inside, ahead_whole}
 use Rattle.codec_judging.proofs.two_passes.fill_records.Goals as goal

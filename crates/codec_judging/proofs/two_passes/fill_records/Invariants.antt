@@ -1,4 +1,4 @@
--- `Going`, for whatever epoch the records are sound after: the loop itself does not see it.
+-- `Going`, for whatever epoch the records are sound after: the loop itself does not see it. Assumes nothing.
 use Rattle.codec_spec.specs.Inner.Blocks.{Sound}
 use Rattle.codec_spec.proofs.Parsing.{rest}
 use Rattle.codec_spec.proofs.Fills.{Going}

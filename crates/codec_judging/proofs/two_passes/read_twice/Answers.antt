@@ -1,4 +1,4 @@
--- What was judged decides, and then the room.
+-- What was judged decides, and then the room. Assumes nothing.
 use Rattle.std.proofs.Common.{◌≡◌, ◌+◌, length, sym, ap, ◌∙◌, arith, Err}
 use Rattle.std.specs.Prelude.{None}
 use Rattle.std.proofs.lemmas.Result.{err_from_is_err_and}

@@ -1,4 +1,4 @@
--- Records of the longest kind that fit are surely enough.
+-- Records of the longest kind that fit are surely enough. Assumes nothing.
 use Rattle.std.proofs.Common.{◌+◌, sym, ◌∙◌, arith}
 use borrow.Author.Tests.{le-leb}
 use Rattle.codec_spec.specs.Inner.Sizes.{counts_size}

@@ -1,4 +1,4 @@
--- Each count adds two bytes and its varint, of which five bytes are the most.
+-- Each count adds two bytes and its varint, of which five bytes are the most. Assumes nothing.
 use Rattle.std.proofs.Common.{arith}
 use Rattle.codec_spec.proofs.Sizing.{summing_start, summing_step, summing_done}
 use Rattle.codec_writing.proofs.sizes.records_size.Goals as goal

@@ -1,4 +1,4 @@
--- The sizes of the parts are the size of the whole.
+-- The sizes of the parts are the size of the whole. Assumes nothing.
 use Rattle.std.proofs.Common.{◌≡◌, ◌+◌, length, true, sym, ap, ◌∙◌, arith}
 use Rattle.records_spec.specs.Flags.{flags_of, proper, holding}
 use Rattle.records_spec.specs.Outcomes.{ok}

@@ -1,4 +1,4 @@
--- The sum so far and what the counts from the index on add make the whole.
+-- The sum so far and what the counts from the index on add make the whole. Assumes nothing.
 use Rattle.codec_spec.proofs.Sizing.{Summing}
 use Rattle.codec_writing.proofs.sizes.size_by_limits.Given as goal
 

@@ -1,4 +1,4 @@
--- The kind's byte, the owner if there is one, and the base epoch, one after another.
+-- The kind's byte, the owner if there is one, and the base epoch, one after another. Assumes nothing.
 use Rattle.std.proofs.Common.{◌≡◌, ℕ, List, true, false, refl, sym, ◌∙◌}
 use Rattle.std.specs.Prelude.{Option, None, Some}
 use Rattle.fields_spec.proofs.Parts.{parts_put, parts_last}

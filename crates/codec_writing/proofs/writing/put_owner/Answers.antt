@@ -1,4 +1,4 @@
--- The owner is copied over its part of the output, and so the places of that part are set.
+-- The owner is copied over its part of the output, and so the places of that part are set. Assumes nothing.
 use Rattle.std.proofs.Common.{◌≡◌, ℕ, ◌+◌, ◌≤◌, List, length, refl, sym, ◌∙◌, arith}
 use Rattle.std.proofs.Math.Seq.{take-length}
 use Rattle.std.proofs.lemmas.List.Edits.{sets, sets-eq}

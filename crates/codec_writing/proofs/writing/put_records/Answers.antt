@@ -1,4 +1,4 @@
--- A turn writes the two fields of the record that the iterators have next; where one of them has none, nothing is left to write.
+-- A turn writes the two fields of the record that the iterators have next; where one of them has none, nothing is left to write. Assumes nothing.
 use Rattle.std.proofs.Common.{◌≡◌, ℕ, List, [], ◌∷◌, ◌++◌, length, refl, ap, arith}
 use Rattle.std.proofs.lemmas.List.{append_assoc, length-append}
 use Rattle.std.proofs.lemmas.Slice.Zip.{Zip-more, either_empty_from_Zip}

@@ -1,4 +1,4 @@
--- Of all records' bytes those of the records that the two iterators still have are left to write.
+-- Of all records' bytes those of the records that the two iterators still have are left to write. Assumes nothing.
 use Rattle.fields_spec.proofs.Parts.{Parts}
 use Rattle.records_spec.specs.Tables.{records_of}
 use Rattle.codec_spec.specs.Bytes.{records_bytes}

@@ -1,4 +1,4 @@
--- Proper flags that fit are written head first, and else nothing is written.
+-- Proper flags that fit are written head first, and else nothing is written. Assumes nothing.
 use Rattle.std.proofs.Common.{◌≡◌, true, List, ℕ, refl, sym, ◌∙◌, arith}
 use borrow.Author.Tests.{leb-true, leb-false}
 use Rattle.fields_spec.specs.Writing.{Put}

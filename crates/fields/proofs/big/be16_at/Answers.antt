@@ -1,4 +1,4 @@
--- Two bytes say a number the highest first.
+-- Two bytes say a number the highest first. Assumes nothing.
 use Rattle.std.proofs.Common.{◌∙◌}
 use Rattle.fields_spec.proofs.Bigs.{two_at}
 use Rattle.fields.proofs.big.be16_at.Goals as goal

@@ -1,4 +1,4 @@
--- The two stores are the field's bytes, one after the other.
+-- The two stores are the field's bytes, one after the other. Assumes nothing.
 use Rattle.fields_spec.proofs.Bigs.{put_two}
 use Rattle.fields.proofs.big.put_be16.Goals as goal
 

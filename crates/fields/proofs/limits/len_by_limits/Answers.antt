@@ -1,4 +1,4 @@
--- Each limit passed is one byte more.
+-- Each limit passed is one byte more. Assumes nothing.
 use Rattle.std.proofs.Common.{arith}
 use Rattle.fields_spec.proofs.Varints.{length_limits}
 use Rattle.fields.proofs.limits.len_by_limits.Goals as goal

@@ -1,4 +1,4 @@
--- The last byte is not 0 and the varint fits 32 bits, or one of the two is wrong.
+-- The last byte is not 0 and the varint fits 32 bits, or one of the two is wrong. Assumes nothing.
 use Rattle.std.proofs.Common.{⊎_elim, arith}
 use Rattle.fields_spec.proofs.Endings.{ending_whole, ending_strange}
 use Rattle.fields.proofs.varint.end_at.Goals.{else-last-ne0-via-then-last-ne0+else-last-lt-FIFTH_LIMIT, else-last-ne0-via-else-last-ne0}

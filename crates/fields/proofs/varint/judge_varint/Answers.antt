@@ -1,4 +1,4 @@
--- The first byte without the top bit ends the varint (`Lows`): it is the first byte, one behind it, or none of the first ten.
+-- The first byte without the top bit ends the varint (`Lows`): it is the first byte, one behind it, or none of the first ten. Assumes nothing.
 use Rattle.std.proofs.Common.{sym, ap, ◌∙◌, arith, drop}
 use Rattle.std.proofs.lemmas.List.{take_rest}
 use Rattle.fields_spec.specs.Inner.Varints.{judged_at}

@@ -1,4 +1,5 @@
 -- Each store is a group of the varint, the last one where less than 128 is left: `Parts` says what is written and what is left, with its room.
+-- Assumes nothing.
 use Rattle.std.proofs.Common.{ℕ, ◌+◌, ◌/◌, ◌%◌, ◌≤◌, ◌<◌, List, length, set, refl, arith}
 use Rattle.fields_spec.specs.Varint.{varint}
 use Rattle.fields_spec.proofs.Varints.{length_pos}

@@ -1,5 +1,5 @@
 -- Where five bytes are there: both the third and the fourth have the top bit set, and the fifth is the last, or the varint ends with one of the
--- two: with the fourth where the third has the top bit set.
+-- two: with the fourth where the third has the top bit set. Assumes nothing.
 use Rattle.std.proofs.Common.{ℕ, ◌+◌, ◌-◌, ◌*◌, ◌%◌, ◌≤◌, ◌<◌, ◌≡◌, false, ◌&&◌, ltb, List, length, get_or, refl, arith}
 use Rattle.std.proofs.lemmas.Bool.Decides.{nat_tests}
 use Rattle.fields_spec.specs.Inner.Varints.{Begun}

@@ -1,4 +1,4 @@
--- The first byte is the last, or the second is, or two are passed.
+-- The first byte is the last, or the second is, or two are passed. Assumes nothing.
 use Rattle.std.proofs.Common.{◌+◌, length, ltb-true, sym, ap, refl, arith}
 use Rattle.std.proofs.lemmas.List.{get_or_read}
 use Rattle.fields_spec.specs.Inner.Varints.{read_at}

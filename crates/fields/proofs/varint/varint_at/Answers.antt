@@ -1,4 +1,4 @@
--- A whole varint goes on while its bytes have the top bit set (`whole_inside`), and each adds its group (`Begun`).
+-- A whole varint goes on while its bytes have the top bit set (`whole_inside`), and each adds its group (`Begun`). Assumes nothing.
 use Rattle.std.proofs.Common.{sym, ap, refl, arith}
 use Rattle.fields_spec.specs.Inner.Varints.{read_at}
 use Rattle.fields_spec.proofs.Places.{first_inside, first_whole, whole_inside}

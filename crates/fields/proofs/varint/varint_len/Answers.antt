@@ -1,5 +1,5 @@
 -- A count of m significant bits lies between 2 ^ m / 2 and 2 ^ m - 1. The table's rule, computed once over its 33 entries, says that the varints of
--- both ends have the entry's length, and a number between them has no other.
+-- both ends have the entry's length, and a number between them has no other. Assumes nothing.
 use Rattle.std.proofs.Common.{ℕ, ◌+◌, ◌-◌, ◌*◌, ◌/◌, ◌^◌, ◌≤◌, ◌<◌, ◌≡◌, Bool, true, ◌&&◌, eqb, eqb-true, List, [], ◌∷◌, length, get_or}
 use Rattle.std.proofs.Common.{zero-add, sym, ap, ◌∙◌, refl, arith}
 use Rattle.std.proofs.Math.Bool.{and-eq-true_iff}

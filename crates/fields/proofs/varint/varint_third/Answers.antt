@@ -1,4 +1,5 @@
 -- A whole varint goes on while its bytes have the top bit set (`whole_inside`), and each adds its group (`Begun`). The fifth byte is the last.
+-- Assumes nothing.
 use Rattle.std.proofs.Common.{ℕ, ◌+◌, ◌*◌, ◌%◌, ◌≤◌, ◌<◌, ◌≡◌, true, List, length, get_or, drop, refl, arith}
 use Rattle.fields_spec.specs.Varint.{found}
 use Rattle.fields_spec.specs.Inner.Varints.{Begun, is_whole}

@@ -1,4 +1,4 @@
--- Theirs are proper and handed on, or they are refused.
+-- Theirs are proper and handed on, or they are refused. Assumes nothing.
 use Rattle.std.proofs.Common.{sym, ◌∙◌}
 use Rattle.flags_spec.proofs.Merging.{handed_proper, handed_bad}
 use Rattle.flags.proofs.adding.combine_absent.Goals as goal

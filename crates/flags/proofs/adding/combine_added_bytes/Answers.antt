@@ -1,4 +1,4 @@
--- Both sides are proper and merged, or one of them is not.
+-- Both sides are proper and merged, or one of them is not. Assumes nothing.
 use Rattle.std.proofs.Common.{sym, ◌∙◌}
 use Rattle.flags_spec.proofs.Merging.{combined_proper, combined_theirs_bad, combined_ours_bad}
 use Rattle.flags.proofs.adding.combine_added_bytes.Goals as goal

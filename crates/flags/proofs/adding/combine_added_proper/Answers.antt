@@ -1,4 +1,4 @@
--- The bases decide, then the owner; then the tables are merged, which are proper ones.
+-- The bases decide, then the owner; then the tables are merged, which are proper ones. Assumes nothing.
 use Rattle.std.proofs.Common.{refl, sym, ap, ◌∙◌, arith, Err}
 use Rattle.std.proofs.lemmas.List.{length-take}
 use Rattle.std.proofs.lemmas.Result.{err_from_is_err_and}

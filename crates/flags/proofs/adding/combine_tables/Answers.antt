@@ -1,4 +1,4 @@
--- Theirs above the incoming base are a table.
+-- Theirs above the incoming base are a table. Assumes nothing.
 use Rattle.records_spec.proofs.Unions.{above_table}
 use Rattle.flags.proofs.adding.combine_tables.Goals as goal
 

@@ -1,4 +1,4 @@
--- What our record holds decides on the limit, and the record that is placed is the one put in.
+-- What our record holds decides on the limit, and the record that is placed is the one put in. Assumes nothing.
 use Rattle.std.proofs.Common.{refl, ◌≡◌, ◌+◌, ◌<◌, ◌≤◌, true, List, ap, arith}
 use Rattle.fields_spec.specs.Varint.{largest}
 use Rattle.records_spec.specs.Tables.{At, records_of, epochs_of, ascending, held}

@@ -1,4 +1,4 @@
--- An owner that was chosen stands behind the kind of its encoding, which is long enough for it.
+-- An owner that was chosen stands behind the kind of its encoding, which is long enough for it. Assumes nothing.
 use Rattle.std.proofs.Common.{◌≤◌, length, sym, ap, ◌∙◌, arith, Ok}
 use Rattle.codec_spec.specs.Bytes.{behind_owner}
 use Rattle.flags_spec.proofs.Choosing.{ours_owned, theirs_owned}

@@ -1,4 +1,4 @@
--- The first records were copied, and their head is that of the flags; or they have no room.
+-- The first records were copied, and their head is that of the flags; or they have no room. Assumes nothing.
 use Rattle.std.proofs.Common.{refl, sym, ap, ◌∙◌, arith}
 use Rattle.records_spec.specs.Flags.{owner_of, head_for, lending}
 use Rattle.records_spec.proofs.Tables.{take_records}

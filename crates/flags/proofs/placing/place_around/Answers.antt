@@ -1,4 +1,4 @@
--- Ours below the epoch, the record and the union of the rest were placed one after another, which is the union; or it has no room.
+-- Ours below the epoch, the record and the union of the rest were placed one after another, which is the union; or it has no room. Assumes nothing.
 use Rattle.std.proofs.Common.{refl, ◌∷◌, length, sym, ap, ◌∙◌, zero-add, arith}
 use Rattle.records_spec.specs.Tables.{◌⦂◌, records_of, union}
 use Rattle.records_spec.specs.Flags.{head_for, lending}

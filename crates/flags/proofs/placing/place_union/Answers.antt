@@ -1,4 +1,4 @@
--- The union was placed from the start on, or it has no room.
+-- The union was placed from the start on, or it has no room. Assumes nothing.
 use Rattle.std.proofs.Common.{refl, length, sym, ap, ◌∙◌, zero-add}
 use Rattle.records_spec.specs.Tables.{records_of, union}
 use Rattle.records_spec.specs.Flags.{head_for, lending}

@@ -1,4 +1,4 @@
--- A union is not longer than both sides together, so that it has room where these have; and else it is counted.
+-- A union is not longer than both sides together, so that it has room where these have; and else it is counted. Assumes nothing.
 use Rattle.std.proofs.Common.{◌+◌, ◌-◌, ◌≤◌, length, drop, sym, ◌∙◌, arith}
 use Rattle.records_spec.specs.Tables.{records_of, union}
 use Rattle.records_spec.proofs.Answers.{room_less}

@@ -1,4 +1,4 @@
--- `==` of two owners and `same` both decide whether they are equal.
+-- `==` of two owners and `same` both decide whether they are equal. Assumes nothing.
 use Rattle.std.proofs.Common.{rules}
 use Rattle.std.proofs.lemmas.Bool.Decides.{same_from_decides, Decides-eqb}
 use Rattle.std.proofs.lemmas.Slice.Eq.{slice_eq-Decides, compares_Decides}

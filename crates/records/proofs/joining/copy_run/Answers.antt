@@ -1,4 +1,4 @@
--- Each turn puts the first record of what is left, and at the end none is left.
+-- Each turn puts the first record of what is left, and at the end none is left. Assumes nothing.
 use Rattle.std.proofs.Common.{arith}
 use Rattle.records_spec.proofs.Tables.{filling_start, filling_step, filling_done, first_on, first_end}
 use Rattle.records.proofs.joining.copy_run.Goals as goal

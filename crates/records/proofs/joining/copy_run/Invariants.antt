@@ -1,4 +1,4 @@
--- What is left of the run makes of the tables what all of it makes of those lent.
+-- What is left of the run makes of the tables what all of it makes of those lent. Assumes nothing.
 use Rattle.std.proofs.Common.{◌≡◌, ◌+◌, ◌-◌}
 use Rattle.records_spec.specs.Tables.{records_of}
 use Rattle.records_spec.specs.Inner.Runs.{stretch}

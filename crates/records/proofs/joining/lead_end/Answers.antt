@@ -1,4 +1,4 @@
--- The place of their first epoch is looked up among ours; where there is none, all of ours lead.
+-- The place of their first epoch is looked up among ours; where there is none, all of ours lead. Assumes nothing.
 use Rattle.std.proofs.Common.{◌≡◌, ◌<◌, ◌≤◌, length, get_or, arith, rules}
 use Rattle.records_spec.proofs.Runs.{part_rises, lead_place, lead_all, lead_within}
 use Rattle.records.proofs.joining.lead_end.Goals as goal

@@ -1,4 +1,4 @@
--- The epoch that is passed is tested against the one before it; behind the last one nothing is left.
+-- The epoch that is passed is tested against the one before it; behind the last one nothing is left. Assumes nothing.
 use Rattle.std.proofs.Common.{sym, ◌∙◌}
 use mathlib.Core.Bool.{and_assoc, and-true}
 use Rattle.records_spec.proofs.Rising.{asc_on, asc_end}

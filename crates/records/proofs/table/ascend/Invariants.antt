@@ -1,4 +1,4 @@
--- The whole ascends if what is passed is good and what is left ascends from the epoch before it.
+-- The whole ascends if what is passed is good and what is left ascends from the epoch before it. Assumes nothing.
 use Rattle.std.proofs.Common.{◌≡◌, ◌&&◌, drop}
 use Rattle.records_spec.specs.Tables.{ascending}
 use Rattle.records.proofs.table.ascend.Given as goal

@@ -1,4 +1,4 @@
--- The first n records are a run of n.
+-- The first n records are a run of n. Assumes nothing.
 use Rattle.std.proofs.Common.{arith}
 use Rattle.records.proofs.Runs.{run_long}
 use Rattle.records.proofs.table.copy_records.Goals as goal

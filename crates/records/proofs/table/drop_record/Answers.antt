@@ -1,4 +1,4 @@
--- What stands behind the place is copied down by one, and so the place is dropped.
+-- What stands behind the place is copied down by one, and so the place is dropped. Assumes nothing.
 use Rattle.std.proofs.Common.{◌≡◌, ℕ, ◌+◌, ◌-◌, ◌<◌, ◌≤◌, List, length, take, add-one, ◌∙◌, arith}
 use Rattle.std.proofs.Math.Seq.{take-take}
 use Rattle.std.proofs.lemmas.List.{length-append, length-take, length-drop}

@@ -1,4 +1,4 @@
--- In a rising table the epochs below a given one come first, and `place_of` counts them.
+-- In a rising table the epochs below a given one come first, and `place_of` counts them. Assumes nothing.
 use Rattle.std.proofs.Common.{◌≡◌, ℕ, ◌-◌, ◌<◌, ◌≤◌, ltb, true, false, List, length, get_or, arith, rules}
 use Rattle.std.proofs.lemmas.List.{get_or_default}
 use Rattle.std.proofs.lemmas.List.Sorted.{IsPartitionPoint-from_clause}

@@ -1,4 +1,4 @@
--- What stands at the place that `find` gives is at the epoch, or none is.
+-- What stands at the place that `find` gives is at the epoch, or none is. Assumes nothing.
 use Rattle.std.proofs.Common.{arith}
 use Rattle.records_spec.proofs.Around.{spot_at, spot_off}
 use Rattle.records.proofs.table.look_up.Goals as goal

@@ -1,4 +1,4 @@
--- Where one side is passed the other has the next record, and else the selects give it.
+-- Where one side is passed the other has the next record, and else the selects give it. Assumes nothing.
 use Rattle.std.proofs.Common.{arith}
 use Rattle.records_spec.proofs.Rising.{asc_end}
 use Rattle.records_spec.proofs.Unions.{some_ours, step_ours, step_theirs, step_selected}

@@ -1,4 +1,4 @@
--- The lead of ours is put first, then one record after another, and then what is left of one side, where the other is passed.
+-- The lead of ours is put first, then one record after another, and then what is left of one side, where the other is passed. Assumes nothing.
 use Rattle.std.proofs.Common.{refl, arith}
 use Rattle.records_spec.proofs.Tables.{filling_start, filling_step, filling_run, filling_fits, filling_done}
 use Rattle.records_spec.proofs.Unions.{walking_start, walking_step}

@@ -1,4 +1,4 @@
--- What is left of the union at the places reached makes of the tables what all of it makes of those lent.
+-- What is left of the union at the places reached makes of the tables what all of it makes of those lent. Assumes nothing.
 use Rattle.std.proofs.Common.{ℕ, ◌+◌, ◌-◌, List, drop}
 use Rattle.records_spec.specs.Tables.{At, records_of, union}
 use Rattle.records_spec.proofs.Tables.{Filling}

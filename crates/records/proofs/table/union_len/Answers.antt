@@ -1,4 +1,4 @@
--- At the start none is passed, and at the end of both tables none is left.
+-- At the start none is passed, and at the end of both tables none is left. Assumes nothing.
 use Rattle.std.proofs.Common.{length, ap, arith}
 use Rattle.records_spec.specs.Tables.{At}
 use Rattle.records_spec.proofs.Unions.{walking_start, walking_done}

@@ -1,4 +1,4 @@
--- The number of records passed, with that of what is left, is the number of all.
+-- The number of records passed, with that of what is left, is the number of all. Assumes nothing.
 use Rattle.std.proofs.Common.{◌≡◌, ◌+◌, ◌-◌, ◌≤◌, length, drop}
 use Rattle.records_spec.specs.Tables.{records_of, union}
 use Rattle.records_spec.proofs.Unions.{Walking}

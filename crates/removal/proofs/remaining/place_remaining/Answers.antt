@@ -1,4 +1,4 @@
--- What remains was placed from the start on, or has no room.
+-- What remains was placed from the start on, or has no room. Assumes nothing.
 use Rattle.std.proofs.Common.{length, refl, sym, ap, ◌∙◌, zero-add}
 use Rattle.records_spec.specs.Tables.{records_of, union}
 use Rattle.records_spec.specs.Flags.{flags, head_for, lending}

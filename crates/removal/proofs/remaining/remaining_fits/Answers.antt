@@ -1,4 +1,4 @@
--- No more remains than both sides have, and where these have room, what remains has.
+-- No more remains than both sides have, and where these have room, what remains has. Assumes nothing.
 use Rattle.std.proofs.Common.{◌+◌, ◌≤◌, length, sym, ◌∙◌, arith}
 use Rattle.records_spec.specs.Tables.{records_of, union}
 use Rattle.records_spec.proofs.Answers.{room_less}

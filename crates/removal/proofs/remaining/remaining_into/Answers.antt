@@ -1,4 +1,4 @@
--- The next record is passed: what stays of it is put behind what was put, which has room where all have; at the end nothing is left.
+-- The next record is passed: what stays of it is put behind what was put, which has room where all have; at the end nothing is left. Assumes nothing.
 use Rattle.std.proofs.Common.{◌<◌, length, arith}
 use Rattle.records_spec.specs.Tables.{records_of}
 use Rattle.records_spec.proofs.Tables.{filling_start, filling_step, filling_room, filling_done}

@@ -1,4 +1,4 @@
--- What remains of what is left makes of the tables what all that remains makes of the tables lent.
+-- What remains of what is left makes of the tables what all that remains makes of the tables lent. Assumes nothing.
 use Rattle.std.proofs.Common.{◌+◌, ◌-◌, drop}
 use Rattle.records_spec.specs.Tables.{records_of, union}
 use Rattle.records_spec.proofs.Tables.{Filling}

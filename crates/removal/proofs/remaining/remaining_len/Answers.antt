@@ -1,4 +1,4 @@
--- The next record is passed: what stays of it counts, and then what remains of the others; at the end nothing is left.
+-- The next record is passed: what stays of it counts, and then what remains of the others; at the end nothing is left. Assumes nothing.
 use Rattle.std.proofs.Common.{length, sym, ap, ◌∙◌, arith}
 use Rattle.records_spec.specs.Tables.{At, records_of}
 use Rattle.records_spec.proofs.Unions.{walking_start, walking_step, walking_done}

@@ -1,4 +1,4 @@
--- The number that stayed, with what remains of what is left, is that of all.
+-- The number that stayed, with what remains of what is left, is that of all. Assumes nothing.
 use Rattle.std.proofs.Common.{◌≡◌, ◌+◌, ◌-◌, ◌≤◌, length, drop}
 use Rattle.records_spec.specs.Tables.{records_of, union}
 use Rattle.records_spec.proofs.Unions.{Walking}

@@ -1,4 +1,4 @@
--- Both sides and the removal are proper, or one is not.
+-- Both sides and the removal are proper, or one is not. Assumes nothing.
 use Rattle.std.proofs.Common.{sym, ◌∙◌}
 use Rattle.removal_spec.proofs.Merging.{combined_proper, combined_removal_bad, combined_theirs_bad, combined_ours_bad}
 use Rattle.removal.proofs.removing.combine_removed_bytes.Goals as goal

@@ -1,4 +1,4 @@
--- The bases decide.
+-- The bases decide. Assumes nothing.
 use Rattle.std.proofs.Common.{◌≡◌, ◌<◌, refl, sym}
 use Rattle.std.proofs.lemmas.Cmp.{ranked}
 use Rattle.records_spec.specs.Flags.{lending}

@@ -1,4 +1,4 @@
--- The owner rule refuses, or the union is placed; ours and theirs are proper, so their records stand in the tables.
+-- The owner rule refuses, or the union is placed; ours and theirs are proper, so their records stand in the tables. Assumes nothing.
 use Rattle.std.proofs.Common.{refl, sym, ap, ◌∙◌, Err}
 use Rattle.std.proofs.Math.Seq.{length-take-le}
 use Rattle.std.proofs.lemmas.Result.{err_from_is_err_and}

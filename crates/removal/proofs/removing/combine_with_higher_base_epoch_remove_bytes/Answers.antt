@@ -1,5 +1,5 @@
 -- Ours without records comes back; else the owner rule refuses, or the removal is taken under our owner. Ours and theirs are proper, so their
--- records stand in the tables.
+-- records stand in the tables. Assumes nothing.
 use Rattle.std.proofs.Common.{◌≡◌, ◌<◌, length, take, refl, sym, ap, ◌∙◌, arith, Err}
 use Rattle.std.proofs.Math.Seq.{length-take-le}
 use Rattle.std.proofs.lemmas.Result.{err_from_is_err_and}

@@ -1,4 +1,4 @@
--- Ours is absent, and the removal is proper or not.
+-- Ours is absent, and the removal is proper or not. Assumes nothing.
 use Rattle.std.proofs.Common.{sym, ◌∙◌}
 use Rattle.records_spec.specs.Flags.{holding}
 use Rattle.removal_spec.proofs.Merging.{optional_absent, optional_bad}

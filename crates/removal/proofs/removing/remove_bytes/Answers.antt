@@ -1,4 +1,4 @@
--- A proper sectioned removal has proper rows.
+-- A proper sectioned removal has proper rows. Assumes nothing.
 use Rattle.rows_spec.specs.Rows.{tables}
 use Rattle.rows_spec.proofs.Removals.{proper_sectioned}
 use Rattle.removal.proofs.removing.remove_bytes.Goals as goal

@@ -1,4 +1,4 @@
--- The rows are the identifier's alone, and then a table of sections; or not.
+-- The rows are the identifier's alone, and then a table of sections; or not. Assumes nothing.
 use Rattle.std.proofs.Common.{refl, sym, ◌∙◌}
 use Rattle.records_spec.specs.Flags.{lending}
 use Rattle.records_spec.specs.Outcomes.{refused}

@@ -1,4 +1,4 @@
--- A section is at fault.
+-- A section is at fault. Assumes nothing.
 use Rattle.std.proofs.Common.{refl, ap, ◌∙◌, Err}
 use Rattle.std.proofs.lemmas.Result.{err_from_is_err_and}
 use Rattle.records_spec.specs.Flags.{lending}

@@ -1,4 +1,4 @@
--- A record stands where fewer are below the epoch than at most there.
+-- A record stands where fewer are below the epoch than at most there. Assumes nothing.
 use Rattle.std.proofs.Common.{◌∙◌}
 use Rattle.removal_spec.proofs.Finding.{spot_found}
 use Rattle.removal.proofs.sections.find_at.Goals as goal

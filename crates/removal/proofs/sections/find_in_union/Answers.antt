@@ -1,4 +1,4 @@
--- Theirs stands, or ours is looked for: `found_union`.
+-- Theirs stands, or ours is looked for: `found_union`. Assumes nothing.
 use Rattle.std.proofs.Common.{◌≡◌, ℕ, Option, Some, None, MatchOption, rules, ap, ◌∙◌}
 use Rattle.std.specs.Option.{option_or}
 use Rattle.records_spec.specs.Tables.{records_of}

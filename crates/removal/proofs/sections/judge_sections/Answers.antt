@@ -1,4 +1,4 @@
--- The first section that is left is at fault, or the others decide, or none is left.
+-- The first section that is left is at fault, or the others decide, or none is left. Assumes nothing.
 use Rattle.std.proofs.Common.{◌≡◌, sym, ◌∙◌}
 use Rattle.std.proofs.lemmas.Slice.Zip.{Zip-more, either_empty_from_Zip}
 use Rattle.std.proofs.lemmas.Result.{err_from_is_err_and}

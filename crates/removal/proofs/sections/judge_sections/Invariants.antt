@@ -1,4 +1,4 @@
--- The sections that are left decide.
+-- The sections that are left decide. Assumes nothing.
 use Rattle.std.proofs.Common.{◌≡◌}
 use Rattle.std.specs.Iterator.Adapters.{zip_first, zip_second}
 use Rattle.std.specs.Slice.Iter.{iter_rest}

@@ -1,4 +1,4 @@
--- There are rows, and the identifier of each is this: `only_ids`.
+-- There are rows, and the identifier of each is this: `only_ids`. Assumes nothing.
 use Rattle.std.proofs.Common.{rules, tests, ◌∙◌, take, sym}
 use Rattle.std.proofs.lemmas.Iterator.{YieldsList-from_slice}
 use Rattle.std.proofs.lemmas.Iterator.Search.{all_from_yields_List}

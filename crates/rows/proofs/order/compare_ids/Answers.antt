@@ -1,4 +1,4 @@
--- `compare_ids` answers by the order of slices, which is that of the definition.
+-- `compare_ids` answers by the order of slices, which is that of the definition. Assumes nothing.
 use Rattle.std.proofs.Common.{sym, ◌∙◌}
 use Rattle.rows_spec.proofs.Comparing.{order_is}
 use Rattle.rows.proofs.order.compare_ids.Goals as goal

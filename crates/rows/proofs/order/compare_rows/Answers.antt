@@ -1,4 +1,4 @@
--- `compare_rows` answers by the identifiers, which have one length, and where these are equal by the epochs.
+-- `compare_rows` answers by the identifiers, which have one length, and where these are equal by the epochs. Assumes nothing.
 use Rattle.std.proofs.Common.{◌≡◌, get_or, Ordering, Less, Equal, Greater, sym, ap, ◌∙◌, rules}
 use Rattle.std.specs.Ordering.{ordering_then, nat_cmp, MatchOrdering}
 use Rattle.rows_spec.proofs.Comparing.{compared_then}

@@ -1,4 +1,4 @@
--- `checked_sum`: where the loop ends, nothing is left to add.
+-- `checked_sum`: where the loop ends, nothing is left to add. Assumes nothing.
 use Rattle.std.proofs.Common.{ap, sum, arith}
 use lib.ListN.{drop_of_length-le}
 use Rattle.rows.proofs.removed.checked_sum.Goals as goal

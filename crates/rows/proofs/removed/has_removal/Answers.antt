@@ -1,4 +1,4 @@
--- `has_removal` answers by the state's cases; rows have bytes where their column has.
+-- `has_removal` answers by the state's cases; rows have bytes where their column has. Assumes nothing.
 use Rattle.std.proofs.Common.{sym, ◌∙◌, arith}
 use Rattle.std.proofs.lemmas.List.{length-take-le}
 use Rattle.rows_spec.specs.Rows.{tables}

@@ -1,4 +1,4 @@
--- `total_removed_bytes` answers by the state's cases; rows come to the sum of their column.
+-- `total_removed_bytes` answers by the state's cases; rows come to the sum of their column. Assumes nothing.
 use Rattle.std.proofs.Common.{sym, ap, ◌∙◌, arith}
 use Rattle.std.proofs.lemmas.List.{length-take-le}
 use Rattle.records_spec.specs.Outcomes.{answered}

@@ -1,4 +1,4 @@
--- `are_proper` meets its contract: the rows are proper where those from the one before the place on ascend.
+-- `are_proper` meets its contract: the rows are proper where those from the one before the place on ascend. Assumes nothing.
 use Rattle.std.proofs.Common.{◌≡◌, ℕ, ◌+◌, ◌-◌, ◌&&◌, Bool, drop, is_lt, sym, ap, ◌∙◌, arith}
 use Rattle.rows_spec.specs.Rows.{tables, rows_in, ascends}
 use Rattle.rows_spec.proofs.Rows.{room_in_lem, proper_room, proper_short, asc_next, asc_last}

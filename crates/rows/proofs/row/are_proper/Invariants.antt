@@ -1,4 +1,4 @@
--- `are_proper` keeps: the rows are proper where those from the one before the place on ascend.
+-- `are_proper` keeps: the rows are proper where those from the one before the place on ascend. Assumes nothing.
 use Rattle.std.proofs.Common.{◌≡◌, ◌-◌, drop}
 use Rattle.rows_spec.specs.Rows.{tables, rows_in, ascends, proper_rows, Room}
 use Rattle.rows.proofs.row.are_proper.Given as goal

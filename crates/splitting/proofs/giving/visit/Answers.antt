@@ -1,4 +1,4 @@
--- Each turn asks the latest of the records that are left. Where nothing is left, or no record, all were visited.
+-- Each turn asks the latest of the records that are left. Where nothing is left, or no record, all were visited. Assumes nothing.
 use Rattle.std.proofs.Common.{◌-◌, min, length, ap, ◌∙◌, arith}
 use Rattle.std.proofs.lemmas.Iterator.Consumers.{YieldsList-turn, YieldsList-end}
 use Rattle.std.proofs.lemmas.Iterator.Adapters.{YieldsList-from_rev_slice}

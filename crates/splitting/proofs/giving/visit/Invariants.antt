@@ -1,4 +1,5 @@
 -- Of the records, the first j were not visited yet. Those visited, and those of the first j that what is left asks, are all that have a section.
+-- Assumes nothing.
 use Rattle.std.proofs.Common.{◌≡◌, ℕ, ◌+◌, length}
 use Rattle.splitting_spec.proofs.Visiting.{Visiting}
 use Rattle.splitting.proofs.giving.visit.Given as goal

@@ -1,4 +1,4 @@
--- Of proper flags no bytes give no removal, and others one row, where it has room. Each return has its law.
+-- Of proper flags no bytes give no removal, and others one row, where it has room. Each return has its law. Assumes nothing.
 use Rattle.std.proofs.Common.{refl, sym, ◌∙◌, arith}
 use Rattle.records_spec.specs.Flags.{id_of, owner_of}
 use Rattle.splitting_spec.proofs.Calls.{key_none, key_put, key_short, key_bad, key_proper}

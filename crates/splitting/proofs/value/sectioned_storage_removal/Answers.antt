@@ -1,4 +1,5 @@
 -- Each turn places the row of the latest record that is left; behind the loop the base's row is placed, where something is left for it.
+-- Assumes nothing.
 use Rattle.std.proofs.Common.{◌≡◌, ◌<◌, ◌-◌, min, length, get_or, ap, ◌∙◌, arith}
 use Rattle.std.proofs.lemmas.Iterator.{YieldsList-from_zip}
 use Rattle.std.proofs.lemmas.Iterator.Consumers.{YieldsList-turn, YieldsList-end}

@@ -1,4 +1,5 @@
 -- Of the records, the first j were not asked yet. What is still to be placed, in the first k places, is the split of what is left over these.
+-- Assumes nothing.
 use Rattle.std.proofs.Common.{◌≡◌, ℕ, ◌+◌, length}
 use Rattle.rows_spec.specs.Rows.{tables}
 use Rattle.splitting_spec.proofs.Placing.{Placing}

@@ -1,4 +1,4 @@
--- Of proper flags the rows are counted as the split has them; then they are placed, or have no room.
+-- Of proper flags the rows are counted as the split has them; then they are placed, or have no room. Assumes nothing.
 use Rattle.std.proofs.Common.{◌≡◌, ℕ, zero, suc, ◌+◌, List, length, take, refl, sym, ap, ◌∙◌, arith, lt-ltb, nat_lt}
 use Rattle.std.specs.Int.{from_bool}
 use Rattle.std.proofs.lemmas.List.{length-take}

@@ -1,4 +1,4 @@
--- `add_assign` meets its contract, by whether both operands are proper.
+-- `add_assign` meets its contract, by whether both operands are proper. Assumes nothing.
 use Rattle.std.proofs.Common.{sym, ◌∙◌}
 use Rattle.rows_spec.specs.Rows.{tables}
 use Rattle.rows_spec.specs.Removals.{holding_rows}

@@ -1,4 +1,4 @@
--- `add_basic` meets its contract: the number is one row, joined to ours.
+-- `add_basic` meets its contract: the number is one row, joined to ours. Assumes nothing.
 use Rattle.rows_spec.proofs.Outcomes.{placed_rows}
 use Rattle.sums_spec.proofs.Basics.{one_proper, one_joined}
 use Rattle.sums.proofs.sum.add_basic.Goals as goal

@@ -1,4 +1,4 @@
--- `add_proper` meets its contract, by the nine cases of both states.
+-- `add_proper` meets its contract, by the nine cases of both states. Assumes nothing.
 use Rattle.std.proofs.Common.{◌≡◌, ℕ, sym, ap, ◌∙◌}
 use mathlib.Core.Path.{ap₂}
 use Rattle.records_spec.specs.Outcomes.{Answer, after}

@@ -1,4 +1,4 @@
--- `add_rows` meets its contract: the join is counted, and joined where it has room.
+-- `add_rows` meets its contract: the join is counted, and joined where it has room. Assumes nothing.
 use Rattle.std.proofs.Common.{sym, ap, ◌∙◌}
 use Rattle.records_spec.specs.Outcomes.{Answer, after}
 use Rattle.rows_spec.specs.Rows.{tables, rows_in}

@@ -1,4 +1,4 @@
--- `add_rows_to_basic` meets its contract: the rows are put into our tables, and the number's row is joined to them.
+-- `add_rows_to_basic` meets its contract: the rows are put into our tables, and the number's row is joined to them. Assumes nothing.
 use Rattle.std.proofs.Common.{length, sym, ap, ◌∙◌}
 use Rattle.records_spec.specs.Outcomes.{Answer, after}
 use Rattle.rows_spec.specs.Rows.{Row, tables, rows_in}

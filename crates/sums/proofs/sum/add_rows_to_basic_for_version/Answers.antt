@@ -1,4 +1,4 @@
--- `add_rows_to_basic_for_version` meets its contract, by the version and by how many rows are lost.
+-- `add_rows_to_basic_for_version` meets its contract, by the version and by how many rows are lost. Assumes nothing.
 use Rattle.std.proofs.Common.{sym, ◌∙◌, arith}
 use Rattle.rows_spec.specs.Rows.{tables, rows_in}
 use Rattle.rows_spec.proofs.Outcomes.{placed_rows}

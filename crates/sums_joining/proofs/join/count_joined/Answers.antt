@@ -1,4 +1,4 @@
--- `count_joined` meets its contract: what was counted, and the join of what is left, make the join.
+-- `count_joined` meets its contract: what was counted, and the join of what is left, make the join. Assumes nothing.
 use Rattle.rows_spec.proofs.Rows.{proper_first}
 use Rattle.sums_spec.proofs.Lasts.{counting_done}
 use Rattle.sums_joining.proofs.join.count_joined.Goals as goal

@@ -1,4 +1,4 @@
--- `count_joined` keeps: what was counted, and the join of what is left, make the join.
+-- `count_joined` keeps: what was counted, and the join of what is left, make the join. Assumes nothing.
 use Rattle.std.proofs.Common.{◌+◌}
 use Rattle.rows_spec.specs.Rows.{tables}
 use Rattle.sums_spec.proofs.Lasts.{Counting}

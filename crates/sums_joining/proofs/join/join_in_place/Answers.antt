@@ -1,4 +1,4 @@
--- `join_in_place` meets its contract: each step puts the last row that is left of the join, by the laws of `Walking`.
+-- `join_in_place` meets its contract: each step puts the last row that is left of the join, by the laws of `Walking`. Assumes nothing.
 use Rattle.std.proofs.Common.{arith}
 use Rattle.sums_spec.proofs.Lasts.{walking_start, walking_ours, walking_theirs, walking_room, walking_step, walking_done}
 use Rattle.sums_joining.proofs.join.join_in_place.Goals as goal

@@ -1,4 +1,4 @@
--- `join_in_place` keeps: from place k on the tables are as they end, and before it as they began.
+-- `join_in_place` keeps: from place k on the tables are as they end, and before it as they began. Assumes nothing.
 use Rattle.std.proofs.Common.{◌+◌}
 use Rattle.rows_spec.specs.Rows.{tables}
 use Rattle.sums_spec.proofs.Lasts.{Walking}

@@ -1,4 +1,4 @@
--- `last_row` meets its contract, by how the last rows of both sides stand.
+-- `last_row` meets its contract, by how the last rows of both sides stand. Assumes nothing.
 use Rattle.std.proofs.Common.{sym, ◌∙◌, arith}
 use Rattle.sums_spec.proofs.Lasts.{step_none, step_theirs, step_both, step_ours}
 use Rattle.sums_joining.proofs.join.last_row.Goals as goal

@@ -1,4 +1,4 @@
--- Under the same owner it is the record's count, and else 0.
+-- Under the same owner it is the record's count, and else 0. Assumes nothing.
 use Rattle.std.proofs.Common.{◌≡◌, true, false, ap, sym, ◌∙◌, rules}
 use Rattle.std.proofs.lemmas.Bool.Decides.{same_from_decides, Decides-eqb}
 use Rattle.std.proofs.lemmas.Slice.Eq.{slice_eq-Decides, compares_Decides}

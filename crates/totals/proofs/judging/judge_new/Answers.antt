@@ -1,4 +1,4 @@
--- Refused where what the old count leaves and the new one pass 64 bits, and else counted where a count that is not 0 meets nothing.
+-- Refused where what the old count leaves and the new one pass 64 bits, and else counted where a count that is not 0 meets nothing. Assumes nothing.
 use Rattle.std.proofs.Common.{◌≡◌, ℕ, ◌+◌, ◌-◌, ◌≤◌, ◌<◌, cond, ◌&&◌, ltb, eqb, length, arith, add-zero}
 use Rattle.std.proofs.lemmas.List.{length_push}
 use Rattle.std.proofs.lemmas.Bool.Decides.{nat_tests}

@@ -1,4 +1,4 @@
--- What was judged and what is left to judge make the whole, and no more rows are made than records were judged.
+-- What was judged and what is left to judge make the whole, and no more rows are made than records were judged. Assumes nothing.
 use Rattle.std.proofs.Common.{◌≤◌, length, drop}
 use Rattle.rows_spec.specs.Rows.{tables, rows_in}
 use Rattle.totals_spec.specs.Inner.Steps.{under}

@@ -1,4 +1,4 @@
--- Refused where the total is less than the count, and else counted where it is the same and not 0.
+-- Refused where the total is less than the count, and else counted where it is the same and not 0. Assumes nothing.
 use Rattle.std.proofs.Common.{◌≡◌, ℕ, ◌≤◌, cond, ◌&&◌, ltb, eqb, List, length, get_or, arith, add-zero}
 use Rattle.std.proofs.lemmas.List.{length_push}
 use Rattle.std.proofs.lemmas.Bool.Decides.{nat_tests}

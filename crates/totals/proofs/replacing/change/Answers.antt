@@ -1,4 +1,4 @@
--- Refused as it was judged.
+-- Refused as it was judged. Assumes nothing.
 use Rattle.std.proofs.lemmas.Result.{err_from_is_err_and}
 use Rattle.rows_spec.specs.Rows.{tables}
 use Rattle.totals_spec.proofs.Written.{refused_change}

@@ -1,4 +1,5 @@
 -- No more rows go than there are, and no more are made than there are new counts; the rows that stay and those made are those afterwards.
+-- Assumes nothing.
 use Rattle.std.proofs.Common.{arith}
 use Rattle.rows_spec.specs.Rows.{tables, rows_in}
 use Rattle.rows_spec.proofs.Rows.{length_rows}

@@ -1,4 +1,4 @@
--- Where all three are proper, what the flags name stands in their tables, and `change` does the rest; else it is 11.
+-- Where all three are proper, what the flags name stands in their tables, and `change` does the rest; else it is 11. Assumes nothing.
 use Rattle.std.proofs.Common.{◌∙◌, sym}
 use Rattle.rows_spec.specs.Rows.{tables}
 use Rattle.totals_spec.specs.Calls.{given}

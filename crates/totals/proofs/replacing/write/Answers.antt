@@ -1,4 +1,4 @@
--- The old counts are taken, and what is left stands and has room for the new ones.
+-- The old counts are taken, and what is left stands and has room for the new ones. Assumes nothing.
 use Rattle.std.proofs.Common.{sym}
 use Rattle.rows_spec.specs.Rows.{tables, rows_in}
 use Rattle.totals_spec.specs.Inner.Steps.{under}

@@ -1,4 +1,4 @@
--- What was taken apart and changed can be put together, and is what the statement says.
+-- What was taken apart and changed can be put together, and is what the statement says. Assumes nothing.
 use Rattle.std.proofs.Common.{ap, ◌∙◌, ℕ, List, length}
 use Rattle.std.specs.Prelude.{◌&&◌}
 use Rattle.records_spec.specs.Flags.{holding}

@@ -1,4 +1,4 @@
--- What was judged tells the verdict, and the change that was judged is the one that was asked for.
+-- What was judged tells the verdict, and the change that was judged is the one that was asked for. Assumes nothing.
 use Rattle.std.proofs.Common.{ap, ◌∙◌, ℕ}
 use Rattle.std.specs.Prelude.{◌&&◌}
 use Rattle.records_spec.specs.Flags.{holding}

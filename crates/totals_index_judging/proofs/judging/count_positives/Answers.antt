@@ -1,4 +1,4 @@
--- Counting what is above 0 adds one for each such count, as `positives` does.
+-- Counting what is above 0 adds one for each such count, as `positives` does. Assumes nothing.
 use Rattle.std.proofs.Common.{◌≡◌, ltb, refl, sym, ◌∙◌, rules}
 use Rattle.std.specs.List.{count_by}
 use Rattle.std.proofs.lemmas.List.Recursion.{is_sum_by}

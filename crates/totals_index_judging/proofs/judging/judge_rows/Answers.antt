@@ -1,4 +1,4 @@
--- One row more is judged beyond what was seen of those before it.
+-- One row more is judged beyond what was seen of those before it. Assumes nothing.
 use Rattle.std.proofs.Common.{add-one, ◌≡◌, take, get_or, ◌∙◌, arith, below_more, length-take-le}
 use Rattle.std.proofs.lemmas.List.{get_or-take}
 use Rattle.totals_index_spec.proofs.Columns.{no_total}

@@ -1,4 +1,4 @@
--- Every total so far is one of 64 bits, and what was seen is what the rows before the place make of what was seen at first.
+-- Every total so far is one of 64 bits, and what was seen is what the rows before the place make of what was seen at first. Assumes nothing.
 use Rattle.std.proofs.Common.{◌≡◌}
 use Rattle.totals_index_spec.specs.Inner.Judging.{TotalsFit}
 use Rattle.totals_index_spec.proofs.Folding.{seen_at}

@@ -1,4 +1,4 @@
--- Where all is proper it starts with what the flags name; else with none, whichever test says so.
+-- Where all is proper it starts with what the flags name; else with none, whichever test says so. Assumes nothing.
 use Rattle.std.proofs.Common.{sym, ◌∙◌}
 use mathlib.Core.Logic.{inl, inr}
 use Rattle.totals_spec.proofs.GivenFlags.{given_even}

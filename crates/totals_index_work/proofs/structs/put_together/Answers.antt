@@ -1,4 +1,4 @@
--- A place more of the table is filled.
+-- A place more of the table is filled. Assumes nothing.
 use Rattle.std.proofs.Common.{◌≡◌, arith, add-one}
 use Rattle.totals_index_spec.proofs.Columns.{struct_next, all_put}
 use Rattle.totals_index_work.proofs.structs.put_together.Goals as goal

@@ -1,4 +1,4 @@
--- The table is filled from its front, a place in a turn.
+-- The table is filled from its front, a place in a turn. Assumes nothing.
 use Rattle.std.proofs.Common.{◌≡◌}
 use Rattle.rows_spec.specs.Rows.{tables, rows_in}
 use Rattle.totals_index_spec.specs.Structs.{structs}

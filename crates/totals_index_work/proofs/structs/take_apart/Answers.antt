@@ -1,4 +1,4 @@
--- A place more of each column is filled.
+-- A place more of each column is filled. Assumes nothing.
 use Rattle.std.proofs.Common.{◌≡◌, ◌<◌, length, take, get_or, arith, add-one, length-take-le}
 use Rattle.std.proofs.lemmas.List.{get_or-take}
 use Rattle.rows_spec.specs.Rows.{tables}

@@ -1,4 +1,4 @@
--- Each column is filled from its front, a place in a turn.
+-- Each column is filled from its front, a place in a turn. Assumes nothing.
 use Rattle.std.proofs.Common.{◌≡◌}
 use Rattle.totals_index_spec.specs.Structs.{owners_of, total_epochs_of, totals_of}
 use Rattle.totals_index_spec.proofs.Filling.{filled}

@@ -1,5 +1,5 @@
 -- A row that is below stands before the place, and the place is at most that of a row that is not: so a look at the middle keeps it between
--- the bounds, and the last look tells it.
+-- the bounds, and the last look tells it. Assumes nothing.
 use Rattle.std.proofs.Common.{◌+◌, ◌/◌, sym, ◌∙◌, arith}
 use Rattle.rows_spec.specs.Rows.{row}
 use Rattle.records_spec.proofs.Halving.{between_start, middle_in, between_up, between_down, done_behind, done_here, done_end}

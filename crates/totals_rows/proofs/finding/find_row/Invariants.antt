@@ -1,4 +1,4 @@
--- The place stays between the bounds, whichever way a look goes.
+-- The place stays between the bounds, whichever way a look goes. Assumes nothing.
 use Rattle.std.proofs.Common.{◌+◌, ◌≤◌}
 use Rattle.records_spec.proofs.Halving.{Between}
 use Rattle.rows_spec.specs.Rows.{row, tables}

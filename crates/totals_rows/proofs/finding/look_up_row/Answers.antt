@@ -1,4 +1,4 @@
--- What stands at the place is the row that is looked up where owner and epoch are the same; else there is none.
+-- What stands at the place is the row that is looked up where owner and epoch are the same; else there is none. Assumes nothing.
 use Rattle.std.proofs.Common.{◌≡◌, ℕ, ◌+◌, ◌<◌, [], get_or, refl, sym, ◌∙◌}
 use Rattle.std.proofs.lemmas.Bool.{false≢true}
 use Rattle.std.proofs.lemmas.Bool.Decides.{Decides-eqb}

@@ -1,4 +1,5 @@
 -- What `copy_within` leaves of a column is what is to be moved, set at the new place; what is moved to where it stands changes nothing.
+-- Assumes nothing.
 use Rattle.std.proofs.Common.{◌≡◌, ℕ, ◌+◌, ◌-◌, ◌≤◌, List, length, take, drop, sym, ◌∙◌, arith, length-drop, length-take-le}
 use Rattle.std.specs.List.{copy_within}
 use Rattle.std.proofs.lemmas.List.Edits.{sets-eq}

@@ -1,4 +1,4 @@
--- The total at hand is the row's, and behind the last one no row is left.
+-- The total at hand is the row's, and behind the last one no row is left. Assumes nothing.
 use Rattle.std.proofs.Common.{◌<◌, sym, ◌∙◌, arith, length-take-le}
 use mathlib.Core.Bool.{and_assoc, and-true}
 use Rattle.std.proofs.Common.{get_or-take}

@@ -1,4 +1,4 @@
--- What was seen so far, and what is still to come, is all.
+-- What was seen so far, and what is still to come, is all. Assumes nothing.
 use Rattle.std.proofs.Common.{◌≡◌, ◌&&◌, drop}
 use Rattle.rows_spec.specs.Rows.{tables, rows_in}
 use Rattle.totals_spec.specs.Table.{all_positive}

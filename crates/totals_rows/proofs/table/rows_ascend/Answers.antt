@@ -1,4 +1,4 @@
--- The rows ascend where each, from the second on, stands behind the one before it. By induction on the places that are left.
+-- The rows ascend where each, from the second on, stands behind the one before it. By induction on the places that are left. Assumes nothing.
 use Rattle.std.proofs.Common.{◌≡◌, ℕ, zero, suc, ◌+◌, ◌-◌, Bool, drop, ◌∙◌, refl, arith, rules, tests, sym}
 use Rattle.std.specs.List.{list_all, range_with_len}
 use Rattle.std.proofs.lemmas.Iterator.{YieldsList-from_range}

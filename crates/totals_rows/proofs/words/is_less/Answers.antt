@@ -1,4 +1,4 @@
--- Rows stand as the tuples of their words and epochs: the first numbers that differ decide.
+-- Rows stand as the tuples of their words and epochs: the first numbers that differ decide. Assumes nothing.
 use Rattle.std.proofs.Common.{◌≡◌, ℕ, Bool, ltb, refl, arith}
 use Rattle.std.specs.Prelude.{Option, Some, None}
 use Rattle.std.specs.declared.cmp.Ordering.{Ordering}

@@ -1,5 +1,5 @@
 -- The record at hand is the last of those to come. Its row, or the place where it would stand, is found among the rows that are left; those
--- behind it are moved up, and its row is put before them. Each goal is then a law of `Adding`.
+-- behind it are moved up, and its row is put before them. Each goal is then a law of `Adding`. Assumes nothing.
 use Rattle.std.proofs.Common.{◌≡◌, ◌≤◌, length, ◌∙◌, arith}
 use mathlib.Core.Logic.{⊎_elim}
 use native.Mathlib.Decide.{dec_lt}

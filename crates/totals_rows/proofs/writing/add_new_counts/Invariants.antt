@@ -1,4 +1,5 @@
 -- The counts that the iterator has left are still to be added. From the place `end` on the tables are as they end, and before `upto` as they began.
+-- Assumes nothing.
 use Rattle.std.proofs.Common.{length}
 use Rattle.rows_spec.specs.Rows.{tables}
 use Rattle.totals_spec.proofs.AddingRows.{Adding}

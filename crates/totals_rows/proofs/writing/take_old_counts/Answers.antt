@@ -1,5 +1,5 @@
 -- The record at hand is that of the turn. Its row is found from `at` on, the rows before it are moved, and what is left of it is put behind
--- them. Each goal is then a law of `Taking`.
+-- them. Each goal is then a law of `Taking`. Assumes nothing.
 use Rattle.std.proofs.Common.{◌+◌, ◌-◌, ◌≤◌, length, ◌∙◌, arith}
 use Rattle.std.proofs.lemmas.List.{length_push}
 use Rattle.rows_spec.proofs.Rows.{room_less}

@@ -1,4 +1,4 @@
--- The rows before one place are as they end, those from another on as they began.
+-- The rows before one place are as they end, those from another on as they began. Assumes nothing.
 use Rattle.std.proofs.Common.{length}
 use Rattle.rows_spec.specs.Rows.{tables}
 use Rattle.totals_spec.proofs.Taking.{Taking}
