@@ -5,10 +5,19 @@ ghost use Rattle.rows_spec.specs.Rows.{row, compared};
 
 use std::cmp::Ordering;
 
-// How two identifiers stand to each other, byte by byte.
+// Most identifiers of different owners differ within so many bytes.
+const FIRST_BYTES: usize = 4;
+
+// How two identifiers stand to each other, byte by byte. The comparison of slices looks at eight bytes at once, which costs more where the first
+// ones decide, and much less where they are the same.
 pub fn compare_ids(a: &[u8], b: &[u8]) -> Ordering
     ensures { result ≡ order a.now b.now }
 {
+    for k in 0..FIRST_BYTES.min(a.len()).min(b.len()) {
+        if a[k] != b[k] {
+            return a[k].cmp(&b[k]);
+        }
+    }
     a.cmp(b)
 }
 
